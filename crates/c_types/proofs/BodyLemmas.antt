@@ -73,10 +73,10 @@ member_layouts k (m ∷ ms) = ap (λ t. layout_or k (plain m.ty) ∷ t) (member_
 
 pub placed_is :
     (k : Known) (b : Body) → IsPlaced k b →
-    (placed b.is_union (map (member_layout k) (pairs b.members.items))).members ≡ map (λ (m : Member). (m.offset, layout_or k (plain m.ty))) b.members.items
+    (placed b.is_union (map (member_layout k) (pairs b.members))).members ≡ map (λ (m : Member). (m.offset, layout_or k (plain m.ty))) b.members
 placed_is k b h =
-    both_parts (λ (m : Member). m.offset) (λ (m : Member). layout_or k (plain m.ty)) b.members.items _ h.offsets
-    (placed_layouts b.is_union (map (member_layout k) (pairs b.members.items)) ∙ member_layouts k b.members.items)
+    both_parts (λ (m : Member). m.offset) (λ (m : Member). layout_or k (plain m.ty)) b.members _ h.offsets
+    (placed_layouts b.is_union (map (member_layout k) (pairs b.members)) ∙ member_layouts k b.members)
 
 abbrev pub EndsBy : ℕ → ℕ × Layout → Type 0
 EndsBy end q = q.0 + q.1.size ≤ end
@@ -97,9 +97,9 @@ insides u p (l ∷ ls) a =
     insides u (place u p l) ls
     (all_pushed (EndsBy end) p.members (offset_after u p l, l) (all_end p.members p.end end (omega arith) a) (omega arith))
 
-end_inside : (k : Known) (b : Body) → IsPlaced k b → (placed b.is_union (map (member_layout k) (pairs b.members.items))).end ≤ b.size
+end_inside : (k : Known) (b : Body) → IsPlaced k b → (placed b.is_union (map (member_layout k) (pairs b.members))).end ≤ b.size
 end_inside k b h =
-    let all = placed b.is_union (map (member_layout k) (pairs b.members.items)) in
+    let all = placed b.is_union (map (member_layout k) (pairs b.members)) in
     let rounded : all.end ≤ next_multiple_of all.end all.align = rounded_le all.end all.align in
     let size = h.size in
     omega arith
@@ -111,13 +111,13 @@ mapped_all : (P : ℕ × Layout → Type 0) (f : Member → ℕ × Layout) (ms :
 mapped_all P f [] a = tt
 mapped_all P f (m ∷ ms) a = (a.0, mapped_all P f ms a.1)
 
-pub members_inside : (k : Known) (b : Body) → IsPlaced k b → AllByRecursion (Fits k b.size) b.members.items
+pub members_inside : (k : Known) (b : Body) → IsPlaced k b → AllByRecursion (Fits k b.size) b.members
 members_inside k b h =
-    let ls = map (member_layout k) (pairs b.members.items) in
+    let ls = map (member_layout k) (pairs b.members) in
     let all = placed b.is_union ls in
     let ends : AllByRecursion (EndsBy all.end) all.members = insides b.is_union none_placed ls tt in
     let inside : AllByRecursion (EndsBy b.size) all.members = all_end all.members all.end b.size (end_inside k b h) ends in
-    mapped_all (EndsBy b.size) (λ (m : Member). (m.offset, layout_or k (plain m.ty))) b.members.items
+    mapped_all (EndsBy b.size) (λ (m : Member). (m.offset, layout_or k (plain m.ty))) b.members
     (subst (λ (ps : List (ℕ × Layout)). AllByRecursion (EndsBy b.size) ps) (placed_is k b h) inside)
 
 -- the slots of a struct
@@ -132,13 +132,13 @@ union_part : (u : Bool) (all : Placed) (size : ℕ) → u ≡ true →
 union_part u all size e = rw e refl
 
 pub struct_slots :
-    (k : Known) (b : Body) → IsPlaced k b → b.is_union ≡ false → (tag_layout k (completed_tag b)).slots ≡ flat_map (member_part k) b.members.items
+    (k : Known) (b : Body) → IsPlaced k b → b.is_union ≡ false → (tag_layout k (completed_tag b)).slots ≡ flat_map (member_part k) b.members
 struct_slots k b h u =
-    let all = placed b.is_union (map (member_layout k) (pairs b.members.items)) in
+    let all = placed b.is_union (map (member_layout k) (pairs b.members)) in
     let size = next_multiple_of all.end all.align in
     struct_part b.is_union all size u
     ∙ (ap (λ ps. flat_map (λ (m : ℕ × Layout). moved m.0 m.1.slots) ps) (placed_is k b h)
-    ∙ flat_map-map (λ (m : ℕ × Layout). moved m.0 m.1.slots) (λ (m : Member). (m.offset, layout_or k (plain m.ty))) b.members.items)
+    ∙ flat_map-map (λ (m : ℕ × Layout). moved m.0 m.1.slots) (λ (m : Member). (m.offset, layout_or k (plain m.ty))) b.members)
 
 pub more_members :
     (k : Known) (ms : List Member) (i : ℕ) (m : Member) (offset : ℕ) (old items all : List ℕ) → i < length ms → m ≡ get_or ms i m →
@@ -210,10 +210,10 @@ same_slot ls largest i o h at a =
 
 pub union_slots :
     (k : Known) (b : Body) (i : ℕ) (m : Member) → AllSound k → IsPlaced k b → b.is_union ≡ true → KeepsRule k b →
-    i < length b.members.items → m ≡ get_or b.members.items i m → IsLargest k b.members.items m →
+    i < length b.members → m ≡ get_or b.members i m → IsLargest k b.members m →
     (tag_layout k (completed_tag b)).slots ≡ (layout_or k (plain m.ty)).slots
 union_slots k b i m sound h u rule within at largest =
-    let ms = b.members.items in
+    let ms = b.members in
     let ls = map (member_layout k) (pairs ms) in
     let all = placed b.is_union ls in
     let size = next_multiple_of all.end all.align in
@@ -264,17 +264,17 @@ pub record LargestCase (table : TagTable) (first offset : ℕ) (b : Body) (m : M
 pub largest_case :
     (table : TagTable) (first offset i : ℕ) (b : Body) (m : Member) → slice_get table.completed first ≡ Some (completed_tag b) →
     IsPlaced (first_known table first) b → KeepsRule (first_known table first) b → offset + b.size ≤ 268435456 → b.is_union ≡ true →
-    m ≡ get_or b.members.items i m → IsSomeAnd (slice_get b.members.items i) (IsLargest (known table.completed) b.members.items) →
+    m ≡ get_or b.members i m → IsSomeAnd (slice_get b.members i) (IsLargest (known table.completed) b.members) →
     LargestCase table first offset b m
 largest_case table first offset i b m stands h rule room u at some =
     let k = first_known table first in
-    let r = some_and (IsLargest (known table.completed) b.members.items) b.members.items i m at some in
-    let sized : IsSized k (plain m.ty) = all_at (λ (x : Member). IsSized k (plain x.ty)) b.members.items i m h.sized r.0 at in
-    let inside : Fits k b.size m = all_at (Fits k b.size) b.members.items i m (members_inside k b h) r.0 at in
+    let r = some_and (IsLargest (known table.completed) b.members) b.members i m at some in
+    let sized : IsSized k (plain m.ty) = all_at (λ (x : Member). IsSized k (plain x.ty)) b.members i m h.sized r.0 at in
+    let inside : Fits k b.size m = all_at (Fits k b.size) b.members i m (members_inside k b h) r.0 at in
     record {
       sized = sized;
       room = omega arith;
-      slots = union_slots k b i m (known_sound (take first table.completed)) h u rule r.0 at (largest_in_first table first b.members.items m h.sized sized r.1);
+      slots = union_slots k b i m (known_sound (take first table.completed)) h u rule r.0 at (largest_in_first table first b.members m h.sized sized r.1);
     }
 
 -- what is known of a member
@@ -284,12 +284,12 @@ pub record MemberCase (table : TagTable) (first offset : ℕ) (m : Member) : Typ
 
 pub member_case :
     (table : TagTable) (first offset i : ℕ) (b : Body) (m : Member) → slice_get table.completed first ≡ Some (completed_tag b) →
-    IsPlaced (first_known table first) b → offset + b.size ≤ 268435456 → i < length b.members.items → m ≡ get_or b.members.items i m →
+    IsPlaced (first_known table first) b → offset + b.size ≤ 268435456 → i < length b.members → m ≡ get_or b.members i m →
     MemberCase table first offset m
 member_case table first offset i b m stands h room within at =
     let k = first_known table first in
-    let inside : Fits k b.size m = all_at (Fits k b.size) b.members.items i m (members_inside k b h) within at in
+    let inside : Fits k b.size m = all_at (Fits k b.size) b.members i m (members_inside k b h) within at in
     record {
-      sized = all_at (λ (x : Member). IsSized k (plain x.ty)) b.members.items i m h.sized within at;
+      sized = all_at (λ (x : Member). IsSized k (plain x.ty)) b.members i m h.sized within at;
       room = omega arith;
     }

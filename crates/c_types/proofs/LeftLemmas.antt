@@ -129,8 +129,8 @@ front_case k offset work xs m e h all =
 
 -- what is known where members are left in place of their struct or union
 pub record MembersCase (k : Known) (offset : ℕ) (b : Body) : Type 0 where
-  pub listable : AllByRecursion (λ (m : Member). EndsInTime k (offset + m.offset) (plain m.ty)) b.members.items
-  pub slots : (slots : List ℕ) → slots ++ flat_map (member_slots_at k offset) b.members.items ≡ slots ++ moved offset (tag_layout k (completed_tag b)).slots
+  pub listable : AllByRecursion (λ (m : Member). EndsInTime k (offset + m.offset) (plain m.ty)) b.members
+  pub slots : (slots : List ℕ) → slots ++ flat_map (member_slots_at k offset) b.members ≡ slots ++ moved offset (tag_layout k (completed_tag b)).slots
 
 ends_in_time : (k : Known) (offset size : ℕ) (ms : List Member) → offset + size ≤ 268435456 → AllByRecursion (λ (m : Member). IsSized k (plain m.ty)) ms →
     AllByRecursion (Fits k size) ms → AllByRecursion (λ (m : Member). EndsInTime k (offset + m.offset) (plain m.ty)) ms
@@ -145,20 +145,20 @@ members_moved k offset (m ∷ ms) =
     ∙ (ap (λ l. l ++ moved offset (flat_map (member_part k) ms)) (sym (moved_both offset m.offset (layout_or k (plain m.ty)).slots))
     ∙ sym (map-append (λ s. offset + s) (member_part k m) (flat_map (member_part k) ms)))
 
-no_members : (k : Known) (b : Body) (u : Bool) → b.is_union ≡ u → b.members.items ≡ [] → (tag_layout k (completed_tag b)).slots ≡ []
+no_members : (k : Known) (b : Body) (u : Bool) → b.is_union ≡ u → b.members ≡ [] → (tag_layout k (completed_tag b)).slots ≡ []
 no_members k b true u e = rw (u, e) refl
 no_members k b false u e = rw (u, e) refl
 
-body_slots : (k : Known) (b : Body) → IsPlaced k b → (b.is_union ≡ false) ⊎ (b.members.items ≡ []) →
-    flat_map (member_part k) b.members.items ≡ (tag_layout k (completed_tag b)).slots
+body_slots : (k : Known) (b : Body) → IsPlaced k b → (b.is_union ≡ false) ⊎ (b.members ≡ []) →
+    flat_map (member_part k) b.members ≡ (tag_layout k (completed_tag b)).slots
 body_slots k b h (inl u) = sym (struct_slots k b h u)
 body_slots k b h (inr e) = rw (no_members k b b.is_union refl e, e) refl
 
 pub members_case : (k : Known) (offset : ℕ) (b : Body) → IsPlaced k b → offset + b.size ≤ 268435456 →
-    (b.is_union ≡ false) ⊎ (b.members.items ≡ []) → MembersCase k offset b
+    (b.is_union ≡ false) ⊎ (b.members ≡ []) → MembersCase k offset b
 members_case k offset b h room why = record {
-  listable = ends_in_time k offset b.size b.members.items room h.sized (members_inside k b h);
-  slots = λ slots. ap (λ l. slots ++ l) (members_moved k offset b.members.items ∙ ap (moved offset) (body_slots k b h why));
+  listable = ends_in_time k offset b.size b.members room h.sized (members_inside k b h);
+  slots = λ slots. ap (λ l. slots ++ l) (members_moved k offset b.members ∙ ap (moved offset) (body_slots k b h why));
 }
 
 -- no member comes to more parts than all
@@ -183,18 +183,18 @@ pub record LargestLeft (table : TagTable) (first offset : ℕ) (b : Body) (m : M
   pub work : type_work (tag_work table.completed first) (plain m.ty) ≤ members_work (tag_work table.completed first) (completed_tag b).members
 
 pub largest_left :
-    (table : TagTable) (first offset i : ℕ) (b : Body) (items : List Member) (m : Member) → items ≡ b.members.items → slice_get table.completed first ≡ Some (completed_tag b) →
+    (table : TagTable) (first offset i : ℕ) (b : Body) (items : List Member) (m : Member) → items ≡ b.members → slice_get table.completed first ≡ Some (completed_tag b) →
     IsPlaced (first_known table first) b → KeepsRule (first_known table first) b → offset + b.size ≤ 268435456 → b.is_union ≡ true →
     m ≡ get_or items i m → IsSomeAnd (slice_get items i) (IsLargest (known table.completed) items) → LargestLeft table first offset b m
 largest_left table first offset i b items m e stands h rule room u at some =
-    let at_all : m ≡ get_or b.members.items i m = rw e at at in
-    let some_all : IsSomeAnd (slice_get b.members.items i) (IsLargest (known table.completed) b.members.items) = rw e at some in
+    let at_all : m ≡ get_or b.members i m = rw e at at in
+    let some_all : IsSomeAnd (slice_get b.members i) (IsLargest (known table.completed) b.members) = rw e at some in
     let a = largest_case table first offset i b m stands h rule room u at_all some_all in
     record {
       ends = (a.sized, a.room);
       slots = λ slots. ap (λ l. slots ++ moved offset l) (sym a.slots);
-      work = member_work (tag_work table.completed first) b.members.items i m
-          (some_within (IsLargest (known table.completed) b.members.items) b.members.items i some_all) at_all;
+      work = member_work (tag_work table.completed first) b.members i m
+          (some_within (IsLargest (known table.completed) b.members) b.members i some_all) at_all;
     }
 
 -- what is known of the next part, and of those that are left after it

@@ -167,28 +167,28 @@ fronts_of k largest all [] e a = tt
 fronts_of k largest all (m ∷ ms) e a =
     (a.0 ∙ ap (λ l. front (layout_or k (plain m.ty)).size l) e, fronts_of k largest all ms e a.1)
 
-pub member_room : (k : Known) (b : Body) (i : ℕ) (m : Member) → IsPlaced k b → i < length b.members.items → m ≡ get_or b.members.items i m → (layout_or k (plain m.ty)).size ≤ 268435456
+pub member_room : (k : Known) (b : Body) (i : ℕ) (m : Member) → IsPlaced k b → i < length b.members → m ≡ get_or b.members i m → (layout_or k (plain m.ty)).size ≤ 268435456
 member_room k b i m h within at =
-    let inside : Fits k b.size m = all_at (Fits k b.size) b.members.items i m (members_inside k b h) within at in
+    let inside : Fits k b.size m = all_at (Fits k b.size) b.members i m (members_inside k b h) within at in
     let limit = h.limit in
     omega arith
 
 pub follows_if_fronts :
-    (k : Known) (b : Body) (i : ℕ) (m : Member) (all : List ℕ) → AllSound k → IsPlaced k b → i < length b.members.items → m ≡ get_or b.members.items i m →
-    all ≡ (layout_or k (plain m.ty)).slots → AllByRecursion (IsFrontMember k all) b.members.items →
+    (k : Known) (b : Body) (i : ℕ) (m : Member) (all : List ℕ) → AllSound k → IsPlaced k b → i < length b.members → m ≡ get_or b.members i m →
+    all ≡ (layout_or k (plain m.ty)).slots → AllByRecursion (IsFrontMember k all) b.members →
     keeps_union_rule (map (member_layout k) (completed_tag b).members) ≡ true
 follows_if_fronts k b i m all sound h within at is fronts =
-    ap keeps_union_rule (member_layouts k b.members.items)
-    ∙ rule_from_fronts (layout_or k (plain m.ty)) (layouts_of k b.members.items) (member_sound k sound (m.name, plain m.ty))
-    (fronts_of k (layout_or k (plain m.ty)) all b.members.items is fronts)
+    ap keeps_union_rule (member_layouts k b.members)
+    ∙ rule_from_fronts (layout_or k (plain m.ty)) (layouts_of k b.members) (member_sound k sound (m.name, plain m.ty))
+    (fronts_of k (layout_or k (plain m.ty)) all b.members is fronts)
 
 pub fails_if_no_front :
-    (k : Known) (b : Body) (i j : ℕ) (largest m : Member) (all : List ℕ) → AllSound k → IsPlaced k b → i < length b.members.items →
-    largest ≡ get_or b.members.items i largest → IsLargest k b.members.items largest → all ≡ (layout_or k (plain largest.ty)).slots →
-    j < length b.members.items → m ≡ get_or b.members.items j m → (IsFrontMember k all m → ⊥) →
+    (k : Known) (b : Body) (i j : ℕ) (largest m : Member) (all : List ℕ) → AllSound k → IsPlaced k b → i < length b.members →
+    largest ≡ get_or b.members i largest → IsLargest k b.members largest → all ≡ (layout_or k (plain largest.ty)).slots →
+    j < length b.members → m ≡ get_or b.members j m → (IsFrontMember k all m → ⊥) →
     keeps_union_rule (map (member_layout k) (completed_tag b).members) ≡ false
 fails_if_no_front k b i j largest m all sound h within at most is here at_m none =
-    let ms = b.members.items in
+    let ms = b.members in
     let ls = layouts_of k ms in
     let len : length ls ≡ length ms = layouts_len k ms in
     let less : (layout_or k (plain m.ty)).size ≤ (layout_or k (plain largest.ty)).size =

@@ -11,7 +11,7 @@ use Rattle.c_types.specs.Layouts.{Known, IsAlignment, ArraysFit, layout_of, plac
 use Rattle.c_types.specs.TagTable.{CompletedTag, TagTable, member_layout, tag_layout, learn, known}
 
 abbrev pub completed_tag : Body → CompletedTag
-completed_tag b = record { tag = b.tag; is_union = b.is_union; members = map (λ m. (m.name, plain m.ty)) b.members.items }
+completed_tag b = record { tag = b.tag; is_union = b.is_union; members = map (λ m. (m.name, plain m.ty)) b.members }
 
 abbrev pub table_of : Inside → TagTable
 table_of t = record { made = map (λ (m : Made). m.info) t.made.items; completed = map completed_tag t.bodies.items }
@@ -22,8 +22,8 @@ IsSized known type = IsSome (layout_of known type) × ArraysFit known type
 
 -- the numbers of a body are those of its layout
 pub record IsPlaced (known : Known) (b : Body) : Type 0 where
-  pub sized : AllByRecursion (λ (m : Member). IsSized known (plain m.ty)) b.members.items
-  pub offsets : map (λ (m : Member). m.offset) b.members.items
+  pub sized : AllByRecursion (λ (m : Member). IsSized known (plain m.ty)) b.members
+  pub offsets : map (λ (m : Member). m.offset) b.members
       ≡ map (λ p. p.0) (placed b.is_union (map (member_layout known) (completed_tag b).members)).members
   pub size : b.size ≡ (tag_layout known (completed_tag b)).size
   pub align : b.align ≡ (tag_layout known (completed_tag b)).align

@@ -1,11 +1,12 @@
 //! Members, and where they stand in their struct or union.
 
-ghost use Rattle.std.specs.Prelude.{◌≡◌, ◌≢◌, ◌∷◌, ◌++◌, [], map, option_map, All, IfOk, IfErr, OnOk};
+ghost use Rattle.std.specs.Prelude.{◌≡◌, ◌≢◌, ◌∷◌, ◌++◌, [], map, find, bytes_eq, option_map, option_and_then, All, IfOk, IfErr, OnOk};
 ghost use Rattle.c_types.specs.Types.{plain};
-ghost use Rattle.c_types.specs.TagTable.{known, members_in, plain_member, tag_layout, new_tag, IsSizedIn, IsTooLarge};
+ghost use Rattle.c_types.specs.TagTable.{PlainMember, known, members_in, plain_member, tag_layout, new_tag, IsSizedIn, IsTooLarge};
 ghost use Rattle.c_types.specs.Bodies.{IsPlaced, completed_tag};
 
 use crate::layouts::MAX_SIZE;
+use crate::member_list::MemberList;
 use crate::sizes::{align_of, size_of};
 use crate::tags::{TagError, Tags};
 use crate::types::{CType, TagId};
@@ -25,7 +26,7 @@ pub struct Member {
 pub(crate) struct Body {
     pub(crate) tag: TagId,
     pub(crate) is_union: bool,
-    pub(crate) members: Vec<Member>,
+    pub(crate) members: MemberList,
     pub(crate) size: u32,
     pub(crate) align: u32,
 }
@@ -36,6 +37,17 @@ pub fn members(tags: &Tags, tag: TagId) -> Option<&[Member]>
 {
     match tags.body(tag) {
         Some((_, body)) => Some(body.members.as_slice()),
+        None => None,
+    }
+}
+
+/// The member of that name of a completed tag, or `None` where it has none or is incomplete.
+pub fn member_named<'a>(tags: &'a Tags, tag: TagId, name: &[u8]) -> Option<&'a Member>
+    ensures { option_map (λ m. plain_member m.now) result ≡
+        option_and_then (find (λ (m : PlainMember). bytes_eq name.now m.name)) (members_in tags.now tag) }
+{
+    match tags.body(tag) {
+        Some((_, body)) => body.members.find(name),
         None => None,
     }
 }
@@ -114,7 +126,7 @@ pub(crate) fn place_members(
     Ok(Body {
         tag,
         is_union,
-        members,
+        members: MemberList::new(alloc, members)?,
         size: end.next_multiple_of(align),
         align,
     })

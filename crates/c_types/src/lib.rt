@@ -9,23 +9,24 @@
 //! - [`Tags::complete`] refuses a union in which a slot of one member is other bytes of another one, and a struct of
 //!   more than [`MAX_SIZE`] bytes. After a refusal the tags are as before.
 //! - [`size_of`], [`align_of`] and [`members`] answer `None` for what is incomplete. They take no memory, and time in the
-//!   depth of a type.
+//!   depth of a type. [`member_named`] finds a member by its name, in a time that does not grow with the members.
 //! - [`layout`] lists the slots, ascending: it takes memory for each of them. Completing a struct lists none; completing a
 //!   union lists those of two members at a time.
 //!
-//! Contracts see a type as a `PlainType` (`specs/Types.antt`), since the boxes inside a `CType` have addresses.
+//! Contracts see a type as a `PlainType` (`specs/Types.antt`), since the shared references inside a `CType` have addresses.
 #![tactic(auto)]
 
 mod bodies;
 mod layouts;
 mod listing;
+mod member_list;
 mod sizes;
 mod slots;
 mod tags;
 mod types;
 mod unions;
 
-pub use bodies::{Member, members};
+pub use bodies::{Member, member_named, members};
 pub use layouts::{Layout, MAX_SIZE};
 pub use sizes::{align_of, size_of};
 pub use slots::layout;

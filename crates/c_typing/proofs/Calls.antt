@@ -1,4 +1,4 @@
--- Calls, and the members of structs.
+-- Calls.
 use Rattle.std.proofs.Common.{◌≡◌, ℕ, zero, suc, ◌+◌, ◌<◌, ◌≤◌, Bool, true, false, cond, List, [], ◌∷◌, ◌++◌, map, length, take, drop, get_or, Option, Some, None, Ok, Err, refl, sym, ap, ◌∙◌, arith, add-one, append_assoc}
 use Rattle.std.specs.Prelude.{option_map}
 use Rattle.std.specs.Option.{option_or}
@@ -25,17 +25,6 @@ use Rattle.std.proofs.lemmas.List.{length-map}
 use Rattle.c_typing.specs.declared.callees.Basic.{Basic}
 use Rattle.c_typing.specs.declared.callees.Basic.TheVariants as b
 use Rattle.c_typing.specs.Callee.{plain_basic, plain_basics, first_bar}
-
--- what is found among images is the image of what is found
-pub find_image : {A B : Type 0} (test : B → Bool) (image : A → B) (xs : List A) →
-    option_map image (find (λ x. test (image x)) xs) ≡ find test (map image xs)
-find_image test image [] = refl
-find_image test image (x ∷ xs) = by (test (image x)) (find_image test image xs)
-  where
-    by : (t : Bool) → option_map image (find (λ x. test (image x)) xs) ≡ find test (map image xs) →
-        option_map image (cond t (Some x) (find (λ x. test (image x)) xs)) ≡ cond t (Some (image x)) (find test (map image xs))
-    by true e = refl
-    by false e = e
 
 -- one parameter more
 pub basics_push : (xs : List CType) (ys : List Basic) (k : ℕ) (x : CType) → k < length ys →

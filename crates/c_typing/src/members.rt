@@ -1,32 +1,15 @@
 //! The members of structs and unions (C99 6.5.2.3).
 
-ghost use Rattle.std.specs.Prelude.{◌≡◌, option_map, option_copied, bytes_eq, map};
-ghost use Rattle.std.specs.List.{find};
 ghost use Rattle.c_types.specs.Types.{plain};
-ghost use Rattle.c_types.specs.TagTable.{PlainMember, plain_member, members_in};
+ghost use Rattle.c_types.specs.TagTable.{members_in};
 ghost use Rattle.c_decls.specs.Refusals.{Meets};
 ghost use Rattle.c_decls.specs.Typed.{plain_typed, operand};
 ghost use Rattle.c_decls.specs.PlaceRules as rules;
 
 use c_decls::{Operand, TypeError, TypeKind, Typed, operand_of, refused};
-use c_types::{CType, Member, TagId, Tags, members};
+use c_types::{CType, TagId, Tags, member_named, members};
 use hs_base::Line;
 use std::alloc::Global;
-
-/// The first member of that name.
-fn first_named<'a>(list: &'a [Member], name: &[u8]) -> Option<&'a Member>
-    ensures { option_copied result ≡ find (λ (m : Member). bytes_eq name.now m.name) list.now }
-{
-    list.iter().find(|m| name == m.name.as_slice())
-}
-
-/// The member of that name.
-fn named<'a>(list: &'a [Member], name: &[u8]) -> Option<&'a Member>
-    ensures { option_map (λ m. plain_member m.now) result ≡
-        find (λ (m : PlainMember). bytes_eq name.now m.name) (map plain_member list.now) }
-{
-    first_named(list, name)
-}
 
 /// The member of that name of a struct or union, as a place.
 fn member_among(
@@ -38,10 +21,10 @@ fn member_among(
 ) -> Result<Typed, TypeError>
     ensures { Meets plain_typed result (rules.member_among line name.now (members_in tags.now tag)) }
 {
-    let Some(list) = members(tags, tag) else {
+    if members(tags, tag).is_none() {
         return refused(TypeKind::Incomplete, line);
-    };
-    match named(list, name) {
+    }
+    match member_named(tags, tag, name) {
         Some(member) => Ok(Typed::place(member.ty)),
         None => refused(TypeKind::NoMember, line),
     }

@@ -1,9 +1,8 @@
 //! Operators on pointers, and on operands of any types (C99 6.5.2.3, 6.5.6, 6.5.8, 6.5.9, 6.5.16.2).
 
-ghost use Rattle.std.specs.Prelude.{◌≡◌, IfOk, bytes_eq, map, option_map};
-ghost use Rattle.std.specs.List.{find};
+ghost use Rattle.std.specs.Prelude.{◌≡◌, IfOk};
 ghost use Rattle.c_types.specs.Types.{plain};
-ghost use Rattle.c_types.specs.TagTable.{PlainMember, plain_member, members_in};
+ghost use Rattle.c_types.specs.TagTable.{members_in};
 ghost use Rattle.c_decls.specs.Typed.{operand, plain_operand};
 ghost use Rattle.elab_base.specs.Marks.{cut};
 ghost use Rattle.elaboration.specs.Operations.{move_pointer, between_pointers, pointer_beside, beside_integer, combine, change, changed_to, offset_of, offset_among, member_address, working};
@@ -13,7 +12,7 @@ use crate::integers::on_integers;
 use crate::working::{Working, works};
 use c_decls::{Operand, operand_of, result_type};
 use c_tree::BinaryOp;
-use c_types::{CType, Member, Tags, members};
+use c_types::{CType, Tags, member_named};
 use core_tree::{Atom, StmKind};
 use elab_base::{Elaborator, Mark};
 use hs_base::{Line, NoMemory};
@@ -170,27 +169,12 @@ pub fn changed_to(
     }
 }
 
-/// The member of that name.
-fn named<'a>(list: &'a [Member], name: &[u8]) -> Option<&'a Member>
-    ensures { option_map (λ m. plain_member m.now) result ≡ find (λ (m : PlainMember). bytes_eq name.now m.name) (map plain_member list.now) }
-{
-    for member in list {
-        if name == member.name.as_slice() {
-            return Some(member);
-        }
-    }
-    None
-}
-
 /// The offset of a member among those of a tag, or 0.
 fn offset_among(tags: &Tags, tag: u32, name: &[u8]) -> u32
     ensures { result ≡ offset_among name.now (members_in tags.now tag) }
 {
-    match members(tags, tag) {
-        Some(list) => match named(list, name) {
-            Some(member) => member.offset,
-            None => 0,
-        },
+    match member_named(tags, tag, name) {
+        Some(member) => member.offset,
         None => 0,
     }
 }

@@ -8,9 +8,9 @@ use Rattle.c_types.proofs.bodies.members.Goals as goal
 pub returns-in-Some : goal.returns-in-Some
 returns-in-Some c =
     let h = c.in-Some.ensures.some in
-    let all : map plain_member c.in-Some.body.now.members.items ≡ placed_members (known c.args.tags.now.completed) (completed_tag c.in-Some.body.now) =
+    let all : map plain_member c.in-Some.body.now.members ≡ placed_members (known c.args.tags.now.completed) (completed_tag c.in-Some.body.now) =
     body_members _ _ (λ tag l. known_after_first (λ tag. None) c.args.tags.now.completed _ tag l) c.in-Some.body.now h.placed in
-    rw (h.first, c.as_slice.ensures.value) (ap Some all)
+    rw (h.first, c.as_slice.ensures) (ap Some all)
 
 pub returns-in-None : goal.returns-in-None
 returns-in-None c = rw (not_found (λ tag. None) c.args.tags.now.completed c.args.tag c.in-None.ensures.none) refl

@@ -15,8 +15,8 @@ use Rattle.c_types.proofs.unions.follows_union_rule.Goals as goal
 pub slots_of-requires-clause-room : goal.slots_of-requires-clause-room
 slots_of-requires-clause-room c =
     let k = known c.args.tags.now.completed in
-    let value = c.as_slice-members.ensures.value in
-    let ms = c.args.body.now.members.items in
+    let value = c.as_slice-members.ensures in
+    let ms = c.args.body.now.members in
     let within : c.largest_member-largest.result < length ms =
     some_within (IsLargest k ms) ms c.largest_member-largest.result (rw value at c.largest_member-largest.ensures) in
     let at : c.index-members-largest.result ≡ get_or ms c.largest_member-largest.result c.index-members-largest.result = rw value at c.index-members-largest.is in
@@ -25,14 +25,14 @@ slots_of-requires-clause-room c =
 
 pub slots_of-requires-in-loop-member-clause-room : goal.slots_of-requires-in-loop-member-clause-room
 slots_of-requires-in-loop-member-clause-room c =
-    let value = c.as_slice-members.ensures.value in
+    let value = c.as_slice-members.ensures in
     member_room (known c.args.tags.now.completed) c.args.body.now c.loop-member.member-index c.member-item.result c.requires (rw value at c.loop-member-test.true) (rw value at c.member-item.is)
 
 pub returns-then-not-is_front_below : goal.returns-then-not-is_front_below
 returns-then-not-is_front_below c =
     let k = known c.args.tags.now.completed in
-    let value = c.as_slice-members.ensures.value in
-    let ms = c.args.body.now.members.items in
+    let value = c.as_slice-members.ensures in
+    let ms = c.args.body.now.members in
     let some : IsSomeAnd (slice_get ms c.largest_member-largest.result) (IsLargest k ms) = rw value at c.largest_member-largest.ensures in
     let at : c.index-members-largest.result ≡ get_or ms c.largest_member-largest.result c.index-members-largest.result = rw value at c.index-members-largest.is in
     let r = some_and (IsLargest k ms) ms c.largest_member-largest.result c.index-members-largest.result at some in
@@ -61,8 +61,8 @@ loop-member-preserved c =
 pub returns : goal.returns
 returns c =
     let k = known c.args.tags.now.completed in
-    let value = c.as_slice-members.ensures.value in
-    let ms = c.args.body.now.members.items in
+    let value = c.as_slice-members.ensures in
+    let ms = c.args.body.now.members in
     let some : IsSomeAnd (slice_get ms c.largest_member-largest.result) (IsLargest k ms) = rw value at c.largest_member-largest.ensures in
     let at : c.index-members-largest.result ≡ get_or ms c.largest_member-largest.result c.index-members-largest.result = rw value at c.index-members-largest.is in
     let r = some_and (IsLargest k ms) ms c.largest_member-largest.result c.index-members-largest.result at some in
