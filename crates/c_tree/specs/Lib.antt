@@ -13,3 +13,4 @@ pub mod Canonical
 pub mod Reread
 pub mod View
 pub mod StatementView
+pub mod Renaming

@@ -1,14 +1,21 @@
-//! Initializers, statements and external declarations (C99 6.7.8, 6.8 and 6.9).
+//! Initializers, statements and external declarations (C99 6.7.8, 6.8 and 6.9). `Drop` of a node is written out, as in
+//! `tree`.
 
 use crate::tree::{Declarator, Expr, Specs};
 use hs_base::{Items, Line};
 
 /// An initializer (C99 6.7.8).
 #[cycle(init)]
-#[derive(Drop)]
 pub struct Init {
     pub line: Line,
     pub kind: InitKind,
+}
+
+impl Drop for Init {
+    #[cycle(init)]
+    fn drop(self) {
+        let Init { line: _, kind: _ } = self;
+    }
 }
 
 /// What an initializer is.
@@ -22,10 +29,16 @@ pub enum InitKind {
 
 /// A statement, or a declaration in a block (C99 6.8).
 #[cycle(stmt)]
-#[derive(Drop)]
 pub struct Stmt {
     pub line: Line,
     pub kind: StmtKind,
+}
+
+impl Drop for Stmt {
+    #[cycle(stmt)]
+    fn drop(self) {
+        let Stmt { line: _, kind: _ } = self;
+    }
 }
 
 /// What a statement is.

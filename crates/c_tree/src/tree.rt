@@ -1,15 +1,24 @@
 //! Syntax trees (C99 6.5 to 6.9). Every node has the line of its first token and its parts in the order of the grammar;
 //! tokens that are parts keep their spelling.
+//!
+//! `Drop` of a node that functions hold by value is written out and not derived: a drop is then a call, and not a switch
+//! over all forms of the node at each place where one may be dropped, which each time would be proved anew.
 
 use crate::operator::{AssignOp, BinaryOp, RecordSort, UnaryOp};
 use hs_base::{Items, Line};
 
 /// An expression (C99 6.5).
 #[cycle(tree)]
-#[derive(Drop)]
 pub struct Expr {
     pub line: Line,
     pub kind: ExprKind,
+}
+
+impl Drop for Expr {
+    #[cycle(tree)]
+    fn drop(self) {
+        let Expr { line: _, kind: _ } = self;
+    }
 }
 
 /// What an expression is. Parentheses are nodes; a comma between expressions is an operator of two operands.
@@ -104,10 +113,16 @@ pub enum Spec {
 
 /// A struct, union or enum by its tag, or with its braces (C99 6.7.2.1 to 6.7.2.3).
 #[cycle(tree)]
-#[derive(Drop)]
 pub struct Tag {
     pub line: Line,
     pub kind: TagKind,
+}
+
+impl Drop for Tag {
+    #[cycle(tree)]
+    fn drop(self) {
+        let Tag { line: _, kind: _ } = self;
+    }
 }
 
 /// What a tag is.
@@ -145,12 +160,21 @@ pub struct Enumerator {
 
 /// A declarator (C99 6.7.5), or one whose name is left out (C99 6.7.6).
 #[cycle(tree)]
-#[derive(Drop)]
 pub enum Declarator {
     /// `*` with so many `const` behind it, before a declarator.
     Pointer(Line, usize, Box<Declarator>),
     /// What suffixes stand behind, and the suffixes from left to right.
     Direct(Base, Vec<Suffix>),
+}
+
+impl Drop for Declarator {
+    #[cycle(tree)]
+    fn drop(self) {
+        match self {
+            Declarator::Pointer(_, _, _) => {}
+            Declarator::Direct(_, _) => {}
+        }
+    }
 }
 
 /// What the suffixes of a declarator stand behind.
