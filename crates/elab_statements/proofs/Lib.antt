@@ -1,5 +1,13 @@
--- Lemmas of the walk over statements.
+-- Lemmas of the walks over declarations and statements.
+pub mod SpecWords
+pub mod Entries
+pub mod Again
 pub mod Cuts
+pub mod Digits
+pub mod Forms
+pub mod InitsInTurn
+pub mod GivenLengths
+pub mod PartsInTurn
 pub mod InTurn
 pub mod Returns
 pub mod Switching

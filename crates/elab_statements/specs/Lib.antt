@@ -1,4 +1,10 @@
 -- What contracts of this crate cite.
+pub mod PlainStorage
+pub mod Alone
+pub mod PlainTarget
+pub mod PlainParts
+pub mod Braces
+pub mod GivenLengths
 pub mod PlainAround
 pub mod Held
 pub mod Switches

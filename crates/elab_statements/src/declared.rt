@@ -10,12 +10,12 @@ ghost use Rattle.elaboration.specs.Externals.{begun, definition, external};
 ghost use Rattle.elab_base.specs.Idle.{idled};
 
 use crate::bodies::defined;
+use crate::names::declaration;
 use c_decls::{TypeError, TypeKind, refused};
 use c_tree::{Decl, Declarator, Init, Specs, Stmt};
 use c_typing::{declared_name, with_layers};
 use elab_addressed::addressed_in;
 use elab_base::Elaborator;
-use elab_declarations::declaration;
 use elab_types::{layers, specs};
 use hs_base::Line;
 

@@ -14,12 +14,12 @@ ghost use Rattle.elab_statements.specs.Switches.{is_block, scoped_list, switch_b
 use crate::around::Around;
 use crate::expressions::{evaluated, leaves_if_zero, maybe_evaluated, maybe_leaves, return_from};
 use crate::jumps::{leave_to, looped};
+use crate::names::declaration;
 use crate::switches::{cased, defaulted, switch_operand, switched};
 use c_decls::{TypeError, TypeKind, refused};
 use c_tree::{Expr, ForStart, Stmt, StmtKind};
 use core_tree::StmKind;
 use elab_base::{Elaborator, Pieces};
-use elab_declarations::declaration;
 use elab_types::constant;
 use hs_base::{Line, NoMemory};
 

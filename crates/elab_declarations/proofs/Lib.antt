@@ -1,9 +1,0 @@
-pub mod SpecWords
-pub mod Entries
-pub mod Again
-pub mod Cuts
-pub mod Digits
-pub mod Forms
-pub mod InTurn
-pub mod GivenLengths
-pub mod PartsInTurn

@@ -1,6 +1,0 @@
-pub mod PlainStorage
-pub mod Alone
-pub mod PlainTarget
-pub mod PlainParts
-pub mod Braces
-pub mod GivenLengths

@@ -1,0 +1,117 @@
+//! Names with their initializers (C99 6.7, 6.9.2).
+
+ghost use Rattle.std.specs.Prelude.{◌≡◌, Some, option_copied};
+ghost use Rattle.c_types.specs.Types.{plain};
+ghost use Rattle.c_tree.specs.View.{declarator_tree};
+ghost use Rattle.c_tree.specs.StatementView.{trees, entry_view, names_view, specs_view};
+ghost use Rattle.c_decls.specs.Refusals.{Meets};
+ghost use Rattle.elaboration.specs.Declarations as rules;
+ghost use Rattle.elab_statements.specs.GivenLengths.{held};
+ghost use Rattle.elab_statements.specs.PlainStorage.{plain_storage};
+
+use crate::files::file_name;
+use crate::lengths::with_init_layers;
+use crate::locals::local_name;
+use crate::words::{Storage, specs_before, storage_of};
+use c_decls::TypeError;
+use c_tree::{Declarator, Init, Specs};
+use c_types::CType;
+use c_typing::declared_name;
+use elab_base::Elaborator;
+use elab_types::layers;
+use hs_base::Line;
+
+/// A name at file scope or inside a function, of a type, with its initializer.
+fn name_in(
+    state: &mut Elaborator,
+    file: bool,
+    line: Line,
+    storage: Storage,
+    name: &[u8],
+    ty: CType,
+    init: Option<&Init>,
+) -> Result<(), TypeError>
+    ensures { Meets (λ _. state.new) result
+        (rules.name_in file line (plain_storage storage) (Some name.now) (plain ty) (held (option_copied init.entry)) state.old) }
+{
+    if file {
+        file_name(state, line, storage, name, ty, init)
+    } else {
+        local_name(state, line, storage, name, ty, init)
+    }
+}
+
+/// A declarator before its initializer: its type, and then its name, which may be left out.
+fn entry(
+    state: &mut Elaborator,
+    file: bool,
+    line: Line,
+    storage: Storage,
+    base: &CType,
+    declarator: &Declarator,
+    init: Option<&Init>,
+) -> Result<(), TypeError>
+    ensures { Meets (λ _. state.new) result
+        (rules.entry file line (plain_storage storage) (plain base.now) (declarator_tree declarator.now) (held (option_copied init.entry)) state.old) }
+{
+    let layers = layers(state, declarator)?;
+    let ty = with_init_layers(state.alloc(), state.tags(), layers, init, *base)?;
+    match declared_name(declarator) {
+        Some(name) => name_in(state, file, line, storage, name.as_slice(), ty, init),
+        None => Ok(()),
+    }
+}
+
+/// A name with its initializer, where it has one.
+fn named_entry(
+    state: &mut Elaborator,
+    file: bool,
+    line: Line,
+    storage: Storage,
+    base: &CType,
+    name: &(Declarator, Option<Init>),
+) -> Result<(), TypeError>
+    ensures { Meets (λ _. state.new) result
+        (rules.entry file line (plain_storage storage) (plain base.now) (declarator_tree name.now.0) (held name.now.1) state.old) }
+{
+    entry(state, file, line, storage, base, &name.0, name.1.as_ref())
+}
+
+/// Names at file scope or inside a function, in turn.
+fn entries(
+    state: &mut Elaborator,
+    file: bool,
+    line: Line,
+    storage: Storage,
+    base: &CType,
+    names: &[(Declarator, Option<Init>)],
+) -> Result<(), TypeError>
+    ensures { Meets (λ _. state.new) result
+        (rules.entries file line (plain_storage storage) (plain base.now) (trees entry_view names.now) state.old) }
+{
+    for name in names {
+        named_entry(state, file, line, storage, base, name)?;
+    }
+    Ok(())
+}
+
+/// A declaration at file scope or inside a function, which stands at a line: its specs, and then its names with their
+/// initializers in turn.
+///
+/// # Errors
+///
+/// The first refusal in the order of the text, or want of memory. A refusal about a declared name has the line of the
+/// declaration.
+#[tactic(auto, unfolding(elaboration::specs::Declarations::declaration))]
+pub(crate) fn declaration(
+    state: &mut Elaborator,
+    file: bool,
+    line: Line,
+    words: &Specs,
+    names: &[(Declarator, Option<Init>)],
+) -> Result<(), TypeError>
+    ensures { Meets (λ _. state.new) result (rules.declaration file line (specs_view words.now) (names_view names.now) state.old) }
+{
+    let base = specs_before(state, words, names)?;
+    entries(state, file, line, storage_of(words), &base, names)
+}
