@@ -1,12 +1,9 @@
 -- What a core and its tags have of a finished walk: nothing of the function that ran last; and that the core is sound.
-use Rattle.std.proofs.Common.{◌≡◌, ◌≤◌, ℕ, List, All, length, Ok, Err, ap}
+use Rattle.std.proofs.Common.{◌≡◌, ℕ, Ok, Err, ap}
 use Rattle.c_types.specs.TagTable.{TagTable}
-use Rattle.c_lexer.specs.declared.token.Token.{Token}
-use Rattle.c_lexer.specs.Tokens.{IsLexed}
 use Rattle.c_tree.specs.Tree.{Trees}
-use Rattle.c_tree.specs.HasTree.{HasTree}
 use Rattle.core_tree.specs.declared.program.Core.{Core}
-use Rattle.core_tree.specs.Sound.{IsShort, IsSound}
+use Rattle.core_tree.specs.Sound.{IsSound}
 use Rattle.c_decls.specs.declared.refusal.TypeKind.{TypeKind}
 use Rattle.c_decls.specs.declared.refusal.TypeError.{TypeError}
 use Rattle.c_decls.specs.declared.refusal.TypeError.TheVariants as e
@@ -14,8 +11,8 @@ use Rattle.c_decls.specs.Refusals.{Checked, Refusal, refused, then, Meets}
 use Rattle.elaboration.specs.Context.{Context}
 use Rattle.elaboration.specs.Resolving.{core_of}
 use Rattle.elaboration.specs.Elaboration.{elaborated, walked}
+use Rattle.core_soundness.specs.Texts.{IsOfTexts}
 use Rattle.elab_base.specs.Idle.{idle, idled}
-use Rattle.c_elab.specs.Core.{IsOfTokens}
 
 abbrev core_behind : Checked Context → Checked Core
 core_behind answer = then {A = Core × TagTable} (then answer (λ c. Ok (core_of c, c.tags))) (λ both. Ok both.0)
@@ -59,7 +56,7 @@ tags_err answer e.NoMemory failed = tt
 
 -- the law that the core of a text is sound
 abbrev CoresAreSound : Type 0
-CoresAreSound = (tokens : List Token) (unit : Trees) (core : Core) (tags : TagTable) → All IsLexed tokens → length tokens ≤ 268435456 → All (λ (token : Token). IsShort token.bytes) tokens → HasTree tokens unit → elaborated unit ≡ Ok (core, tags) → IsSound core
+CoresAreSound = (unit : Trees) (core : Core) (tags : TagTable) → IsOfTexts unit → elaborated unit ≡ Ok (core, tags) → IsSound core
 
 with_tags : (answer : Checked (Core × TagTable)) (core : Core) → then answer (λ both. Ok both.0) ≡ Ok core → (tags : TagTable) × (answer ≡ Ok (core, tags))
 with_tags (Ok both) core h =
@@ -67,7 +64,7 @@ with_tags (Ok both) core h =
     (both.1, ap (λ (c : Core). Ok (c, both.1)) same)
 with_tags (Err refusal) core h = absurd (cc)
 
-pub core_sound : (unit : Trees) (s : Context) (core : Core) → CoresAreSound → idled (walked unit) ≡ Ok (idle s) → core ≡ core_of s → IsOfTokens unit → IsSound core
+pub core_sound : (unit : Trees) (s : Context) (core : Core) → CoresAreSound → idled (walked unit) ≡ Ok (idle s) → core ≡ core_of s → IsOfTexts unit → IsSound core
 core_sound unit s core law h is of =
     let b = with_tags (elaborated unit) core (core_ok (walked unit) s core h is) in
-    law of.0 unit core b.0 of.1.lexed of.1.few of.1.short of.1.tree b.1
+    law unit core b.0 of b.1

@@ -15,7 +15,8 @@ ghost use Rattle.c_tree.specs.StatementView.{unit_view};
 ghost use Rattle.c_decls.specs.Refusals.{Meets};
 ghost use Rattle.elaboration.specs.Elaboration.{tags_of};
 ghost use Rattle.core_tree.specs.Sound.{IsSound};
-ghost use Rattle.c_elab.specs.Core.{IsOfTokens, core_in};
+ghost use Rattle.core_soundness.specs.Texts.{IsOfTexts};
+ghost use Rattle.c_elab.specs.Core.{core_in};
 
 use c_decls::TypeError;
 use c_tree::Unit;
@@ -26,7 +27,7 @@ use elab_core::core_of;
 use elab_statements::walked;
 use std::alloc::Global;
 
-/// The core of a text (C99 6.5 to 6.9). It is sound, as the runners of cores want it.
+/// The core of a text, or of texts whose trees were made one (C99 6.5 to 6.9). It is sound, as the runners of cores want it.
 ///
 /// # Errors
 ///
@@ -35,7 +36,7 @@ use std::alloc::Global;
 #[tactic(auto, using(crate::proofs::Finished::core_ok, crate::proofs::Finished::core_err))]
 pub fn elab(alloc: Global, unit: &Unit) -> Result<Core, TypeError>
     ensures core { Meets (λ core. core) result (core_in (unit_view unit.now)) }
-    ensures sound { IfOk result (λ core. IsOfTokens (unit_view unit.now) → IsSound core) }
+    ensures sound { IfOk result (λ core. IsOfTexts (unit_view unit.now) → IsSound core) }
 {
     cores_are_sound();
     let (core, _) = core_of(walked(alloc, unit)?)?;

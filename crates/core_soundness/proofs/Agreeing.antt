@@ -32,7 +32,7 @@ use Rattle.c_decls.specs.declared.refusal.TypeKind.TheVariants.{NotLvalue, Opera
 use Rattle.elaboration.specs.Assignments.{record_assigned, set_to, scalar_assigned, old_value, change_place, changed_answer, changed_by, one_found, stepped}
 use Rattle.elaboration.specs.Calls.{Argument, types_of, first_type, rest_types, argument_from, call_named}
 use Rattle.elaboration.specs.Context.{Code, Context, With, asked, told, emit, here, new_label}
-use Rattle.elaboration.specs.Conversions.{Found, Value, Empty, Unknown, found_as, atom_in, read_spot, read_value, code_line, valued_from, valued, convert, forget, Nowhere, tested_value, size_or_zero, unused, wanted_from, valued_as}
+use Rattle.elaboration.specs.Conversions.{Found, Value, Empty, Unknown, found_as, atom_in, read_spot, read_value, code_line, valued_from, valued, convert, tested_value, size_or_zero, unused, wanted_from, valued_as}
 use Rattle.elaboration.specs.Expressions.{name_answer, literal_answer, unevaluated, address_answer, changing, cast_operand, comma_answer, callee_name, callee, parameters, format_argument, is_printf, call_answer, found, arguments}
 use Rattle.elaboration.specs.Operations.{combined, fixed_sum, offset_of, operator_of, changed_to}
 use Rattle.elaboration.specs.Rules.{constant_found, object_found, built_in_found, name_found, is_inner, with_literal, literal_found, at_address, with_value, indexed, member_of, dotted, target_of, pointed, apply, applied, before_number, left_operand, tells_equal, is_pointer_ahead, ahead, between, cast_fixed, cast_to, and_ends, and_ended, or_ends, or_ended, choose_first, choose_last, choice_found, chosen, and_then, or_else, choose, type_ahead}

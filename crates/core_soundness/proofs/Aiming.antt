@@ -11,8 +11,6 @@ use Rattle.c_types.specs.declared.layouts.Layout.{Layout}
 use Rattle.c_types.specs.declared.types.IntType.{IntType}
 use Rattle.core_tree.specs.declared.program.Start.{Start}
 use Rattle.core_tree.specs.declared.statements.Atom.{Atom}
-use Rattle.core_tree.specs.declared.statements.Atom.TheVariants as atom
-use Rattle.core_tree.specs.declared.statements.StmKind.TheVariants.{Enter}
 use Rattle.c_tree.specs.Forms as f
 use Rattle.c_tree.specs.Tree.{Tree, Trees, Leaf, At, Node, none, ◌▹◌, count}
 use Rattle.c_tree.specs.Words as w
@@ -37,8 +35,8 @@ use Rattle.c_decls.specs.declared.typed.Folded.{Folded}
 use Rattle.c_decls.specs.declared.typed.Folded.TheVariants.{Is}
 use Rattle.elaboration.specs.Assignments.{record_assigned, scalar_assigned, old_value, changed_answer, changed_by, one_found, stepped}
 use Rattle.elaboration.specs.Calls.{Argument, types_of}
-use Rattle.elaboration.specs.Context.{Code, Context, Variable, With, file_variable, literal_object, asked, told, new_label, emit, anew}
-use Rattle.elaboration.specs.Conversions.{Found, Value, Fixed, Unknown, Nowhere, Inside, found_as, atom_in, code_line, read_spot, read_fixed, valued_from, valued, convert, forget, size_or_zero, unused}
+use Rattle.elaboration.specs.Context.{Code, Context, Variable, With, file_variable, literal_object, asked, told, new_label}
+use Rattle.elaboration.specs.Conversions.{Found, Fixed, Unknown, Nowhere, Inside, atom_in, code_line, read_spot, read_fixed, valued_from, valued, convert, size_or_zero, unused}
 use Rattle.elaboration.specs.Expressions.{name_answer, literal_answer, address_answer, unevaluated, changing, comma_answer, callee, callee_name, parameters, call_answer, found, arguments, cast_operand}
 use Rattle.elaboration.specs.Initializers.{Target, InRegister, InMemory, InStatic, static_integer, static_address, static_pointer, static_scalar, fill_scalar, scalar, fill_record, is_same_place, whole, fill_text, is_character, text, by_text, by_expression, parts_of, takes_braces, is_scalar_type, all_surplus, initialize, initialize_parts, not_whole}
 use Rattle.elaboration.specs.Operations.{variable_size, literal_size, static_size, moved_by, moved_times, fixed_sum_of, fixed_sum, combined, offset_of, member_address}

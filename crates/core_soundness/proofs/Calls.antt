@@ -8,7 +8,6 @@ use Rattle.hs_base.specs.Numbers.{width}
 use Rattle.c_types.specs.TagTable.{TagTable}
 use Rattle.c_types.specs.Types as types
 use Rattle.c_types.specs.Types.{PlainType, PlainTypes, Void, kind_of}
-use Rattle.c_types.specs.declared.types.IntType.{IntType}
 use Rattle.c_types.specs.declared.types.IntType.TheVariants as i
 use Rattle.c_print.specs.Pieces.{pieces_of}
 use Rattle.c_print.specs.declared.piece.Piece.{Piece}

@@ -1,5 +1,5 @@
 -- What the walk over a text says of its core.
-use Rattle.std.proofs.Common.{◌≡◌, ◌≤◌, ◌<◌, ◌+◌, ℕ, zero, suc, List, [], ◌∷◌, ◌++◌, length, map, sum_by, Some, None, slice_get, Ok, Err, All, refl, sym, ap, ◌∙◌, subst, arith, mul-one, Bool, true, false, ◌&&◌, cond, is_some, bytes_eq, codes, count_by, Option, unwrap_or}
+use Rattle.std.proofs.Common.{◌≡◌, ◌≤◌, ◌<◌, ◌+◌, ℕ, zero, suc, List, [], ◌∷◌, ◌++◌, length, map, sum_by, Some, None, slice_get, Ok, Err, All, refl, sym, ap, ◌∙◌, subst, arith, mul-one, Bool, true, false, cond, bytes_eq, codes, count_by, Option, unwrap_or}
 use Rattle.std.proofs.lemmas.List.{length-map}
 use Rattle.std.proofs.lemmas.List.Sums.{sum_by-append, sum_by-cons}
 use Rattle.std.proofs.lemmas.Slice.Eq.{bytes_eq-Decides}
@@ -26,10 +26,11 @@ use Rattle.elaboration.specs.Context.{Piece, Does, Here, Context, Walked, Declar
 use Rattle.elaboration.specs.Elaboration.{walked, elaborated}
 use Rattle.elaboration.specs.Externals as externals
 use Rattle.elaboration.specs.Externals.{piece_length, is_defined}
-use Rattle.elaboration.specs.Resolving.{Numbers, numbered, atom_by, point_in, body_of, numbers_of, function_of, variable_static, literal_static, core_of, definition_of, function_by}
+use Rattle.elaboration.specs.Resolving.{Numbers, numbered, atom_by, point_in, body_of, numbers_of, function_of, variable_static, literal_static, plain_name, core_of, definition_of, function_by}
 use Rattle.core_soundness.specs.Laws.{HasFlow, HasSizes, CallsInside}
 use Rattle.core_soundness.proofs.Flows.{steps, stm_at, body_length, inside, ahead, scopes}
 use Rattle.core_soundness.proofs.Growth.{variable_bytes, literal_bytes, ok_same, never}
+use Rattle.core_soundness.proofs.OwnNames.{IsOwn}
 use Rattle.core_soundness.proofs.Statements.{Complete, AreComplete, walked_length, Sane, walked_sane, Finished, walked_finished}
 use Rattle.core_soundness.proofs.Choices.{some_same, get_some, some_number}
 
@@ -229,8 +230,8 @@ main_number c f =
     let k = some_number (d.0).defined (ap is_defined (sym d.1) ∙ m.defined) in
     omega (arith, s.strict m.index k.0 d.0 d.1 k.1)
 
-walked_main : (c : Context) → Finished c → count_by (λ (w : Walked). bytes_eq w.name (codes "main")) c.walked ≡ 1
-walked_main c f =
+walked_main : (c : Context) → Finished c → ((k : ℕ) (w : Walked) → slice_get c.walked k ≡ Some w → IsOwn w.name) → count_by (λ (w : Walked). bytes_eq (plain_name w.name) (codes "main")) c.walked ≡ 1
+walked_main c f own =
     let s = f.sane in
     let m = main_is c.functions (named_in (codes "main") c.scopes.file) f.main in
     let d = s.named.found (codes "main") m.type m.index m.is in
@@ -240,21 +241,17 @@ walked_main c f =
     let at : o.index ≡ m.index = s.named.single o.index m.index k.0 o.declared d.0 o.there d.1 o.defined k.1 in
     let one : o.declared ≡ d.0 = some_same o.declared d.0 (sym o.there ∙ ap (λ j. slice_get c.functions j) at ∙ d.1) in
     let name : (w.0).name ≡ codes "main" = sym o.name ∙ ap (λ (x : Declared). x.name) one ∙ d.2 in
-    counted_one (λ (x : Walked). bytes_eq x.name (codes "main")) c.walked k.0 w.0 w.1 ((bytes_eq-Decides (w.0).name (codes "main")).1 name)
+    counted_one (λ (x : Walked). bytes_eq (plain_name x.name) (codes "main")) c.walked k.0 w.0 w.1 ((bytes_eq-Decides (plain_name (w.0).name) (codes "main")).1 (ap plain_name name))
     (λ j v e q.
     let p = s.named.owned j v e in
-    let called : p.declared.name ≡ codes "main" = p.name ∙ (bytes_eq-Decides v.name (codes "main")).0 q in
+    let called : p.declared.name ≡ codes "main" = p.name ∙ own j v e ((bytes_eq-Decides (plain_name v.name) (codes "main")).0 q) in
     let named_so = s.named.declared p.index p.declared p.there in
     let same_index : p.index ≡ m.index = same_number (codes "main") named_so.0 m.type p.index m.index (named_in (codes "main") c.scopes.file) (ap (λ x. named_in x c.scopes.file) (sym called) ∙ named_so.1) m.is in
     let same_one : p.declared ≡ d.0 = some_same p.declared d.0 (sym p.there ∙ ap (λ x. slice_get c.functions x) same_index ∙ d.1) in
     some_same j k.0 (sym p.defined ∙ ap (λ (x : Declared). x.defined) same_one ∙ k.1))
 
-pub core_main : (unit : Trees) (core : Core) (tags : TagTable) → elaborated unit ≡ Ok (core, tags) → count_by is_main core.funcs ≡ 1
-core_main unit core tags e =
-    let b = behind unit core tags e in
-    let c = b.context in
-    subst (λ (x : Core). count_by is_main x.funcs ≡ 1) b.made
-    (count_map is_main (function_of c) c.walked ∙ walked_main c (walked_finished unit c b.is))
+pub count_main : (c : Context) → Finished c → ((k : ℕ) (w : Walked) → slice_get c.walked k ≡ Some w → IsOwn w.name) → count_by is_main (core_of c).funcs ≡ 1
+count_main c f own = count_map is_main (function_of c) c.walked ∙ walked_main c f own
 
 -- a call of a core names one of its functions
 

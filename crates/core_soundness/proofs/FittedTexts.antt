@@ -15,7 +15,6 @@ use Rattle.c_types.specs.declared.types.IntType.TheVariants as i
 use Rattle.core_tree.specs.Sound.{IsStatic}
 use Rattle.core_tree.specs.declared.program.Core.{Core}
 use Rattle.core_tree.specs.declared.program.Start.{Start}
-use Rattle.core_tree.specs.declared.statements.StmKind.TheVariants.{Enter}
 use Rattle.c_tree.specs.Forms as f
 use Rattle.c_tree.specs.Scopes.{name_of}
 use Rattle.c_tree.specs.Tree.{Tree, Trees, At, Node, none, ◌▹◌, count}
@@ -34,8 +33,8 @@ use Rattle.c_decls.specs.declared.refusal.TypeKind.TheVariants.{Assignment, Decl
 use Rattle.c_decls.specs.declared.typed.Folded.{Folded}
 use Rattle.c_decls.specs.declared.typed.Folded.TheVariants.{Is}
 use Rattle.elaboration.specs.Addressed.{addressed_in}
-use Rattle.elaboration.specs.Context.{Code, Context, asked, emit, anew, Variable, Declared, first_context}
-use Rattle.elaboration.specs.Conversions.{Found, Fixed, Unknown, Nowhere, Inside, code_line, valued, size_or_zero}
+use Rattle.elaboration.specs.Context.{Code, Context, asked, Variable, Declared, first_context}
+use Rattle.elaboration.specs.Conversions.{Found, Fixed, Unknown, Nowhere, Inside, valued, size_or_zero}
 use Rattle.elaboration.specs.Declarations.{Storage, Typedef, storage_of, specs_before, declared_function, no_initializer, variable_number_of, with_new_variable, with_variable, start_of, start_in, started_variable, fill_variable, file_object, file_function, file_value, file_name, name_in, entry, entries, declaration}
 use Rattle.elaboration.specs.Declarators.{layers}
 use Rattle.elaboration.specs.Elaboration.{walked, elaborated}

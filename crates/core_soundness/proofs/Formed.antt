@@ -23,7 +23,8 @@ use Rattle.c_tree.specs.Words.{Word}
 use Rattle.c_tree.specs.declared.word.Keyword.{Keyword}
 use Rattle.c_tree.specs.declared.word.Keyword.TheVariants as k
 use Rattle.core_soundness.specs.Spoken.{HasLists, HasParameters, IsDefinition}
-use Rattle.core_soundness.specs.Written.{IsHeld, HasParts, Written, AllWritten, AreWritten}
+use Rattle.core_soundness.specs.Texts.{WordNames, Names, AllNames}
+use Rattle.core_soundness.specs.Written.{IsHeld, HasParts, Written, AllWritten, Each, AreWritten}
 
 -- the shapes of trees that the walk over addresses stands on: what elaboration does not look at has no nodes, and nothing stands where a declarator or a suffix is looked for but one of these
 
@@ -113,57 +114,20 @@ abbrev pub HasParams : Tree → Type 0
 HasParams (Node f.Function (line ▹ words ▹ Node f.Declared (declarator ▹ none) ▹ body ▹ none)) = IsSome (params_of declarator)
 HasParams tree = Unit {0}
 
--- external declarations
+-- what the grammar says of an external declaration
+abbrev pub Grammatical : Tree → Type 0
+Grammatical tree = (Written tree × IsDefinition tree) × (Formed tree × HasParams tree)
+
 abbrev pub AreFormed : Trees → Type 0
-AreFormed none = Unit {0}
-AreFormed (tree ▹ rest) = (Formed tree × HasParams tree) × AreFormed rest
+AreFormed unit = Each (λ tree. Formed tree × HasParams tree) unit
 
--- the trees of tokens are written as the grammar says
+pub all_written : (unit : Trees) → Each Grammatical unit → AreWritten unit
+all_written none h = tt
+all_written (tree ▹ rest) h = (h.0.0, all_written rest h.1)
 
--- a word of a spelling, and a line of it
-abbrev Fits : Piece → Type 0
-Fits (Said word) = IsHeld word
-Fits (Line line) = 1 ≤ line
-
-abbrev AllFit : List Piece → Type 0
-AllFit [] = Unit {0}
-AllFit (piece ∷ pieces) = Fits piece × AllFit pieces
-
-abbrev EachFit : List (List Piece) → Type 0
-EachFit [] = Unit {0}
-EachFit (pieces ∷ rest) = AllFit pieces × EachFit rest
-
-word_held : (word : Word) (token : Token) → IsLexed token → IsWord word token → IsHeld word
-word_held (w.Int bytes) token l h =
-    let t : IsToken kind.Int bytes = subst (λ (k : TokenKind). IsToken k bytes) h.0 (subst (λ (x : List ℕ). IsToken token.kind x) h.1 l.0) in
-    (constant_read bytes t).fits
-word_held word token l h = tt
-
-spelled_fit : (pieces : List Piece) (tokens rest : List Token) → All IsLexed tokens → Spells pieces tokens rest → AllFit pieces
-unfolding Spells
-spelled_fit [] tokens rest l h = tt
-spelled_fit (Said word ∷ pieces) (token ∷ tokens) rest l h =
-    (word_held word token (l 0 token (omega arith)) h.0, spelled_fit pieces tokens rest (All-tail IsLexed token tokens l) h.1)
-spelled_fit (Line line ∷ pieces) (token ∷ tokens) rest l h =
-    (subst (λ (k : ℕ). 1 ≤ k) h.0 (l 0 token (omega arith)).1, spelled_fit pieces (token ∷ tokens) rest l h.1)
-spelled_fit (Said word ∷ pieces) [] rest l h = absurd h
-spelled_fit (Line line ∷ pieces) [] rest l h = absurd h
-
-parts_fit : (one other : List Piece) → AllFit (one ++ other) → AllFit one × AllFit other
-parts_fit [] other h = (tt, h)
-parts_fit (piece ∷ one) other h = let r = parts_fit one other h.1 in ((h.0, r.0), r.1)
-
--- all parts are spelled where there is a place for each
-filled_fit : (items : List Item) (parts : Trees) (scope : Scope) → AllAllowed parts (places items) scope → AllFit (filled items (spell_all parts)) → EachFit (spell_all parts)
-unfolding AllAllowed spell_all
-filled_fit [] none scope a h = tt
-filled_fit [] (tree ▹ rest) scope a h = absurd a
-filled_fit (Says word ∷ items) parts scope a h = filled_fit items parts scope a h.1
-filled_fit (Here ∷ items) (tree ▹ rest) scope a h =
-    let r = parts_fit (spell tree) (filled items (spell_all rest)) h in (r.0, filled_fit items rest _ a.2 r.1)
-filled_fit (Part place ∷ items) (tree ▹ rest) scope a h =
-    let r = parts_fit (spell tree) (filled items (spell_all rest)) h in (r.0, filled_fit items rest _ a.2 r.1)
-filled_fit other none scope a h = absurd a
+pub all_formed : (unit : Trees) → Each Grammatical unit → AreFormed unit
+all_formed none h = tt
+all_formed (tree ▹ rest) h = (h.0.1, all_formed rest h.1)
 
 has_parts : (form : Form) (parts : Trees) (scope : Scope) → AllAllowed parts (places (shape form (count parts))) scope → HasParts form parts
 unfolding shape AllAllowed HasParts Takes
@@ -173,19 +137,6 @@ has_parts f.MemberNames none scope a = a
 has_parts f.MemberNames (tree ▹ rest) scope a = a.0.1
 has_parts f.Inits none scope a = a
 has_parts form parts scope a = tt
-
-mutual
-  unfolding Allowed AllAllowed spell spell_all Written AllWritten
-
-  tree_written : (tree : Tree) (scope : Scope) → Allowed tree scope → AllFit (spell tree) → Written tree
-  tree_written (Node form parts) scope a h =
-      (has_parts form parts scope a.1, trees_written parts (places (shape form (count parts))) scope a.1 (filled_fit (shape form (count parts)) parts scope a.1 h))
-  tree_written other scope a h = h.0
-
-  trees_written : (trees : Trees) (ps : List Place) (scope : Scope) → AllAllowed trees ps scope → EachFit (spell_all trees) → AllWritten trees
-  trees_written none ps scope a h = tt
-  trees_written (tree ▹ rest) [] scope a h = absurd a
-  trees_written (tree ▹ rest) (place ∷ ps) scope a h = (tree_written tree scope a.1 h.0, trees_written rest ps _ a.2 h.1)
 
 -- parameter lists
 
@@ -315,35 +266,7 @@ external_defined (Node f.Function (line ▹ words ▹ Node f.Declared (declarato
     has_list declarator _ d.1 (declarator_named (home declarator) d.0.0) (alone declarator h.function)
 external_defined tree scope h = tt
 
-external_written : (tree : Tree) (scope : Scope) → IsExternal tree scope → AllFit (spell tree) → Written tree
-unfolding IsExternal AllAllowed spell spell_all shape Written AllWritten HasParts
-external_written (Node f.Function (line ▹ words ▹ declared ▹ body ▹ none)) scope h g =
-    let l = parts_fit (spell line) (spell words ++ (spell declared ++ (spell body ++ []))) g in
-    let s = parts_fit (spell words) (spell declared ++ (spell body ++ [])) l.1 in
-    let d = parts_fit (spell declared) (spell body ++ []) s.1 in
-    let b = parts_fit (spell body) [] d.1 in
-    (tt, (tree_written line _ h.front.1 l.0, (tree_written words _ h.front.2.1 s.0, (tree_written declared _ h.front.2.2.1 d.0, (tree_written body _ h.inside b.0, tt)))))
-external_written (Node f.Declaration parts) scope h g = tree_written (Node f.Declaration parts) scope h g
-external_written tree scope h g = absurd h
-
-externals_written : (unit : Trees) (scope : Scope) → AreExternals unit scope → EachFit (spell_all unit) → AreWritten unit
-unfolding AreExternals spell_all
-externals_written none scope a h = tt
-externals_written (tree ▹ rest) scope a h = ((external_written tree scope a.0 h.0, external_defined tree scope a.0), externals_written rest _ a.1 h.1)
-
-row_fit : (unit : Trees) → AllFit (filled (rows p.External (count unit)) (spell_all unit)) → EachFit (spell_all unit)
-unfolding spell_all
-row_fit none h = tt
-row_fit (tree ▹ rest) h = let r = parts_fit (spell tree) (filled (rows p.External (count rest)) (spell_all rest)) h in (r.0, row_fit rest r.1)
-
-unit_fit : (unit : Trees) → AllFit (spell (Node f.Unit unit)) → EachFit (spell_all unit)
-unfolding spell shape
-unit_fit unit h = row_fit unit h
-
-pub trees_written_all : (tokens : List Token) (unit : Trees) → All IsLexed tokens → HasTree tokens unit → AreWritten unit
-trees_written_all tokens unit l h = externals_written unit first_scope h.allowed (unit_fit unit (spelled_fit (spell (Node f.Unit unit)) tokens [] l h.spelled))
-
--- the trees of tokens have the shapes that the walk over addresses stands on
+-- shapes
 
 -- words
 
@@ -641,34 +564,104 @@ shaped f.Local (line ▹ words ▹ Node f.Names entries ▹ none) scope o a = lo
 shaped f.ForNames (words ▹ Node f.Names entries ▹ none) scope o a = for_formed words entries scope a
 shaped form parts scope o a = tt
 
-mutual
-  unfolding Allowed AllAllowed Formed AllFormed
-
-  tree_formed : (tree : Tree) (scope : Scope) → Allowed tree scope → Formed tree
-  tree_formed (Node form parts) scope a = (shaped form parts scope a.0 a.1, trees_formed parts (places (shape form (count parts))) scope a.1)
-  tree_formed other scope a = tt
-
-  trees_formed : (trees : Trees) (ps : List Place) (scope : Scope) → AllAllowed trees ps scope → AllFormed trees
-  trees_formed none ps scope a = tt
-  trees_formed (tree ▹ rest) [] scope a = absurd a
-  trees_formed (tree ▹ rest) (place ∷ ps) scope a = (tree_formed tree scope a.1, trees_formed rest ps _ a.2)
-
-external_formed : (tree : Tree) (scope : Scope) → IsExternal tree scope → Formed tree
-unfolding IsExternal AllAllowed Formed AllFormed Shaped
-external_formed (Node f.Function (line ▹ words ▹ declared ▹ body ▹ none)) scope h =
-    (tt, (tree_formed line _ h.front.1, (tree_formed words _ h.front.2.1, (tree_formed declared _ h.front.2.2.1, (tree_formed body _ h.inside, tt)))))
-external_formed (Node f.Declaration parts) scope h = tree_formed (Node f.Declaration parts) scope h
-external_formed tree scope h = absurd h
-
 external_params : (tree : Tree) (scope : Scope) → IsExternal tree scope → HasParams tree
 unfolding IsExternal params_of leads_to_name
 external_params (Node f.Function (line ▹ words ▹ Node f.Declared (declarator ▹ none) ▹ body ▹ none)) scope h = alone declarator h.function
 external_params tree scope h = tt
 
-externals_formed : (unit : Trees) (scope : Scope) → AreExternals unit scope → AreFormed unit
-unfolding AreExternals
-externals_formed none scope a = tt
-externals_formed (tree ▹ rest) scope a = ((external_formed tree scope a.0, external_params tree scope a.0), externals_formed rest _ a.1)
+-- the trees of tokens are such trees, by one walk; W of each name that is a token
+module _ (W : List ℕ → Type 0) where
+  -- a token, a word of a spelling, and a line of it
+  abbrev pub Reads : Token → Type 0
+  Reads token = IsLexed token × (token.kind ≡ kind.Name → W token.bytes)
 
-pub trees_formed_all : (tokens : List Token) (unit : Trees) → HasTree tokens unit → AreFormed unit
-trees_formed_all tokens unit h = externals_formed unit first_scope h.allowed
+  abbrev Fits : Piece → Type 0
+  Fits (Said word) = IsHeld word × WordNames W word
+  Fits (Line line) = 1 ≤ line
+
+  abbrev AllFit : List Piece → Type 0
+  AllFit [] = Unit {0}
+  AllFit (piece ∷ pieces) = Fits piece × AllFit pieces
+
+  abbrev EachFit : List (List Piece) → Type 0
+  EachFit [] = Unit {0}
+  EachFit (pieces ∷ rest) = AllFit pieces × EachFit rest
+
+  word_fits : (word : Word) (token : Token) → Reads token → IsWord word token → IsHeld word × WordNames W word
+  word_fits (w.Int bytes) token l h =
+      let t : IsToken kind.Int bytes = subst (λ (k : TokenKind). IsToken k bytes) h.0 (subst (λ (x : List ℕ). IsToken token.kind x) h.1 l.0.0) in
+      ((constant_read bytes t).fits, tt)
+  word_fits (w.Name bytes) token l h = (tt, subst W h.1 (l.1 h.0))
+  word_fits word token l h = (tt, tt)
+
+  spelled_fit : (pieces : List Piece) (tokens rest : List Token) → All Reads tokens → Spells pieces tokens rest → AllFit pieces
+  unfolding Spells
+  spelled_fit [] tokens rest l h = tt
+  spelled_fit (Said word ∷ pieces) (token ∷ tokens) rest l h =
+      (word_fits word token (l 0 token (omega arith)) h.0, spelled_fit pieces tokens rest (All-tail Reads token tokens l) h.1)
+  spelled_fit (Line line ∷ pieces) (token ∷ tokens) rest l h =
+      (subst (λ (k : ℕ). 1 ≤ k) h.0 (l 0 token (omega arith)).0.1, spelled_fit pieces (token ∷ tokens) rest l h.1)
+  spelled_fit (Said word ∷ pieces) [] rest l h = absurd h
+  spelled_fit (Line line ∷ pieces) [] rest l h = absurd h
+
+  parts_fit : (one other : List Piece) → AllFit (one ++ other) → AllFit one × AllFit other
+  parts_fit [] other h = (tt, h)
+  parts_fit (piece ∷ one) other h = let r = parts_fit one other h.1 in ((h.0, r.0), r.1)
+
+  -- all parts are spelled where there is a place for each
+  filled_fit : (items : List Item) (parts : Trees) (scope : Scope) → AllAllowed parts (places items) scope → AllFit (filled items (spell_all parts)) → EachFit (spell_all parts)
+  unfolding AllAllowed spell_all
+  filled_fit [] none scope a h = tt
+  filled_fit [] (tree ▹ rest) scope a h = absurd a
+  filled_fit (Says word ∷ items) parts scope a h = filled_fit items parts scope a h.1
+  filled_fit (Here ∷ items) (tree ▹ rest) scope a h =
+      let r = parts_fit (spell tree) (filled items (spell_all rest)) h in (r.0, filled_fit items rest _ a.2 r.1)
+  filled_fit (Part place ∷ items) (tree ▹ rest) scope a h =
+      let r = parts_fit (spell tree) (filled items (spell_all rest)) h in (r.0, filled_fit items rest _ a.2 r.1)
+  filled_fit other none scope a h = absurd a
+
+  mutual
+    unfolding Allowed AllAllowed spell spell_all Written AllWritten Formed AllFormed
+
+    tree_made : (tree : Tree) (scope : Scope) → Allowed tree scope → AllFit (spell tree) → Written tree × Formed tree × Names W tree
+    tree_made (Leaf word) scope a h = (h.0.0, tt, h.0.1)
+    tree_made (At line) scope a h = (h.0, tt, tt)
+    tree_made (Node form parts) scope a h =
+        let r = trees_made parts (places (shape form (count parts))) scope a.1 (filled_fit (shape form (count parts)) parts scope a.1 h) in
+        ((has_parts form parts scope a.1, r.0), (shaped form parts scope a.0 a.1, r.1), r.2)
+
+    trees_made : (trees : Trees) (ps : List Place) (scope : Scope) → AllAllowed trees ps scope → EachFit (spell_all trees) → AllWritten trees × AllFormed trees × AllNames W trees
+    trees_made none ps scope a h = (tt, tt, tt)
+    trees_made (tree ▹ rest) [] scope a h = absurd a
+    trees_made (tree ▹ rest) (place ∷ ps) scope a h =
+        let one = tree_made tree scope a.1 h.0 in
+        let all = trees_made rest ps _ a.2 h.1 in
+        ((one.0, all.0), (one.1, all.1), (one.2, all.2))
+
+  external_made : (tree : Tree) (scope : Scope) → IsExternal tree scope → AllFit (spell tree) → Written tree × Formed tree × Names W tree
+  unfolding IsExternal AllAllowed spell spell_all shape Written AllWritten HasParts Formed AllFormed Shaped
+  external_made (Node f.Function (line ▹ words ▹ declared ▹ body ▹ none)) scope h g =
+      let l = parts_fit (spell line) (spell words ++ (spell declared ++ (spell body ++ []))) g in
+      let s = parts_fit (spell words) (spell declared ++ (spell body ++ [])) l.1 in
+      let d = parts_fit (spell declared) (spell body ++ []) s.1 in
+      let b = parts_fit (spell body) [] d.1 in
+      let at = tree_made line _ h.front.1 l.0 in
+      let said = tree_made words _ h.front.2.1 s.0 in
+      let name = tree_made declared _ h.front.2.2.1 d.0 in
+      let code = tree_made body _ h.inside b.0 in
+      ((tt, (at.0, (said.0, (name.0, (code.0, tt))))), (tt, (at.1, (said.1, (name.1, (code.1, tt))))), (at.2, (said.2, (name.2, (code.2, tt)))))
+  external_made (Node f.Declaration parts) scope h g = tree_made (Node f.Declaration parts) scope h g
+  external_made tree scope h g = absurd h
+
+  externals_made : (unit : Trees) (scope : Scope) → AreExternals unit scope → AllFit (filled (rows p.External (count unit)) (spell_all unit)) → Each Grammatical unit × AllNames W unit
+  unfolding AreExternals spell_all
+  externals_made none scope a h = (tt, tt)
+  externals_made (tree ▹ rest) scope a h =
+      let r = parts_fit (spell tree) (filled (rows p.External (count rest)) (spell_all rest)) h in
+      let one = external_made tree scope a.0 r.0 in
+      let all = externals_made rest _ a.1 r.1 in
+      ((((one.0, external_defined tree scope a.0), (one.1, external_params tree scope a.0)), all.0), (one.2, all.1))
+
+  pub unit_made : (tokens : List Token) (unit : Trees) → All Reads tokens → HasTree tokens unit → Each Grammatical unit × AllNames W unit
+  unfolding spell shape
+  unit_made tokens unit l h = externals_made unit first_scope h.allowed (spelled_fit (spell (Node f.Unit unit)) tokens [] l h.spelled)

@@ -1,26 +1,23 @@
--- Each function of a core of a text is sound.
-use Rattle.std.proofs.Common.{◌≡◌, All, List, Ok, ◌≤◌, length}
+-- Each function of a core is sound, and so is the core.
+use Rattle.std.proofs.Common.{◌≡◌, Ok}
 use Rattle.c_types.specs.TagTable.{TagTable}
-use Rattle.c_lexer.specs.Tokens.{IsLexed}
-use Rattle.c_lexer.specs.declared.token.Token.{Token}
-use Rattle.core_tree.specs.Sound.{EachFunc, IsFunction, IsShort, IsSound}
+use Rattle.core_tree.specs.Sound.{EachFunc, IsFunction, IsSound}
 use Rattle.core_tree.specs.declared.program.Core.{Core}
-use Rattle.c_tree.specs.HasTree.{HasTree}
 use Rattle.c_tree.specs.Tree.{Trees}
 use Rattle.elaboration.specs.Elaboration.{elaborated}
-use Rattle.core_soundness.proofs.Cores.{core_flows, core_sizes, core_main}
+use Rattle.core_soundness.specs.Texts.{IsOfTexts}
+use Rattle.core_soundness.proofs.Cores.{core_flows, core_sizes}
 use Rattle.core_soundness.proofs.FittedTexts.{core_statics}
-use Rattle.core_soundness.proofs.Formed.{trees_written_all, trees_formed_all}
 use Rattle.core_soundness.proofs.NearTexts.{core_short}
 use Rattle.core_soundness.proofs.SolidTexts.{core_layouts, core_ranges}
-use Rattle.core_soundness.proofs.Typing.{core_types, core_main_typed}
+use Rattle.core_soundness.proofs.Texts.{Made, made_all, made_weighed}
+use Rattle.core_soundness.proofs.Typing.{core_types, core_main, core_main_typed}
 
-pub functions_sound : (tokens : List Token) (unit : Trees) (core : Core) (tags : TagTable) → All IsLexed tokens → HasTree tokens unit → elaborated unit ≡ Ok (core, tags) → EachFunc core (IsFunction core)
-functions_sound tokens unit core tags l h q f func e =
-    let w = trees_written_all tokens unit l h in
+pub functions_sound : (unit : Trees) (core : Core) (tags : TagTable) → Made unit → elaborated unit ≡ Ok (core, tags) → EachFunc core (IsFunction core)
+functions_sound unit core tags made q f func e =
     let flow = core_flows unit core tags q f func e in
-    let types = core_types unit core tags w (trees_formed_all tokens unit h) q f func e in
-    let ranges = core_ranges unit core tags w q f func e in
+    let types = core_types unit core tags made.written made.formed made.own q f func e in
+    let ranges = core_ranges unit core tags made.written q f func e in
     record {
       some = flow.some;
       params = types.params;
@@ -33,24 +30,22 @@ functions_sound tokens unit core tags l h q f func e =
       answers = types.answers;
       scopes = flow.scopes;
       numbers = ranges.numbers;
-      mems = (core_layouts unit core tags w q).mems f func e;
+      mems = (core_layouts unit core tags made.written q).mems f func e;
       elements = ranges.elements;
     }
 
--- the core of a text is sound
-
-pub cores_sound : (tokens : List Token) (unit : Trees) (core : Core) (tags : TagTable) → All IsLexed tokens → length tokens ≤ 268435456 → All (λ (token : Token). IsShort token.bytes) tokens → HasTree tokens unit → elaborated unit ≡ Ok (core, tags) → IsSound core
-cores_sound tokens unit core tags l few short h q =
-    let written = trees_written_all tokens unit l h in
+pub cores_sound : (unit : Trees) (core : Core) (tags : TagTable) → IsOfTexts unit → elaborated unit ≡ Ok (core, tags) → IsSound core
+cores_sound unit core tags of q =
+    let made = made_all of.0 of.1 unit of.2 in
     let sizes = core_sizes unit core tags q in
-    let lists = core_short tokens unit core tags few short h q in
+    let lists = core_short unit core tags (made_weighed of.0 of.1 unit of.2 of.3) of.3.short q in
     record {
-      functions = functions_sound tokens unit core tags l h q;
-      statics = core_statics unit core tags written q;
+      functions = functions_sound unit core tags made q;
+      statics = core_statics unit core tags made.written q;
       static_bytes = sizes.static_bytes;
       code = sizes.code;
-      one_main = core_main unit core tags q;
-      main = core_main_typed unit core tags written (trees_formed_all tokens unit h) q;
+      one_main = core_main unit core tags made.written made.formed made.own q;
+      main = core_main_typed unit core tags made.written made.formed made.own q;
       short_statics = sizes.short_statics;
       short_names = lists.short_names;
       short_funcs = sizes.short_funcs;

@@ -1,5 +1,5 @@
 -- What expressions declare and leave as it was.
-use Rattle.std.proofs.Common.{◌≡◌, ◌+◌, ℕ, true, false, List, [], ◌∷◌, ◌++◌, reverse, Some, Ok, Err, refl, sym, ap, ◌∙◌, subst, arith, ◌||◌, Bool, Option, None, zero, suc, not, cond, length, ⊎_elim}
+use Rattle.std.proofs.Common.{◌≡◌, ◌+◌, ℕ, true, false, List, [], ◌∷◌, ◌++◌, reverse, Some, Ok, Err, refl, sym, ap, ◌∙◌, subst, arith, ◌||◌, Bool, Option, None, zero, suc, not, length, ⊎_elim}
 use Rattle.std.proofs.lemmas.Bool.{eq-eqb}
 use Rattle.std.specs.Option.{option_or}
 use Rattle.c_types.specs.TagTable.{TagTable}
@@ -8,7 +8,7 @@ use Rattle.c_types.specs.Types.{PlainType, Void}
 use Rattle.c_types.specs.declared.types.IntType.{IntType}
 use Rattle.core_tree.specs.declared.statements.Atom.{Atom}
 use Rattle.core_tree.specs.declared.statements.StmKind.{StmKind}
-use Rattle.core_tree.specs.declared.statements.StmKind.TheVariants.{Zero, Enter, Leave, Return}
+use Rattle.core_tree.specs.declared.statements.StmKind.TheVariants.{Zero, Leave, Return}
 use Rattle.c_tree.specs.Forms as f
 use Rattle.c_tree.specs.Forms.{Form}
 use Rattle.c_tree.specs.Grammar.{shape, assign_level}

@@ -1,6 +1,7 @@
 mod Choices
 mod Flows
 mod Scopes
+mod OwnNames
 mod Growth
 mod CodeWalk
 mod TagSorts
@@ -38,4 +39,6 @@ mod DeclaredSteps
 mod StatementsRun
 mod Resolved
 mod Typing
+mod Renamed
+pub mod Texts
 mod Functions

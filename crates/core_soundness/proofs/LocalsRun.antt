@@ -1,5 +1,5 @@
 -- What initializers and declarations of locals do to what fits.
-use Rattle.std.proofs.Common.{◌≡◌, ◌≤◌, ◌<◌, ◌+◌, ◌&&◌, ℕ, pos, Bool, true, false, cond, min, take, length, List, [], ◌∷◌, Option, Some, None, Ok, refl, sym, subst, arith, zero, suc, nat_lt, is_some, ◌++◌, slice_get, slice_set, unwrap_or, ap, ◌∙◌, bytes_eq, length-append}
+use Rattle.std.proofs.Common.{◌≡◌, ◌≤◌, ◌<◌, ◌+◌, ℕ, pos, Bool, true, false, cond, min, take, length, List, [], ◌∷◌, Option, Some, None, Ok, refl, sym, subst, arith, zero, suc, nat_lt, is_some, ◌++◌, slice_get, slice_set, unwrap_or, ap, ◌∙◌, bytes_eq, length-append}
 use Rattle.std.proofs.lemmas.Bool.{ltb-true}
 use Rattle.std.specs.Option.{option_or}
 use Rattle.hs_base.specs.Place.{block_size}
@@ -16,7 +16,7 @@ use Rattle.c_tree.specs.Forms as f
 use Rattle.c_tree.specs.Scopes.{name_of}
 use Rattle.c_tree.specs.Tree.{Tree, Trees, At, Node, none, ◌▹◌, count, Leaf}
 use Rattle.c_tree.specs.Words as w
-use Rattle.c_decls.specs.Expressions.{line_of, string}
+use Rattle.c_decls.specs.Expressions.{line_of}
 use Rattle.c_decls.specs.Named as n
 use Rattle.c_decls.specs.Named.{PlainNamed}
 use Rattle.c_decls.specs.PlaceRules.{unconverted}
@@ -45,7 +45,7 @@ use Rattle.core_soundness.proofs.Growth.{good, bad, ok_same, never, behind_strin
 use Rattle.core_soundness.proofs.Landing.{in_memory, literal_there, not_false}
 use Rattle.core_soundness.proofs.LayersRun.{TableKept, rescoped, pushed_fits, with_local_runs, declared_runs, with_type_runs, specs_run, layers_run}
 use Rattle.core_soundness.proofs.Scopes.{more_refl, all_refl, named_push, outside_spoken}
-use Rattle.core_soundness.proofs.Sitting.{opened_rests, closed_goes, Evaluates, evaluates, evaluated_goes, opened_goes, Fine, Runs, runs_refl, runs_trans, goes_runs, on_runs, table_grew}
+use Rattle.core_soundness.proofs.Sitting.{opened_rests, closed_goes, Evaluates, evaluates, evaluated_goes, opened_goes, Fine, Runs, runs_refl, runs_trans, goes_runs, on_runs}
 use Rattle.core_soundness.proofs.Sorting.{Grew, holds_grew, Goes, goes_refl, goes_trans, goes_emit, gives_pointer, Gives, held_grew, stands_as_grew, converted, write_goes, kept_test, unbarred, grew_refl, pieces_grew, passed}
 use Rattle.core_soundness.proofs.TagSorts.{tag_after}
 use Rattle.core_soundness.proofs.Choices.{either_way, three_parts}

@@ -1,5 +1,5 @@
 -- How much declarations, statements and texts make: the lists of a core are short.
-use Rattle.std.proofs.Common.{◌≡◌, ◌≤◌, ◌+◌, ◌*◌, not, ℕ, zero, suc, pos, Bool, true, false, cond, is_some, nat_lt, length, All, List, [], ◌∷◌, ◌++◌, slice_get, slice_set, Option, Some, None, unwrap_or, Ok, refl, subst, arith, ◌-◌, ℤ, take, drop, Result, Err, length-drop, length-take-le, codes, map, replicate, sum_by, sym, length-append}
+use Rattle.std.proofs.Common.{◌≡◌, ◌≤◌, ◌+◌, ◌*◌, ◌==◌, not, ℕ, zero, suc, pos, Bool, true, false, cond, is_some, nat_lt, length, All, List, [], ◌∷◌, ◌++◌, slice_get, slice_set, Option, Some, None, unwrap_or, Ok, refl, subst, arith, ◌-◌, ℤ, take, drop, Result, Err, length-drop, length-take-le, codes, map, replicate, sum_by, sym, length-append}
 use Rattle.std.proofs.lemmas.List.{length-replicate}
 use Rattle.std.proofs.lemmas.List.Elements.{All-push, All-head, All-tail, All-cons, All-nil, All-weaker, All-append, All-map, All-replicate}
 use Rattle.std.specs.Prelude.{IfSome}
@@ -27,13 +27,12 @@ use Rattle.core_tree.specs.declared.statements.Atom.TheVariants as atom
 use Rattle.core_tree.specs.declared.statements.StmKind.TheVariants.{Off, Enter, Leave, Jump, Return}
 use Rattle.c_tree.specs.Forms as f
 use Rattle.c_tree.specs.Grammar.{some_commas, shape}
-use Rattle.c_tree.specs.HasTree.{HasTree}
 use Rattle.c_tree.specs.Places as p
 use Rattle.c_tree.specs.Places.{Place}
 use Rattle.c_tree.specs.Scopes.{name_of}
 use Rattle.c_tree.specs.Tree.{Tree, Trees, Leaf, At, Node, none, ◌▹◌, count}
 use Rattle.c_tree.specs.Words as w
-use Rattle.c_decls.specs.Expressions.{line_of, string}
+use Rattle.c_decls.specs.Expressions.{line_of}
 use Rattle.c_decls.specs.IntegerTypes.{promoted}
 use Rattle.c_decls.specs.Named as n
 use Rattle.c_decls.specs.PlaceRules.{unconverted}
@@ -41,10 +40,10 @@ use Rattle.c_decls.specs.Refusals.{Checked, refused, then, unless}
 use Rattle.c_decls.specs.ScopeList.{named_in, innermost, tag_name}
 use Rattle.c_decls.specs.TypeNames.{tag_named, with_layers}
 use Rattle.c_decls.specs.Typed.{is_function, has_no_size, Operand, Number, operand, is_void, is_scalar}
-use Rattle.c_decls.specs.declared.refusal.TypeKind.TheVariants.{Assignment, DeclaredTwice, Incomplete, LeftOut, Operands, StrayBreak, CaseTwice, ProgramTooLong, Undeclared, NoMain}
+use Rattle.c_decls.specs.declared.refusal.TypeKind.TheVariants.{Assignment, DeclaredTwice, Incomplete, LeftOut, Operands, StrayBreak, CaseTwice, ProgramTooLong, NoMain}
 use Rattle.elaboration.specs.Addressed.{addressed_in}
 use Rattle.elaboration.specs.Context.{Context, With, Variable, asked, emit, anew, left, entered, here, new_label, with_labels, with_pieces, Walked, Declared, first_context}
-use Rattle.elaboration.specs.Conversions.{Found, Spot, Local, Memory, code_line, atom_in, valued, convert, write, size_or_zero, convert_integer, tested_value, unused}
+use Rattle.elaboration.specs.Conversions.{Found, Spot, Local, Memory, atom_in, valued, convert, write, size_or_zero, convert_integer, tested_value, unused}
 use Rattle.elaboration.specs.Declarations as storages
 use Rattle.elaboration.specs.Declarations.{Storage, Typedef, Outside, storage_of, specs_alone, specs_before, cleared, fill_memory, fill_register, fill_at, fill_local, local_object, local_name, function_number, with_function, declared_function, no_initializer, variable_number_of, with_new_variable, with_variable, start_of, start_in, started_variable, started, fill_variable, file_object, file_function, file_value, file_name, name_in, entry, entries, declaration}
 use Rattle.elaboration.specs.Declarators.{layers, specs}
@@ -54,14 +53,14 @@ use Rattle.elaboration.specs.Externals.{begun, params_of, is_defined, body_begun
 use Rattle.elaboration.specs.Initializers.{Target, InRegister, InMemory, InStatic, static_scalar, member_place, store_at, fill_scalar, scalar, copy_to, fill_record, is_same_place, whole, fill_text, is_character, text, by_text, by_expression, parts_of, takes_braces, is_scalar_type, surplus, all_surplus, initialize, initialize_parts, no_start, with_init_layers, not_whole}
 use Rattle.elaboration.specs.Locals.{is_twice, declared_as, next_is_memory, with_memory, with_register, local_in, with_local}
 use Rattle.elaboration.specs.Reallocates.{reallocates, opened, closed}
-use Rattle.elaboration.specs.Resolving.{function_of, variable_static, literal_static, temporary, pointer_register, core_of}
+use Rattle.elaboration.specs.Resolving.{function_of, variable_static, literal_static, temporary, pointer_register, plain_name, core_of}
 use Rattle.elaboration.specs.Rules.{with_static, with_literal}
 use Rattle.elaboration.specs.Statements.{Around, below, in_loop, in_switch, in_delay, leaves, leave_to, evaluated, maybe_evaluated, condition, leaves_if_zero, maybe_leaves, apart, return_of, return_from, has_case, case_of, cased, defaulted, switch_operand_of, switch_operand, no_cases, for_start, statement, items, around_body}
 use Rattle.core_soundness.specs.Laws.{AreWithin, HasShortLists}
 use Rattle.core_soundness.proofs.Agreeing.{came}
 use Rattle.core_soundness.proofs.Cores.{behind as core_behind, core_sizes}
 use Rattle.core_soundness.proofs.Growth.{Reached, reached_ok, reached_refused, reached_after, reached_unless, reached_barred, Led, led_ok, led_refused, led_after, led_unless, led_barred, behind_string}
-use Rattle.core_soundness.proofs.Near.{Near, near_refl, near_on, near_most, near_pointer, near_register, near_memory, valued_near, convert_near, write_near, integer_near, tested_value_near, unused_near, static_near, literal_near, found_near, declared_near, named_near, with_type_near, specs_near, layers_near, constant_near, share, Share, Tidy, made_in, temporaries, Sized, Clear, unit_weighed, unit_short}
+use Rattle.core_soundness.proofs.Near.{Near, near_refl, near_on, near_most, near_pointer, near_register, near_memory, valued_near, convert_near, write_near, integer_near, tested_value_near, unused_near, static_near, literal_near, found_near, declared_near, named_near, with_type_near, specs_near, layers_near, constant_near, share, Share, Tidy, made_in, temporaries, Sized, Clear}
 use Rattle.core_soundness.proofs.Scopes.{Short, AllShort, name_short}
 use Rattle.core_soundness.proofs.Walks.{weight, weights, said, commas_said}
 use Rattle.core_soundness.proofs.Choices.{either_way}
@@ -696,10 +695,19 @@ HasName static = IfSome static.name IsShort
 abbrev HasRegister : Register → Type 0
 HasRegister reg = IfSome reg.name IsShort
 
+-- a name is no longer without its suffix
+plain_shorter : (name : List ℕ) → length (plain_name name) ≤ length name
+plain_shorter [] = omega arith
+plain_shorter (b ∷ rest) =
+    either_way (λ (xs : List ℕ). length xs ≤ length (b ∷ rest)) (b == 46) (omega arith) (omega (arith, plain_shorter rest))
+
+plain_short : (name : List ℕ) → IsShort name → IsShort (plain_name name)
+plain_short name h = omega (arith, h, plain_shorter name)
+
 statics_short : (c : Context) → Steady c → All HasName (core_of c).statics
 statics_short c h =
     All-append HasName (map (variable_static c) c.variables) (map literal_static c.literals)
-    (All-map HasName (variable_static c) c.variables h.variables)
+    (All-map HasName (variable_static c) c.variables (All-weaker HasShort (λ (v : Variable). IsShort (plain_name v.name)) (λ v q. plain_short v.name q) c.variables h.variables))
     (All-map HasName literal_static c.literals (every c.literals))
   where
     every : (ls : List (List ℕ)) → All (λ (l : List ℕ). HasName (literal_static l)) ls
@@ -711,7 +719,7 @@ regs_length locals i p =
 
 function_short : (c : Context) (w : Walked) → Sized w → IsShort (function_of c w).body → AreShort (function_of c w)
 function_short c w h b = record {
-  name = h.name;
+  name = plain_short w.name h.name;
   regs = omega (arith, regs_length w.running.locals w.code.most_integers w.code.most_pointers, h.made, h.temporaries);
   reg_names =
       All-append HasRegister w.running.locals (replicate w.code.most_integers temporary ++ replicate w.code.most_pointers pointer_register) h.named.locals
@@ -734,10 +742,9 @@ each_short c (x ∷ xs) h (suc k) func e b = each_short c xs (All-tail Sized x x
 context_short : (c : Context) → Steady c → ((k : ℕ) (func : Func) → slice_get (core_of c).funcs k ≡ Some func → IsShort func.body) → HasShortLists (core_of c)
 context_short c h b = record { short_names = statics_short c h; short = λ k func e. each_short c c.walked h.walked k func e (b k func e) }
 
-pub core_short : (tokens : List Token) (unit : Trees) (core : Core) (tags : TagTable) → length tokens ≤ 268435456 → All (λ (token : Token). IsShort token.bytes) tokens → HasTree tokens unit → elaborated unit ≡ Ok (core, tags) → HasShortLists core
-core_short tokens unit core tags few small tree e =
-    let weighed = unit_weighed tokens unit tree in
+pub core_short : (unit : Trees) (core : Core) (tags : TagTable) → weights unit ≤ 1610612736 → AllShort unit → elaborated unit ≡ Ok (core, tags) → HasShortLists core
+core_short unit core tags few short e =
     let k = core_behind unit core tags e in
-    let h = walked_steady unit k.context (omega (arith, few, weighed)) (unit_short tokens unit small tree) k.is in
+    let h = walked_steady unit k.context few short k.is in
     let sizes = core_sizes unit core tags e in
     subst HasShortLists k.made (context_short k.context h (subst (λ (x : Core). (j : ℕ) (func : Func) → slice_get x.funcs j ≡ Some func → IsShort func.body) (sym k.made) sizes.short_bodies))

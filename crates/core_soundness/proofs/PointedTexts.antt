@@ -1,6 +1,6 @@
 -- The pointers that the statics of a core hold first.
-use Rattle.std.proofs.Common.{◌≡◌, ◌≤◌, ◌<◌, ◌+◌, ◌*◌, ◌/◌, ◌%◌, ◌==◌, not, ℕ, zero, suc, Bool, true, false, cond, is_some, nat_lt, codes, All, length, map, sum_by, List, [], ◌∷◌, ◌++◌, slice_get, slice_set, option_map, unwrap_or, Option, Some, None, Ok, refl, sym, ap, ◌∙◌, subst, ⊎_elim, arith, bytes_eq, inl, inr}
-use Rattle.std.proofs.lemmas.Bool.{ltb-true, ltb-false, eq-eqb}
+use Rattle.std.proofs.Common.{◌≡◌, ◌≤◌, ◌<◌, ◌+◌, not, ℕ, zero, suc, Bool, true, false, cond, is_some, nat_lt, codes, All, length, map, sum_by, List, [], ◌∷◌, ◌++◌, slice_get, slice_set, option_map, unwrap_or, Option, Some, None, Ok, refl, sym, ap, ◌∙◌, subst, ⊎_elim, arith, bytes_eq, inl, inr}
+use Rattle.std.proofs.lemmas.Bool.{ltb-true, ltb-false}
 use Rattle.std.proofs.lemmas.List.{length-map}
 use Rattle.std.proofs.lemmas.List.Elements.{All-cons, All-nil, All-append, All-head, All-tail}
 use Rattle.std.proofs.lemmas.Option.{slice_get-map}
@@ -31,7 +31,7 @@ use Rattle.c_decls.specs.Typed.{is_function, has_no_size}
 use Rattle.c_decls.specs.declared.built_in.BuiltIn.{BuiltIn}
 use Rattle.c_decls.specs.declared.refusal.TypeKind.TheVariants.{DeclaredTwice, Incomplete, LeftOut, StaticTooLarge, ProgramTooLong, Undeclared, NoMain}
 use Rattle.elaboration.specs.Addressed.{addressed_in}
-use Rattle.elaboration.specs.Context.{Context, Variable, Declared, asked, emit, first_context, file_variable, literal_object}
+use Rattle.elaboration.specs.Context.{Context, Variable, Declared, asked, emit, first_context}
 use Rattle.elaboration.specs.Conversions.{size_or_zero}
 use Rattle.elaboration.specs.Declarations.{Storage, Typedef, storage_of, specs_alone, specs_before, function_number, with_function, declared_function, no_initializer, variable_number_of, with_new_variable, with_variable, start_of, start_in, started_variable, fill_variable, file_object, file_function, file_value, file_name, name_in, entry, entries, declaration}
 use Rattle.elaboration.specs.Declarators.{specs, layers}
@@ -39,7 +39,7 @@ use Rattle.elaboration.specs.Elaboration.{walked, elaborated}
 use Rattle.elaboration.specs.Externals.{begun, is_defined, body_begun, last_answer, piece_length, params_of, body_ended, body, defined, named_definition, definition, external, externals, calls_defined, is_main}
 use Rattle.elaboration.specs.Initializers.{Target, InStatic, initialize, surplus, no_start, with_init_layers, trimmed}
 use Rattle.elaboration.specs.Locals.{is_twice, declared_as}
-use Rattle.elaboration.specs.Resolving.{static_by, variable_static, literal_static, core_of, start_by}
+use Rattle.elaboration.specs.Resolving.{static_by, variable_static, plain_name, literal_static, core_of, start_by}
 use Rattle.elaboration.specs.Rules.{with_static}
 use Rattle.elaboration.specs.Statements.{around_body, items}
 use Rattle.core_soundness.specs.Laws.{HasLayouts}
@@ -411,7 +411,7 @@ pointers_slots count slots low (p ∷ ps) h = All-cons (λ (pointer : ℕ × ℕ
 
 -- a variable
 
-filled_static : (c : Context) (v : Variable) (s : Start) → IsLayoutOfType v.layout → Filled v.layout.slots v.layout.size s → PointersIn c.variables c.literals s.pointers → IsStatic (core_of c) (record { name = Some v.name; layout = v.layout; start = start_by c s })
+filled_static : (c : Context) (v : Variable) (s : Start) → IsLayoutOfType v.layout → Filled v.layout.slots v.layout.size s → PointersIn c.variables c.literals s.pointers → IsStatic (core_of c) (record { name = Some (plain_name v.name); layout = v.layout; start = start_by c s })
 filled_static c v s layout h p = record {
   layout = layout;
   inside = h.inside;
@@ -426,7 +426,7 @@ unfolding IsDistinct
 nothing_filled slots low = record { inside = omega arith; zeros = λ s k there small. refl; pointers = tt; distinct = tt }
 
 variable_sound : (c : Context) (v : Variable) (o : Option Start) → IsLayoutOfType v.layout → ((s : Start) → o ≡ Some s → Filled v.layout.slots v.layout.size s) → ((s : Start) → o ≡ Some s → PointersIn c.variables c.literals s.pointers)
-    → IsStatic (core_of c) (record { name = Some v.name; layout = v.layout; start = start_by c (unwrap_or o no_start) })
+    → IsStatic (core_of c) (record { name = Some (plain_name v.name); layout = v.layout; start = start_by c (unwrap_or o no_start) })
 variable_sound c v None layout h p = filled_static c v no_start layout (nothing_filled v.layout.slots v.layout.size) tt
 variable_sound c v (Some s) layout h p = filled_static c v s layout (h s refl) (p s refl)
 

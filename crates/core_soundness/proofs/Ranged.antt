@@ -26,7 +26,7 @@ use Rattle.core_tree.specs.declared.statements.Atom.TheVariants as atom
 use Rattle.core_tree.specs.declared.statements.CmpOp.{CmpOp}
 use Rattle.core_tree.specs.declared.statements.CmpOp.TheVariants as cmp
 use Rattle.core_tree.specs.declared.statements.StmKind.{StmKind}
-use Rattle.core_tree.specs.declared.statements.StmKind.TheVariants.{Enter, Leave, Set, Conv, Load, Loadp, Store, Storep, Test, Un, Bin, Cmp, Add, Sub, Off, Diff, Pcmp}
+use Rattle.core_tree.specs.declared.statements.StmKind.TheVariants.{Set, Conv, Load, Loadp, Store, Storep, Test, Un, Bin, Cmp, Add, Sub, Off, Diff, Pcmp}
 use Rattle.core_tree.specs.declared.statements.UnOp.TheVariants as un
 use Rattle.c_tree.specs.Tree.{Tree}
 use Rattle.c_tree.specs.declared.operator.BinaryOp.{BinaryOp}
@@ -41,12 +41,12 @@ use Rattle.c_decls.specs.Typed.{is_void, has_no_size, PlainTyped, Operand, Numbe
 use Rattle.c_decls.specs.declared.refusal.TypeKind.{TypeKind}
 use Rattle.c_decls.specs.declared.refusal.TypeKind.TheVariants.{Operands, Incomplete}
 use Rattle.elaboration.specs.Calls.{byte_layout, element_layout}
-use Rattle.elaboration.specs.Context.{Piece, Does, Here, Context, emit, here, integer_by, pointer_by, Variable, Walked, asked, told, anew, Code}
+use Rattle.elaboration.specs.Context.{Piece, Does, Here, Context, emit, here, integer_by, pointer_by, Variable, Walked, asked, told, Code}
 use Rattle.elaboration.specs.Conversions.{Found, code_line, valued, convert, atom_in, write, Spot, unused, size_or_zero, Local, Memory, Value, Empty, read_spot, read_value, valued_from, atom_of, holds_all, convert_integer, convert_to, tested}
 use Rattle.elaboration.specs.Expressions.{found}
 use Rattle.elaboration.specs.Initializers.{elements, struct_parts, parts_of}
 use Rattle.elaboration.specs.Operations.{offset_among, offset_of, working, Working, Calculates, Shifts, Compares, Branches, convert_both, work, on_integers, before_integer, move_pointer, between_pointers, pointer_beside, beside_integer, combine, combined, change, changed_to, member_address}
-use Rattle.elaboration.specs.Reallocates.{reallocates, opened, closed}
+use Rattle.elaboration.specs.Reallocates.{reallocates, opened}
 use Rattle.core_soundness.specs.Ranges.{IsStep, AtomIn, KindIn, PiecesIn, IsElement}
 use Rattle.core_soundness.specs.Solid.{MemsLaid, VariablesLaid, WalkedLaid, Solid}
 use Rattle.core_soundness.specs.Whole.{Whole, AreMade, TableWhole, NamesWhole, MembersWhole}

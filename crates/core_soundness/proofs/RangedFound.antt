@@ -1,5 +1,5 @@
 -- Expressions keep the numbers of statements in range.
-use Rattle.std.proofs.Common.{◌≡◌, ◌<◌, ◌+◌, ◌&&◌, ◌^◌, not, ℕ, pos, zero, suc, Bool, true, false, cond, length, drop, List, [], ◌∷◌, ◌++◌, slice_get, Option, Some, None, unwrap_or, Ok, refl, sym, subst, arith, option_map, ◌∙◌, ℤ}
+use Rattle.std.proofs.Common.{◌≡◌, ◌<◌, ◌+◌, ◌&&◌, ◌^◌, not, ℕ, pos, zero, suc, Bool, true, false, length, drop, List, [], ◌∷◌, ◌++◌, slice_get, Option, Some, None, unwrap_or, Ok, refl, sym, subst, arith, option_map, ℤ}
 use Rattle.std.proofs.lemmas.Int.{ints}
 use Rattle.std.specs.Prelude.{slice_index_or}
 use Rattle.hs_base.specs.declared.ends.IntKind.TheVariants.{I8}
@@ -29,7 +29,7 @@ use Rattle.c_decls.specs.Callees.{named, built_in_named, built_in_value, Callee,
 use Rattle.c_decls.specs.Expressions.{line_of, string, typed, int_constant, char_constant, joined, first_literal, typename}
 use Rattle.c_decls.specs.Named as n
 use Rattle.c_decls.specs.Named.{PlainNamed}
-use Rattle.c_decls.specs.PlaceRules.{element, element_types, dot, arrow, cast, choice, assigned, changed, changed_types, moves, held_place, size, size_answer}
+use Rattle.c_decls.specs.PlaceRules.{element, element_types, dot, arrow, cast, choice, assigned, changed, changed_types, moves, size, size_answer}
 use Rattle.c_decls.specs.Refusals.{Checked, then}
 use Rattle.c_decls.specs.ScopeList.{found as declaration}
 use Rattle.c_decls.specs.TypeNames as names
@@ -41,8 +41,8 @@ use Rattle.c_decls.specs.declared.constant.Constant.{Constant}
 use Rattle.c_decls.specs.declared.refusal.TypeKind.TheVariants.{Operands, StaticTooLarge}
 use Rattle.elaboration.specs.Assignments.{record_assigned, scalar_assigned, old_value, changed_answer, changed_by, one_found, stepped}
 use Rattle.elaboration.specs.Calls.{Argument, atoms_of, atom_at, argument_from, lib_name, result_by, with_format, call_built_in, call_of_built_in, call_named, element_layout, types_of, first_type, rest_types}
-use Rattle.elaboration.specs.Context.{Code, Context, emit, here, new_label, with_labels, integer_by, With, asked, told, Walked, anew}
-use Rattle.elaboration.specs.Conversions.{Found, Spot, Value, Nowhere, found_as, atom_in, valued_from, convert, forget, tested_value, code_line, write, size_or_zero, valued_as, valued, unused}
+use Rattle.elaboration.specs.Context.{Code, Context, emit, here, new_label, with_labels, integer_by, asked, told, Walked, anew}
+use Rattle.elaboration.specs.Conversions.{Found, Spot, Value, found_as, atom_in, valued_from, convert, tested_value, code_line, write, size_or_zero, valued_as, valued, unused}
 use Rattle.elaboration.specs.Expressions.{name_answer, literal_answer, unevaluated, changing, comma_answer, callee, callee_name, parameters, format_argument, is_printf, call_answer, found, arguments, cast_operand}
 use Rattle.elaboration.specs.Operations.{working, Branches, offset_of, operator_of, changed_to}
 use Rattle.elaboration.specs.Reallocates.{reallocates, opened, closed}

@@ -22,6 +22,7 @@ use Rattle.elaboration.specs.Calls.{built_in_at}
 use Rattle.elaboration.specs.Context.{Declared, Walked}
 use Rattle.elaboration.specs.Reallocates.{is_realloc}
 use Rattle.core_soundness.specs.Spoken.{is_register, NoRegister, TakesAddress, Spoken, AllSpoken}
+use Rattle.core_soundness.specs.Texts.{WordNames, Names, AllNames}
 use Rattle.core_soundness.specs.Worlds.{World, FileFits, TableFits}
 use Rattle.core_soundness.specs.Written.{Written, AllWritten}
 use Rattle.core_soundness.proofs.Choices.{either_way, some_same}
@@ -547,21 +548,6 @@ module _ (fs : List Declared) (file : Table) (ws : List Walked) (w : Walked) (in
 
 -- trees by what is so of their names; those whose names are short, and all
 
--- W of each name
-abbrev pub WordNames : (List ℕ → Type 0) → Word → Type 0
-WordNames W (w.Name bytes) = W bytes
-WordNames W _ = Unit {0}
-
-abbrev mutual
-  pub Names : (List ℕ → Type 0) → Tree → Type 0
-  Names W (Leaf word) = WordNames W word
-  Names W (At line) = Unit {0}
-  Names W (Node _ parts) = AllNames W parts
-
-  pub AllNames : (List ℕ → Type 0) → Trees → Type 0
-  AllNames W none = Unit {0}
-  AllNames W (tree ▹ rest) = Names W tree × AllNames W rest
-
 module _ (W : List ℕ → Type 0) where
   word_named : (word : Word) → WordNames W word → IfSome (word_name word) W
   word_named (w.Name bytes) h = h
@@ -588,9 +574,6 @@ module _ (W : List ℕ → Type 0) where
     among_named (tree ▹ rest) h = either_named (name_of tree) (name_among rest) (name_named tree h.0) (among_named rest h.1)
 
 -- names that are short
-abbrev pub ShortWord : Word → Type 0
-ShortWord word = WordNames IsShort word
-
 abbrev pub Short : Tree → Type 0
 Short tree = Names IsShort tree
 

@@ -3,7 +3,6 @@ use Rattle.std.proofs.Common.{◌≡◌, ◌⊎◌, ◌≤◌, ◌<◌, ◌+◌,
 use Rattle.std.proofs.lemmas.Bool.{eqb-true, eq-eqb, leb-true, and_parts, cases_lt}
 use Rattle.std.proofs.lemmas.List.{reverse-append, reverse-reverse, length-reverse, length-replicate}
 use Rattle.std.specs.List.{flat_map, range_with_len, list_any, list_all, IsDistinct, AllByRecursion, find}
-use Rattle.std.specs.Option.{option_or}
 use Rattle.std.specs.Prelude.{nat_le, nat_eq}
 use Rattle.c_types.proofs.MemberLemmas.{Extends, some_array}
 use Rattle.c_types.proofs.Places.{stays_known}

@@ -18,7 +18,7 @@ use Rattle.c_decls.specs.Expressions as types
 use Rattle.c_decls.specs.Expressions.{line_of, int_constant, char_constant, joined, literal, typed, typename}
 use Rattle.c_decls.specs.Named as n
 use Rattle.c_decls.specs.Named.{PlainNamed}
-use Rattle.c_decls.specs.PlaceRules.{held_place, choice, size_answer}
+use Rattle.c_decls.specs.PlaceRules.{choice, size_answer}
 use Rattle.c_decls.specs.Refusals.{Checked, then}
 use Rattle.c_decls.specs.ScopeList as scopes
 use Rattle.c_decls.specs.ScopeList.{named_in, found_from, found as declaration, ScopeList, Table, entered as scope_entered}

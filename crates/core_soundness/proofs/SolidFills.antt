@@ -1,12 +1,11 @@
 -- Initializers and declarations keep whole types, and what they make has the layouts of types (C99 6.7, 6.7.8, 6.9.2).
-use Rattle.std.proofs.Common.{◌≡◌, ◌≤◌, ◌+◌, not, ℕ, zero, suc, pos, Bool, true, false, cond, is_some, nat_lt, min, length, List, [], ◌∷◌, ◌++◌, slice_get, slice_set, Option, Some, None, unwrap_or, Ok, refl, subst, arith}
+use Rattle.std.proofs.Common.{◌≡◌, ◌≤◌, ◌+◌, not, ℕ, zero, suc, pos, Bool, true, false, is_some, nat_lt, min, length, List, [], ◌∷◌, slice_get, slice_set, Option, Some, None, unwrap_or, Ok, refl, subst, arith}
 use Rattle.hs_base.specs.Place.{block_size}
 use Rattle.c_types.proofs.MemberLemmas.{Extends}
 use Rattle.c_types.specs.Layouts.{Known, no_layout}
 use Rattle.c_types.specs.TagTable.{TagTable, known, layout_in}
 use Rattle.c_types.specs.Types as types
 use Rattle.c_types.specs.Types.{PlainType, Array, Struct, Union, Function}
-use Rattle.c_types.specs.declared.layouts.Layout.{Layout}
 use Rattle.core_tree.specs.LayoutsOfTypes.{IsLayoutOfType}
 use Rattle.core_tree.specs.Sound.{IsNumber}
 use Rattle.core_tree.specs.declared.program.Start.{Start}
@@ -43,7 +42,7 @@ use Rattle.core_soundness.proofs.CodeWalk.{quiet_literal}
 use Rattle.core_soundness.proofs.Growth.{grows_refl, Longer, grown_literal, Led, led_ok, led_refused, led_after, led_unless, led_barred, behind_string}
 use Rattle.core_soundness.proofs.Ranged as base
 use Rattle.core_soundness.proofs.Ranged.{In, in_emit, in_pointer, zero_number, small_number, size_number, SpotIn, spot_atom, convert_in, write_in, Within, PartsIn, within_stays, parts_stay, within_number, parts_in, starts_within, row_short, variables_push, K, same_kept, same_widens, converted_widens, laid, fit_of}
-use Rattle.core_soundness.proofs.RangedFound.{literal_in, same_cases, same_walked, Rises, rises_refl, rises_trans, opened_rises, closed_rises, went_rises, found_went, value_went, rises_more, coded_rises, with_code}
+use Rattle.core_soundness.proofs.RangedFound.{literal_in, Rises, rises_refl, rises_trans, opened_rises, closed_rises, went_rises, found_went, value_went, rises_more, coded_rises, with_code}
 use Rattle.core_soundness.proofs.SolidLayers.{T, R1, named_rises, declared_rises, typedef_rises, memory_rises, has_size, specs_rise, layers_rise, type_rises}
 use Rattle.core_soundness.proofs.Sorting.{passed}
 use Rattle.core_soundness.proofs.TagSorts.{tag_leads, SortedType, type_longer, innermost_sorted, tag_sorted, init_layers_sorted, Sorts, kinds_refl}

@@ -1,5 +1,5 @@
 -- Statements, functions and texts keep whole types, and numbers in range.
-use Rattle.std.proofs.Common.{take, drop, ◌≡◌, ◌≤◌, ◌+◌, ◌*◌, ◌-◌, not, ℕ, zero, suc, ℤ, Bool, true, false, cond, is_some, nat_lt, codes, All, length, map, List, [], ◌∷◌, ◌++◌, slice_get, sum_by, Option, Some, None, Ok, refl, sym, subst, arith, bytes_eq, pos}
+use Rattle.std.proofs.Common.{take, drop, ◌≡◌, ◌≤◌, ◌+◌, ◌*◌, ◌-◌, not, ℕ, zero, suc, ℤ, true, false, is_some, nat_lt, codes, All, length, map, List, [], ◌∷◌, ◌++◌, slice_get, sum_by, Option, Some, None, Ok, refl, sym, subst, arith, bytes_eq, pos}
 use Rattle.std.proofs.lemmas.List.Elements.{All-cons, All-nil}
 use Rattle.std.proofs.lemmas.List.Sums.{sum_by-append, sum_by-cons}
 use Rattle.std.specs.List.{flat_map}
@@ -31,12 +31,12 @@ use Rattle.c_decls.specs.Expressions.{line_of}
 use Rattle.c_decls.specs.IntegerTypes.{promoted}
 use Rattle.c_decls.specs.Named as n
 use Rattle.c_decls.specs.PlaceRules.{unconverted}
-use Rattle.c_decls.specs.Refusals.{Checked, refused, then, unless}
+use Rattle.c_decls.specs.Refusals.{Checked, then, unless}
 use Rattle.c_decls.specs.ScopeList.{named_in}
 use Rattle.c_decls.specs.TypeNames.{with_layers}
 use Rattle.c_decls.specs.Typed.{Operand, Number, operand, is_void, is_scalar, is_function}
 use Rattle.c_decls.specs.declared.built_in.BuiltIn.{BuiltIn}
-use Rattle.c_decls.specs.declared.refusal.TypeKind.TheVariants.{Operands, Assignment, StrayBreak, CaseTwice, LeftOut, DeclaredTwice, ProgramTooLong, Undeclared, NoMain}
+use Rattle.c_decls.specs.declared.refusal.TypeKind.TheVariants.{Operands, Assignment, StrayBreak, CaseTwice, LeftOut, DeclaredTwice, ProgramTooLong, NoMain}
 use Rattle.elaboration.specs.Addressed.{addressed_in}
 use Rattle.elaboration.specs.Context.{Here, Code, left, Context, Variable, Walked, scoped, entered, emit, here, new_label, with_labels, with_pieces, first_context, Declared, Piece, Does}
 use Rattle.elaboration.specs.Conversions.{Found, atom_in, valued, convert, convert_integer, tested_value, code_line, unused}
@@ -57,7 +57,7 @@ use Rattle.core_soundness.proofs.CodeWalk.{quiet_convert_integer}
 use Rattle.core_soundness.proofs.Cores.{behind as core_behind, core_sizes}
 use Rattle.core_soundness.proofs.Growth.{Led, led_ok, led_refused, led_after, led_unless, led_barred}
 use Rattle.core_soundness.proofs.Ranged.{walked_push, K, same_kept, same_widens, wrapped_number, In, in_emit, in_here, pieces_joined, zero_number, spot_atom, convert_integer_in}
-use Rattle.core_soundness.proofs.RangedFound.{tested_value_in, tested_solid, CasesIn, WalkedIn, same_cases, same_walked, Rises, rises_refl, rises_trans, closed_rises, Full, full_value, full_unused, with_code, rises_more, coded_rises}
+use Rattle.core_soundness.proofs.RangedFound.{tested_value_in, tested_solid, CasesIn, WalkedIn, Rises, rises_refl, rises_trans, closed_rises, Full, full_value, full_unused, with_code, rises_more, coded_rises}
 use Rattle.core_soundness.proofs.SolidFills.{declared_function_rises, declaration_rises, scalar_value}
 use Rattle.core_soundness.proofs.SolidLayers.{constant_rises, entered_solid, specs_rise, layers_rise}
 use Rattle.core_soundness.proofs.TagSorts.{none_sorted, entered_sorted, left_sorted, kinds_refl}

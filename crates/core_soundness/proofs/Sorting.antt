@@ -11,7 +11,7 @@ use Rattle.core_tree.specs.declared.statements.Atom.TheVariants as atom
 use Rattle.core_tree.specs.declared.statements.CmpOp.{CmpOp}
 use Rattle.core_tree.specs.declared.statements.CmpOp.TheVariants as cmp
 use Rattle.core_tree.specs.declared.statements.StmKind.{StmKind}
-use Rattle.core_tree.specs.declared.statements.StmKind.TheVariants.{Set, Conv, Un, Bin, Cmp, Add, Sub, Off, Diff, Pcmp, Test, Load, Loadp, Store, Storep, Copy, Clear, Zero, Case, Call, Malloc, Calloc, Realloc, Free, Lib, Printf, Return}
+use Rattle.core_tree.specs.declared.statements.StmKind.TheVariants.{Set, Conv, Un, Bin, Cmp, Add, Sub, Off, Diff, Pcmp, Test, Load, Loadp, Store, Storep, Call, Printf, Return}
 use Rattle.core_tree.specs.declared.statements.UnOp.TheVariants as un
 use Rattle.c_tree.specs.Tree.{Tree}
 use Rattle.c_tree.specs.declared.operator.BinaryOp.{BinaryOp}
@@ -21,13 +21,12 @@ use Rattle.c_tree.specs.declared.operator.UnaryOp.TheVariants as u
 use Rattle.c_decls.specs.Expressions.{line_of}
 use Rattle.c_decls.specs.IntegerTypes.{promoted, common_type}
 use Rattle.c_decls.specs.Named as n
-use Rattle.c_decls.specs.Refusals.{Refusal, Checked, refused, unless}
+use Rattle.c_decls.specs.Refusals.{Refusal, Checked, unless}
 use Rattle.c_decls.specs.ScopeList.{named_in}
 use Rattle.c_decls.specs.TypeNames as names
 use Rattle.c_decls.specs.TypeRules.{result_type, barred, moving, immovable, beside_pointer, sum_types, difference_types, order_types, equal_types, integer_types, binary}
 use Rattle.c_decls.specs.Typed.{PlainTyped, Operand, Number, PointerTo, Neither, operand, held, read, is_scalar, has_no_size, value, int, is_null_constant}
 use Rattle.c_decls.specs.declared.refusal.TypeKind.{TypeKind}
-use Rattle.c_decls.specs.declared.refusal.TypeKind.TheVariants.{PointerAndInteger}
 use Rattle.elaboration.specs.Context.{Piece, Does, Here, Context, told, emit, here, with_labels, integer_by, pointer_by, integer_temporary, pointer_temporary, With}
 use Rattle.elaboration.specs.Conversions.{Found, Spot, Local, Memory, Value, Empty, read_spot, read_value, code_line, valued_from, atom_in, holds_all, convert_integer, convert_to, convert, tested, tested_value, write, unused, size_or_zero}
 use Rattle.elaboration.specs.Operations.{working, Working, Calculates, Shifts, Compares, Branches, convert_both, work, on_integers, before_integer, move_pointer, between_pointers, pointer_beside, beside_integer, combine, change, changed_to, member_address}

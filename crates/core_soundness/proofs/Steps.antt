@@ -15,7 +15,7 @@ use Rattle.c_tree.specs.Scopes.{is_scope, places, name_of, name_among, first_nam
 use Rattle.c_tree.specs.Tree.{Tree, Trees, At, Node, none, ◌▹◌, count, Leaf}
 use Rattle.c_tree.specs.Words as w
 use Rattle.c_tree.specs.declared.operator.RecordSort.{RecordSort}
-use Rattle.c_decls.specs.Expressions.{line_of, string}
+use Rattle.c_decls.specs.Expressions.{line_of}
 use Rattle.c_decls.specs.Named as n
 use Rattle.c_decls.specs.Named.{PlainNamed}
 use Rattle.c_decls.specs.PlaceRules.{unconverted}

@@ -1,16 +1,14 @@
 -- The walk over addresses: what it adds, and what it leaves.
-use Rattle.std.proofs.Common.{◌≡◌, ℕ, Bool, true, false, ◌||◌, nat_eq, List, [], ◌∷◌, Option, Some, None, refl, ◌≤◌, sym, ap, ◌∙◌, zero, suc, length, ⊎_elim, ◌++◌, replicate}
+use Rattle.std.proofs.Common.{◌≡◌, ℕ, Bool, true, false, ◌||◌, nat_eq, List, [], ◌∷◌, Option, Some, None, refl, ◌≤◌, sym, ap, ◌∙◌, zero, suc, length, ⊎_elim}
 use Rattle.std.specs.List.{list_any}
 use Rattle.std.specs.Option.{option_or}
 use Rattle.c_tree.specs.Forms as f
 use Rattle.c_tree.specs.Forms.{Form}
-use Rattle.c_tree.specs.Grammar.{shape, Part, key, rows, some, commas, behind_commas, some_commas, here_rows}
-use Rattle.c_tree.specs.Places as p
+use Rattle.c_tree.specs.Grammar.{shape, rows, some, commas, behind_commas, some_commas, here_rows}
 use Rattle.c_tree.specs.Places.{Place}
 use Rattle.c_tree.specs.Scopes.{name_among, is_scope, places}
 use Rattle.c_tree.specs.Tree.{Tree, Trees, Node, none, ◌▹◌, count, Leaf, At}
 use Rattle.c_tree.specs.declared.operator.UnaryOp.TheVariants as u
-use Rattle.c_tree.specs.declared.word.Keyword.TheVariants as k
 use Rattle.c_decls.specs.Named as n
 use Rattle.c_decls.specs.Named.{PlainNamed, Tag}
 use Rattle.c_decls.specs.ScopeList as scopes
@@ -20,7 +18,7 @@ use Rattle.elaboration.specs.Context.{Context, left as left_context}
 use Rattle.core_soundness.specs.Spoken.{is_register}
 use Rattle.core_soundness.specs.Worlds.{World, world, FileFits, TableFits}
 use Rattle.core_soundness.specs.Written.{HasParts, Written, AllWritten}
-use Rattle.core_soundness.proofs.Formed.{NoNodes, Shaped, Formed, AllFormed, behind_stars}
+use Rattle.core_soundness.proofs.Formed.{NoNodes, Shaped, Formed, AllFormed}
 use Rattle.core_soundness.proofs.Scopes.{More, MoreAll, IsNewTag}
 
 -- of which parameters and locals the address was taken stays known behind each tree

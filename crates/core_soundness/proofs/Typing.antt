@@ -1,5 +1,5 @@
 -- The functions of a text are typed.
-use Rattle.std.proofs.Common.{◌≡◌, ◌≤◌, ◌+◌, ◌&&◌, ◌||◌, ℕ, suc, Bool, true, false, not, cond, nat_lt, reverse, is_some, map, length, List, [], ◌∷◌, ◌++◌, slice_get, Option, Some, None, IsSome, Ok, refl, sym, ap, ◌∙◌, subst, inl, inr, ⊎_elim, arith, bytes_eq, ◌<◌, zero, codes, replicate, take, unwrap_or, option_map, length-append}
+use Rattle.std.proofs.Common.{◌≡◌, ◌≤◌, ◌+◌, ◌&&◌, ◌||◌, ℕ, suc, Bool, true, false, not, cond, nat_lt, reverse, is_some, map, length, List, [], ◌∷◌, ◌++◌, slice_get, Option, Some, None, IsSome, Ok, refl, sym, ap, ◌∙◌, subst, inl, inr, ⊎_elim, arith, bytes_eq, ◌<◌, zero, codes, replicate, take, unwrap_or, option_map, length-append, IfSome, count_by}
 use Rattle.std.proofs.lemmas.List.{length-map}
 use Rattle.std.proofs.lemmas.Slice.Eq.{bytes_eq-Decides}
 use Rattle.std.proofs.lemmas.Bool.{and_parts}
@@ -48,13 +48,14 @@ use Rattle.core_soundness.specs.Spoken.{IsList, HasLists, HasParameters, IsDefin
 use Rattle.core_soundness.specs.Worlds.{World, world, walked_world, FitsAnswer, PiecesFit, InnerFits, FileFits, TableFits, TablesFit, result_sort, param_sorts, IsCall}
 use Rattle.core_soundness.specs.Written.{Written, AllWritten, AreWritten}
 use Rattle.core_soundness.proofs.Agreeing.{came}
-use Rattle.core_soundness.proofs.Cores.{behind}
+use Rattle.core_soundness.proofs.Cores.{behind, count_main}
 use Rattle.core_soundness.proofs.DeclaredSteps.{Begun, layers_start, body_step}
 use Rattle.core_soundness.proofs.Formed.{Shaped, Formed, AllFormed, HasParams, AreFormed}
 use Rattle.core_soundness.proofs.Growth.{good, ok_same, never, bad, behind_test}
 use Rattle.core_soundness.proofs.Landing.{not_false}
 use Rattle.core_soundness.proofs.LayersRun.{specs_run, layers_run, suffixes_run, suffix_runs, first_fits, params_run}
 use Rattle.core_soundness.proofs.LocalsRun.{file_declaration_runs, function_runs}
+use Rattle.core_soundness.proofs.OwnNames.{IsOwn, HasOwnName, HaveOwnNames}
 use Rattle.core_soundness.proofs.Parameters.{specs_counts, sorts, functions, function_sorts, functions_joined, functions_reversed, functions_one, makes_function, specs_sorts, layers_added}
 use Rattle.core_soundness.proofs.Resolved.{result_resolves, all_resolve, statements_resolve, returns_resolve}
 use Rattle.core_soundness.proofs.Scopes.{named_push, get_push, no_scope}
@@ -73,6 +74,7 @@ pub record WalkedFits (c : Context) (x : Walked) : Type 0 where
   pub answer : PlainType
   pub params : PlainTypes
   pub index : ℕ
+  pub own : IsOwn x.name
   pub named : named_in x.name c.scopes.file ≡ Some (n.Function (Function answer params) index)
   pub lined : 1 ≤ x.running.line
   pub fits : PiecesFit (result_sort answer) (walked_world c x) x.code.pieces
@@ -106,6 +108,7 @@ walked_on c d x s h = record {
   answer = h.answer;
   params = h.params;
   index = h.index;
+  own = h.own;
   named = s.file x.name (Function h.answer h.params) h.index h.named;
   lined = h.lined;
   fits = pieces_grew (result_sort h.answer) (walked_world c x) (walked_world d x) x.code.pieces (walked_grew c d x s) h.fits;
@@ -249,10 +252,10 @@ last_fits v (types.Pointer target) e = refl
 last_fits v other e = cc
 
 -- the body of a function of a name, in front of which c stands between external declarations
-body_between : (line end : ℕ) (name : List ℕ) (answer : PlainType) (ps : PlainTypes) (index : ℕ) (more : List Sort) (c e z : Context) → 1 ≤ end → Between c → Statics c e → e.walked ≡ c.walked → Fine e → CodeFits (result_sort answer) e → e.running.answer ≡ answer
+body_between : (line end : ℕ) (name : List ℕ) (answer : PlainType) (ps : PlainTypes) (index : ℕ) (more : List Sort) (c e z : Context) → IsOwn name → 1 ≤ end → Between c → Statics c e → e.walked ≡ c.walked → Fine e → CodeFits (result_sort answer) e → e.running.answer ≡ answer
     → (is_array answer || is_function answer || is_record answer) ≡ false → named_in name e.scopes.file ≡ Some (n.Function (Function answer ps) index) → map sort_of e.running.locals ≡ param_sorts ps ++ more
     → body_ended line name (Function answer ps) end e ≡ Ok z → Between z
-body_between line end name answer ps index more c e z l h s same g fits is_answer plain there regs q =
+body_between line end name answer ps index more c e z own l h s same g fits is_answer plain there regs q =
     let x = emit end (Return (last_answer e.running.answer)) e in
     let r = return_fits (result_sort answer) end (last_answer e.running.answer) e l g (subst (λ (type : PlainType). FitsAnswer (world e) (result_sort answer) (last_answer type)) (sym is_answer) (last_fits (world e) answer plain)) in
     let w : Walked = record { name = name; params = length_of ps; running = x.running; code = x.code } in
@@ -264,7 +267,7 @@ body_between line end name answer ps index more c e z l h s same g fits is_answe
       flat = refl;
       walked = λ k v k_is. ⊎_elim
           (λ (old : slice_get e.walked k ≡ Some v). walked_on c made v (record { variables = s.variables; literals = s.literals; calls = s.calls; file = s.file }) (h.walked k v (subst (λ (ws : List Walked). slice_get ws k ≡ Some v) same old)))
-          (λ (new : (k ≡ length e.walked) × (v ≡ w)). subst (WalkedFits made) (sym new.1) (record { answer = answer; params = ps; index = index; named = there; lined = g.lined; fits = r.fits fits; count = refl; rest = more; sorted = regs }))
+          (λ (new : (k ≡ length e.walked) × (v ≡ w)). subst (WalkedFits made) (sym new.1) (record { answer = answer; params = ps; index = index; own = own; named = there; lined = g.lined; fits = r.fits fits; count = refl; rest = more; sorted = regs }))
           (get_push e.walked w k v k_is);
     })
 
@@ -280,10 +283,10 @@ locals_prefix (x ∷ xs) (y ∷ ys) h =
     first_same e = cc
 
 -- a definition: b is where it begins, and l behind its declarator
-defined_between : (line : ℕ) (name : List ℕ) (answer : PlainType) (ps : PlainTypes) (tree : Tree) (given : Option Trees) (numbers : List ℕ) (c b l z : Context) → Between c → Statics c b → b.walked ≡ c.walked → b.running.addressed ≡ numbers → Good numbers (params_taken given nothing_taken) tree → Begun given l
+defined_between : (line : ℕ) (name : List ℕ) (answer : PlainType) (ps : PlainTypes) (tree : Tree) (given : Option Trees) (numbers : List ℕ) (c b l z : Context) → IsOwn name → Between c → Statics c b → b.walked ≡ c.walked → b.running.addressed ≡ numbers → Good numbers (params_taken given nothing_taken) tree → Begun given l
     → Runs (result_sort answer) b l → CodeFits (result_sort answer) b → length l.scopes.inner ≡ 0 → ParamsFit l
     → (is_array answer || is_function answer || is_record answer) ≡ false → sorts l ≡ param_sorts ps → defined line name (Function answer ps) tree l ≡ Ok z → Between z
-defined_between line name answer ps (Node f.Body (Node f.Items parts ▹ At end ▹ t.none)) given numbers c b l z h s same addressed p begins r fits flat params plain regs q =
+defined_between line name answer ps (Node f.Body (Node f.Items parts ▹ At end ▹ t.none)) given numbers c b l z own h s same addressed p begins r fits flat params plain regs q =
     let start : Taken = params_taken given nothing_taken in
     let o = body_good numbers start end parts p in
     let index = function_number name l in
@@ -298,27 +301,27 @@ defined_between line name answer ps (Node f.Body (Node f.Items parts ▹ At end 
     let re = (items_run (result_sort answer) numbers parts start around_body begin o.1 st e.value e.is).runs in
     let prefix = locals_prefix l.running.locals e.value.running.locals (λ k reg x. re.grew.locals k reg (rd.grew.locals k reg x)) in
     let sl : Statics b e.value = statics_trans b d.value e.value (statics_of b d.value all.grew) (record { variables = re.grew.variables; literals = re.grew.literals; calls = re.grew.calls; file = re.grew.file }) in
-    body_between line end name answer ps index prefix.0 c e.value z o.0 h (statics_trans c b e.value s sl) (re.walked ∙ all.walked ∙ same)
+    body_between line end name answer ps index prefix.0 c e.value z own o.0 h (statics_trans c b e.value s sl) (re.walked ∙ all.walked ∙ same)
     re.fine (re.fits (all.fits fits)) re.answer plain (re.grew.file name (Function answer ps) index there) (prefix.1 ∙ ap (λ (ss : List Sort). ss ++ prefix.0) regs) e.last
-defined_between line name answer ps tree given numbers c b l z h s same addressed p begins r fits flat params plain regs q =
+defined_between line name answer ps tree given numbers c b l z own h s same addressed p begins r fits flat params plain regs q =
     let index = function_number name l in
     let d = came (declared_function line name (Function answer ps) l) q in
     never _ _ z (behind_test (is_defined (slice_get d.value.functions index)) DeclaredTwice line (body line name (Function answer ps) tree (body_begun index (Function answer ps) d.value)) z d.last)
 
 -- a definition by what its name and its type are
-named_between : (line : ℕ) (o : Option (List ℕ)) (type base : PlainType) (tree : Tree) (given : Option Trees) (numbers : List ℕ) (c b : Context) (l : Context × List Layer) (z : Context) → Between c → Statics c b → b.walked ≡ c.walked → b.running.addressed ≡ numbers → Good numbers (params_taken given nothing_taken) tree → (functions l.1 ≡ 1 → Begun given l.0)
+named_between : (line : ℕ) (o : Option (List ℕ)) (type base : PlainType) (tree : Tree) (given : Option Trees) (numbers : List ℕ) (c b : Context) (l : Context × List Layer) (z : Context) → IfSome o IsOwn → Between c → Statics c b → b.walked ≡ c.walked → b.running.addressed ≡ numbers → Good numbers (params_taken given nothing_taken) tree → (functions l.1 ≡ 1 → Begun given l.0)
     → ((answer : Option Sort) → Runs answer b l.0) → b.code ≡ no_code
     → length b.scopes.inner ≡ 0 → HasList l → (functions l.1 ≡ 1 → sorts l.0 ≡ function_sorts l.1) → with_layers l.0.tags l.1 base ≡ Ok type → named_definition line o type tree l.0 ≡ Ok z → Between z
-named_between line None type base tree given numbers c b l z h s same addressed p begins r code flat list regs made q = never _ _ z q
-named_between line (Some name) (Function answer ps) base tree given numbers c b l z h s same addressed p begins r code flat list regs made q =
+named_between line None type base tree given numbers c b l z own h s same addressed p begins r code flat list regs made q = never _ _ z q
+named_between line (Some name) (Function answer ps) base tree given numbers c b l z own h s same addressed p begins r code flat list regs made q =
     let m = makes_function l.0.tags l.1 base answer ps made list.some in
-    defined_between line name answer ps tree given numbers c b l.0 z h s same addressed p (begins m.single) (r (result_sort answer)) (subst (λ (x : Rattle.elaboration.specs.Context.Code). PiecesFit (result_sort answer) (world b) x.pieces) (sym code) tt)
+    defined_between line name answer ps tree given numbers c b l.0 z own h s same addressed p (begins m.single) (r (result_sort answer)) (subst (λ (x : Rattle.elaboration.specs.Context.Code). PiecesFit (result_sort answer) (world b) x.pieces) (sym code) tt)
     ((r (result_sort answer)).depth ∙ flat) list.params m.plain (regs m.single ∙ m.sorts) q
-named_between line (Some name) other base tree given numbers c b l z h s same addressed p begins r code flat list regs made q = never _ _ z q
+named_between line (Some name) other base tree given numbers c b l z own h s same addressed p begins r code flat list regs made q = never _ _ z q
 
-definition_between : (line : ℕ) (words declarator tree : Tree) (c z : Context) → 1 ≤ line → Written tree → Formed words → Formed (Node f.Declared (declarator ▹ t.none)) → Formed tree → HasParameters declarator → IsSome (params_of declarator) → Between c → definition line words declarator tree (begun line (addressed_in declarator tree) c) ≡ Ok z → Between z
+definition_between : (line : ℕ) (words declarator tree : Tree) (c z : Context) → 1 ≤ line → Written tree → Formed words → Formed (Node f.Declared (declarator ▹ t.none)) → Formed tree → HasParameters declarator → IsSome (params_of declarator) → IfSome (name_of declarator) IsOwn → Between c → definition line words declarator tree (begun line (addressed_in declarator tree) c) ≡ Ok z → Between z
 unfolding Formed AllFormed Shaped
-definition_between line words declarator tree c z one p form_words form_name form_tree has listed h q =
+definition_between line words declarator tree c z one p form_words form_name form_tree has listed own h q =
     let numbers : List ℕ = addressed_in declarator tree in
     let b = begun line numbers c in
     let g = begun_fine line numbers c one h in
@@ -327,25 +330,25 @@ definition_between line words declarator tree c z one p form_words form_name for
     let type = came (with_layers l.value.0.tags l.value.1 base.value.1) l.last in
     let first : (answer : Option Sort) → Runs answer b base.value.0 = λ answer. specs_run answer words b b (runs_refl answer b g) base.value base.is in
     let added = layers_added declarator base.value.0 l.value ((first None).depth ∙ h.flat) l.is in
-    named_between line (name_of declarator) type.value base.value.1 tree (params_of declarator) numbers c b l.value z h (record { variables = omega arith; literals = omega arith; calls = λ k x e. e; file = λ name t j e. e }) refl refl
+    named_between line (name_of declarator) type.value base.value.1 tree (params_of declarator) numbers c b l.value z own h (record { variables = omega arith; literals = omega arith; calls = λ k x e. e; file = λ name t j e. e }) refl refl
     (record { inside = λ k i. i; written = p; formed = form_tree })
     (λ single. (layers_start declarator base.value.0 l.value form_name.0.0 form_name.1.0 listed (ap (λ (x : ℕ × List ℕ × Table). x.0) (specs_counts words b base.value base.is)) ((first None).depth ∙ h.flat) (first None).fine.names.file l.is).begun single)
     (λ answer. layers_run answer declarator b base.value.0 (first answer) l.value l.is) refl h.flat
     (layers_list declarator None base.value.0 l.value has (first None).fine ((first None).depth ∙ h.flat) l.is)
     (λ single. added.adds.added ∙ ap (λ (ss : List Sort). ss ++ added.sorts_of) (specs_sorts words b base.value h.flat base.is) ∙ added.counts.one single) type.is type.last
 
-external_between : (tree : Tree) (c z : Context) → Written tree → Formed tree → HasParams tree → IsDefinition tree → Between c → external tree c ≡ Ok z → Between z
+external_between : (tree : Tree) (c z : Context) → Written tree → Formed tree → HasParams tree → IsDefinition tree → HasOwnName tree → Between c → external tree c ≡ Ok z → Between z
 unfolding external Written AllWritten Formed AllFormed
-external_between (Node f.Function (At line ▹ words ▹ Node f.Declared (declarator ▹ t.none) ▹ tree ▹ t.none)) c z p i j d h q = definition_between line words declarator tree c z p.1.0 p.1.1.1.1.0 i.1.1.0 i.1.1.1.0 i.1.1.1.1.0 d j h q
-external_between (Node f.Declaration (At line ▹ words ▹ names ▹ t.none)) c z p i j d h q = declared_between line words names c z p.1.0 p.1.1.1.0 h q
-external_between tree c z p i j d h q = never _ _ z q
+external_between (Node f.Function (At line ▹ words ▹ Node f.Declared (declarator ▹ t.none) ▹ tree ▹ t.none)) c z p i j d own h q = definition_between line words declarator tree c z p.1.0 p.1.1.1.1.0 i.1.1.0 i.1.1.1.0 i.1.1.1.1.0 d j own h q
+external_between (Node f.Declaration (At line ▹ words ▹ names ▹ t.none)) c z p i j d own h q = declared_between line words names c z p.1.0 p.1.1.1.0 h q
+external_between tree c z p i j d own h q = never _ _ z q
 
-pub externals_between : (unit : Trees) (c z : Context) → AreWritten unit → AreFormed unit → Between c → externals unit c ≡ Ok z → Between z
+pub externals_between : (unit : Trees) (c z : Context) → AreWritten unit → AreFormed unit → HaveOwnNames unit → Between c → externals unit c ≡ Ok z → Between z
 unfolding externals
-externals_between t.none c z p i h q = subst Between (ok_same c z q) h
-externals_between (tree ▹ rest) c z p i h q =
+externals_between t.none c z p i own h q = subst Between (ok_same c z q) h
+externals_between (tree ▹ rest) c z p i own h q =
     let d = came (external tree c) q in
-    externals_between rest d.value z p.1 i.1 (external_between tree c d.value p.0.0 i.0.0 i.0.1 p.0.1 h d.is) d.last
+    externals_between rest d.value z p.1 i.1 own.1 (external_between tree c d.value p.0.0 i.0.0 i.0.1 p.0.1 own.0 h d.is) d.last
 
 built_fit : (v : World) (k : ℕ) (list : List BuiltIn) → TableFits (FileFits v) (numbered_from k list)
 built_fit v k [] name x e = cc
@@ -384,13 +387,13 @@ pub record Ended (c : Context) : Type 0 where
   pub sane : Sane c
   pub called : (k f line : ℕ) → slice_get c.calls k ≡ Some (f, line) → is_defined (slice_get c.functions f) ≡ true
 
-pub text_ended : (unit : Trees) (c : Context) → AreWritten unit → AreFormed unit → walked unit ≡ Ok c → Ended c
-text_ended unit c p i h =
+pub text_ended : (unit : Trees) (c : Context) → AreWritten unit → AreFormed unit → HaveOwnNames unit → walked unit ≡ Ok c → Ended c
+text_ended unit c p i own h =
     let x = came (externals unit first_context) h in
     let d = came (calls_defined x.value.functions x.value.calls x.value) x.last in
     let same : x.value ≡ c = calls_same x.value.functions x.value.calls x.value d.value d.is ∙ passed (not (is_main d.value.functions (named_in (codes "main") d.value.scopes.file))) NoMain 1 d.value c d.last in
     record {
-      between = subst Between same (externals_between unit first_context x.value p i first_between x.is);
+      between = subst Between same (externals_between unit first_context x.value p i own first_between x.is);
       sane = walked_sane unit c h;
       called = λ k f line. subst (λ (y : Context). slice_get y.calls k ≡ Some (f, line) → is_defined (slice_get y.functions f) ≡ true) same (λ e. defined_calls x.value.functions x.value.calls x.value d.value k f line d.is e);
     }
@@ -519,10 +522,10 @@ each_types c [] core s h i func e = cc
 each_types c (x ∷ xs) core s h zero func e = subst (HasTypes core) (some_same (function_of c x) func e) (h x 0 refl)
 each_types c (x ∷ xs) core s h (suc i) func e = each_types c xs core s (λ y k q. h y (suc k) q) i func e
 
-pub core_types : (unit : Trees) (core : Core) (tags : TagTable) → AreWritten unit → AreFormed unit → elaborated unit ≡ Ok (core, tags) → EachFunc core (HasTypes core)
-core_types unit core tags p i q =
+pub core_types : (unit : Trees) (core : Core) (tags : TagTable) → AreWritten unit → AreFormed unit → HaveOwnNames unit → elaborated unit ≡ Ok (core, tags) → EachFunc core (HasTypes core)
+core_types unit core tags p i own q =
     let b = behind unit core tags q in
-    let e = text_ended unit b.context p i b.is in
+    let e = text_ended unit b.context p i own b.is in
     subst (λ (x : Core). EachFunc x (HasTypes x)) b.made
     (λ i func at. each_types b.context b.context.walked (core_of b.context) refl (λ x k h. function_types b.context x e (e.between.walked k x h)) i func at)
 
@@ -554,18 +557,25 @@ walked_at c [] k func e = cc
 walked_at c (w ∷ ws) zero func e = (w, refl, some_same (function_of c w) func e)
 walked_at c (w ∷ ws) (suc k) func e = walked_at c ws k func e
 
-pub core_main_typed : (unit : Trees) (core : Core) (tags : TagTable) → AreWritten unit → AreFormed unit → elaborated unit ≡ Ok (core, tags) → ForSome (slice_get core.funcs (main_of core)) (IsMain core)
-core_main_typed unit core tags p i q =
+pub core_main : (unit : Trees) (core : Core) (tags : TagTable) → AreWritten unit → AreFormed unit → HaveOwnNames unit → elaborated unit ≡ Ok (core, tags) → count_by is_main_function core.funcs ≡ 1
+core_main unit core tags p i own q =
+    let b = behind unit core tags q in
+    let e = text_ended unit b.context p i own b.is in
+    subst (λ (x : Core). count_by is_main_function x.funcs ≡ 1) b.made
+    (count_main b.context (walked_finished unit b.context b.is) (λ k x at. (e.between.walked k x at).own))
+
+pub core_main_typed : (unit : Trees) (core : Core) (tags : TagTable) → AreWritten unit → AreFormed unit → HaveOwnNames unit → elaborated unit ≡ Ok (core, tags) → ForSome (slice_get core.funcs (main_of core)) (IsMain core)
+core_main_typed unit core tags p i own q =
     let b = behind unit core tags q in
     let c = b.context in
-    let e = text_ended unit c p i b.is in
+    let e = text_ended unit c p i own b.is in
     let f = walked_finished unit c b.is in
     subst (λ (x : Core). ForSome (slice_get x.funcs (main_of x)) (IsMain x)) b.made
     (λ func at.
     let w = walked_at c c.walked (first_main (core_of c).funcs) func at in
     let h = e.between.walked (first_main (core_of c).funcs) w.0 w.1 in
     let named : func.name ≡ codes "main" = (bytes_eq-Decides func.name (codes "main")).0 (first_is_main (core_of c).funcs func at) in
-    let same_name : (w.0).name ≡ codes "main" = ap (λ (g : Func). g.name) w.2 ∙ named in
+    let same_name : (w.0).name ≡ codes "main" = h.own (ap (λ (g : Func). g.name) w.2 ∙ named) in
     let t = main_type c.functions (named_in (codes "main") c.scopes.file) h.answer h.params h.index (ap (λ (name : List ℕ). named_in name c.scopes.file) (sym same_name) ∙ h.named) f.main in
     subst (IsMain (core_of c)) w.2
     (record {

@@ -50,7 +50,8 @@ use Rattle.elaboration.specs.Rules.{with_literal, left_operand, and_then, or_els
 use Rattle.core_soundness.proofs.Agreeing.{came}
 use Rattle.core_soundness.proofs.CodeWalk.{Writes, PrintsShort, and_keeps, applied_keeps, argument_keeps, between_keeps, call_keeps, cast_keeps, changed_keeps, choice_keeps, dotted_keeps, indexed_keeps, left_keeps, old_keeps, or_keeps, pointed_keeps, record_keeps, scalar_assigned_keeps, stepped_keeps, unused_keeps, valued_keeps, read_keeps, convert_integer_keeps, convert_keeps, tested_keeps, write_keeps, combined_keeps, member_keeps}
 use Rattle.core_soundness.proofs.Growth.{good, ok_same, never, Reached, reached_ok, reached_refused, reached_after, reached_then, cast_unused, reached_unless, Led, led_ok, led_refused, led_unless, Grows, grows_refl, grows_trans, grows_emit, grows_integer, grows_pointer, grows_forgotten, grows_told, Grown, grows_fork, grows_format, grows_calls, grows_free, grown_literal}
-use Rattle.core_soundness.proofs.Scopes.{some_short, More, with_tag_more, Names, AllNames, name_named}
+use Rattle.core_soundness.specs.Texts.{Names, AllNames}
+use Rattle.core_soundness.proofs.Scopes.{some_short, More, with_tag_more, name_named}
 use Rattle.core_soundness.proofs.TagSorts.{typed_after, typename_after, After, wanted_after, special_after}
 
 -- how much trees weigh: six for each of their words

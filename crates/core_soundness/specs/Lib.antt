@@ -5,3 +5,4 @@ pub mod Ranges
 pub mod Worlds
 pub mod Spoken
 pub mod Written
+pub mod Texts

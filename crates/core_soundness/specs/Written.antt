@@ -33,7 +33,11 @@ unfoldable mutual
   AllWritten none = Unit {0}
   AllWritten (tree ▹ rest) = Written tree × AllWritten rest
 
+-- each of some trees is such a one
+abbrev pub Each : (Tree → Type 0) → Trees → Type 0
+Each P none = Unit {0}
+Each P (tree ▹ rest) = P tree × Each P rest
+
 -- external declarations, where each definition of a function has a parameter list
 abbrev pub AreWritten : Trees → Type 0
-AreWritten none = Unit {0}
-AreWritten (tree ▹ rest) = (Written tree × IsDefinition tree) × AreWritten rest
+AreWritten unit = Each (λ tree. Written tree × IsDefinition tree) unit

@@ -1,6 +1,6 @@
 //! Laws of the definitions.
 
-ghost use Rattle.std.specs.Prelude.{◌≡◌, ◌≤◌, ℕ, true, All, List, Ok, count_by, length, slice_get};
+ghost use Rattle.std.specs.Prelude.{◌≡◌, ◌≤◌, ℕ, true, All, List, [], ◌∷◌, Ok, count_by, length, slice_get};
 ghost use Rattle.c_print.specs.Format.{IsFormat};
 ghost use Rattle.c_print.specs.Pieces.{pieces_of};
 ghost use Rattle.c_decls.specs.Callees.{is_format};
@@ -22,6 +22,7 @@ ghost use Rattle.elaboration.specs.Elaboration.{elaborated, walked};
 ghost use Rattle.core_soundness.specs.Ranges.{PiecesIn};
 ghost use Rattle.core_soundness.specs.Solid.{Solid};
 ghost use Rattle.core_soundness.specs.Whole.{Whole};
+ghost use Rattle.core_soundness.specs.Texts.{AllNames, IsMadeOf, IsOfTexts, IsSmall};
 ghost use Rattle.core_soundness.specs.Written.{AreWritten, Written};
 ghost use Rattle.core_soundness.specs.Laws.{AreWithin, CallsInside, HasFlow, HasLayouts, HasRanges, HasShortLists, HasSizes, HasTypes};
 
@@ -41,9 +42,9 @@ pub fn types_agree()
     ensures { (tree : Tree) (wanted : PlainType) (c : Context) (d : Context × Found) → found tree wanted c ≡ Ok d → typed tree (asked c) ≡ Ok (asked d.0, d.1.typed) }
 {}
 
-/// Exactly one function of the core of a text is named `main` (C99 5.1.2.2.1).
+/// Exactly one function of the core of texts is named `main` (C99 5.1.2.2.1).
 pub fn one_main()
-    ensures { (unit : Trees) (core : Core) (tags : TagTable) → elaborated unit ≡ Ok (core, tags) → count_by is_main core.funcs ≡ 1 }
+    ensures { (texts : List (List Token)) (units : List Trees) (unit : Trees) (core : Core) (tags : TagTable) → IsMadeOf texts units unit → elaborated unit ≡ Ok (core, tags) → count_by is_main core.funcs ≡ 1 }
 {}
 
 /// Each call of the core of a text names one of its functions (C99 6.5.2.2).
@@ -54,12 +55,12 @@ pub fn calls_are_inside()
 /// In each function of the core of a text each statement has a line and names what is there, with operands, arguments and
 /// results of its sorts.
 pub fn statements_are_typed()
-    ensures { (tokens : List Token) (unit : Trees) (core : Core) (tags : TagTable) → All IsLexed tokens → HasTree tokens unit → elaborated unit ≡ Ok (core, tags) → EachFunc core (HasTypes core) }
+    ensures { (texts : List (List Token)) (units : List Trees) (unit : Trees) (core : Core) (tags : TagTable) → IsMadeOf texts units unit → elaborated unit ≡ Ok (core, tags) → EachFunc core (HasTypes core) }
 {}
 
 /// The function named `main` of the core of a text has no parameters, and its returns have integers (C99 5.1.2.2.1).
 pub fn main_answers()
-    ensures { (tokens : List Token) (unit : Trees) (core : Core) (tags : TagTable) → All IsLexed tokens → HasTree tokens unit → elaborated unit ≡ Ok (core, tags) → ForSome (slice_get core.funcs (main_of core)) (IsMain core) }
+    ensures { (texts : List (List Token)) (units : List Trees) (unit : Trees) (core : Core) (tags : TagTable) → IsMadeOf texts units unit → elaborated unit ≡ Ok (core, tags) → ForSome (slice_get core.funcs (main_of core)) (IsMain core) }
 {}
 
 /// A format that passes the test of formats is one, with the pieces that its bytes have (C99 7.19.6.1).
@@ -67,21 +68,32 @@ pub fn formats_are_read()
     ensures { (bytes : List ℕ) → is_format bytes ≡ true → IsFormat bytes (pieces_of bytes) }
 {}
 
-/// The tree of tokens has lines from 1 on and constants of at most 64 bits; members and initializers stand where braces
+/// The tree of one text is made of itself.
+pub fn texts_are_made_of_themselves()
+    ensures made { (tokens : List Token) (unit : Trees) → All IsLexed tokens → HasTree tokens unit → IsMadeOf (tokens ∷ []) (unit ∷ []) unit }
+    ensures small { (tokens : List Token) (unit : Trees) → All IsLexed tokens → length tokens ≤ 268435456 → All (λ token. IsShort token.bytes) tokens → HasTree tokens unit → IsOfTexts unit }
+{}
+
+/// Names with a suffix are shorter than 2 to the 32, where no token has more than 268,435,456 bytes.
+pub fn names_stay_short()
+    ensures { (texts : List (List Token)) (units : List Trees) (unit : Trees) → IsMadeOf texts units unit → All (λ tokens. All (λ token. length token.bytes ≤ 268435456) tokens) texts → AllNames IsShort unit }
+{}
+
+/// A tree made of those of texts has lines from 1 on and constants of at most 64 bits; members and initializers stand where braces
 /// are; and each definition of a function has a parameter list.
 pub fn trees_are_written()
-    ensures { (tokens : List Token) (unit : Trees) → All IsLexed tokens → HasTree tokens unit → AreWritten unit }
+    ensures { (texts : List (List Token)) (units : List Trees) (unit : Trees) → IsMadeOf texts units unit → AreWritten unit }
 {}
 
 /// Memory locals and statics of the core of a text have the layouts of types (C99 6.2.5, 6.7.2.1).
 pub fn layouts_are_of_types()
-    ensures { (tokens : List Token) (unit : Trees) (core : Core) (tags : TagTable) → All IsLexed tokens → HasTree tokens unit → elaborated unit ≡ Ok (core, tags) → HasLayouts core }
+    ensures { (unit : Trees) (core : Core) (tags : TagTable) → AreWritten unit → elaborated unit ≡ Ok (core, tags) → HasLayouts core }
 {}
 
 /// What is known behind a text has whole types: arrays of at least one element that are no larger than an object may be, and
 /// tags that were completed one after another with members of such types (C99 6.2.5, 6.7.2.1).
 pub fn types_are_whole()
-    ensures { (tokens : List Token) (unit : Trees) (c : Context) → All IsLexed tokens → HasTree tokens unit → walked unit ≡ Ok c → Solid c }
+    ensures { (unit : Trees) (c : Context) → AreWritten unit → walked unit ≡ Ok c → Solid c }
 {}
 
 /// Behind an expression every number of the code is in range, where types are whole and those of the code before it are:
@@ -93,12 +105,12 @@ pub fn numbers_are_kept()
 /// In each function of the core of a text every integer is one that a register holds, sizes of elements are from 1 to that of
 /// the largest object, and layouts of elements are those of types.
 pub fn numbers_are_in_range()
-    ensures { (tokens : List Token) (unit : Trees) (core : Core) (tags : TagTable) → All IsLexed tokens → HasTree tokens unit → elaborated unit ≡ Ok (core, tags) → EachFunc core HasRanges }
+    ensures { (unit : Trees) (core : Core) (tags : TagTable) → AreWritten unit → elaborated unit ≡ Ok (core, tags) → EachFunc core HasRanges }
 {}
 
 /// Each function of the core of a text is sound.
 pub fn functions_are_sound()
-    ensures { (tokens : List Token) (unit : Trees) (core : Core) (tags : TagTable) → All IsLexed tokens → HasTree tokens unit → elaborated unit ≡ Ok (core, tags) → EachFunc core (IsFunction core) }
+    ensures { (texts : List (List Token)) (units : List Trees) (unit : Trees) (core : Core) (tags : TagTable) → IsMadeOf texts units unit → elaborated unit ≡ Ok (core, tags) → EachFunc core (IsFunction core) }
 {}
 
 /// Each pointer that a static of the core of a text holds first names a static of the core, and an offset in it up to its end
@@ -111,7 +123,7 @@ pub fn static_pointers_are_inside()
 /// and the pointers that it holds first are at different slots of it, and name statics of the core and offsets up to their
 /// ends (C99 6.6, 6.7.8).
 pub fn statics_are_sound()
-    ensures { (tokens : List Token) (unit : Trees) (core : Core) (tags : TagTable) → All IsLexed tokens → HasTree tokens unit → elaborated unit ≡ Ok (core, tags) → All (IsStatic core) core.statics }
+    ensures { (unit : Trees) (core : Core) (tags : TagTable) → AreWritten unit → elaborated unit ≡ Ok (core, tags) → All (IsStatic core) core.statics }
 {}
 
 /// A text has no more tokens than bytes, and none of its tokens is longer than it.
@@ -119,13 +131,14 @@ pub fn tokens_are_within()
     ensures { (text : List ℕ) (tokens : List Token) → HasTokens text tokens → AreWithin (length text) tokens }
 {}
 
-/// In the core of a text the names, the formats and the lists of functions are shorter than 2 to the 32, where the text has at
-/// most 268,435,456 tokens, each of fewer than 2 to the 32 bytes.
+/// In the core of texts the names, the formats and the lists of functions are shorter than 2 to the 32, where the texts have
+/// at most 268,435,456 tokens together, and the names of their tree are shorter than 2 to the 32.
 pub fn lists_are_short()
-    ensures { (tokens : List Token) (unit : Trees) (core : Core) (tags : TagTable) → length tokens ≤ 268435456 → All (λ token. IsShort token.bytes) tokens → HasTree tokens unit → elaborated unit ≡ Ok (core, tags) → HasShortLists core }
+    ensures { (texts : List (List Token)) (units : List Trees) (unit : Trees) (core : Core) (tags : TagTable) → IsMadeOf texts units unit → IsSmall texts unit → elaborated unit ≡ Ok (core, tags) → HasShortLists core }
 {}
 
-/// The core of a text is sound, where the text has at most 268,435,456 tokens, each of fewer than 2 to the 32 bytes.
+/// The core of texts is sound, where they have at most 268,435,456 tokens together, and the names of their tree are shorter
+/// than 2 to the 32.
 pub fn cores_are_sound()
-    ensures { (tokens : List Token) (unit : Trees) (core : Core) (tags : TagTable) → All IsLexed tokens → length tokens ≤ 268435456 → All (λ token. IsShort token.bytes) tokens → HasTree tokens unit → elaborated unit ≡ Ok (core, tags) → IsSound core }
+    ensures { (unit : Trees) (core : Core) (tags : TagTable) → IsOfTexts unit → elaborated unit ≡ Ok (core, tags) → IsSound core }
 {}

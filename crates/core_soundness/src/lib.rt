@@ -15,7 +15,8 @@ mod laws;
 
 pub use laws::{
     calls_are_inside, control_flows, cores_are_sound, formats_are_read, functions_are_sound,
-    layouts_are_of_types, lists_are_short, main_answers, numbers_are_in_range, numbers_are_kept,
-    one_main, sizes_are_kept, statements_are_typed, static_pointers_are_inside, statics_are_sound,
-    tokens_are_within, trees_are_written, types_agree, types_are_whole,
+    layouts_are_of_types, lists_are_short, main_answers, names_stay_short, numbers_are_in_range,
+    numbers_are_kept, one_main, sizes_are_kept, statements_are_typed, static_pointers_are_inside,
+    statics_are_sound, texts_are_made_of_themselves, tokens_are_within, trees_are_written,
+    types_agree, types_are_whole,
 };

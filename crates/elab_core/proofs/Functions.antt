@@ -3,7 +3,7 @@ use Rattle.std.proofs.Common.{◌≡◌, ℕ, List, ◌++◌, length, replicate,
 use Rattle.core_tree.specs.declared.program.Func.{Func}
 use Rattle.core_tree.specs.declared.statements.Stm.{Stm}
 use Rattle.elaboration.specs.Context.{Piece, Declared, Walked, Context}
-use Rattle.elaboration.specs.Resolving.{register_by, static_by, function_by, point_in, body_of, numbers_of, temporary, pointer_register, function_of}
+use Rattle.elaboration.specs.Resolving.{register_by, static_by, function_by, point_in, body_of, numbers_of, temporary, pointer_register, plain_name, function_of}
 use Rattle.elab_core.specs.NumbersBy.{point_at, IsPlaced}
 
 pub body_is : (c : Context) (w : Walked) (locals integers variables : ℕ) (functions : List Declared) (ps : List Piece) (body : List Stm) →
@@ -19,7 +19,7 @@ pub placed_along : (xs ys : List ℕ) (total : ℕ) (ps qs : List Piece) → xs 
 placed_along xs ys total ps qs e p h =
     λ label. sym (ap (λ (points : List ℕ). point_at points total label) e) ∙ h label ∙ ap (λ (l : List Piece). point_in l label) p
 
-pub function_is : (c : Context) (w : Walked) (f : Func) → f.name ≡ w.name → f.line ≡ w.running.line → f.params ≡ w.params →
+pub function_is : (c : Context) (w : Walked) (f : Func) → f.name ≡ plain_name w.name → f.line ≡ w.running.line → f.params ≡ w.params →
     f.regs ≡ w.running.locals ++ (replicate w.code.most_integers temporary ++ replicate w.code.most_pointers pointer_register) → f.mems ≡ w.running.mems →
     f.body ≡ body_of (numbers_of c w) w.code.pieces → f.formats ≡ w.running.formats → f ≡ function_of c w
 function_is c w f name line params regs mems body formats =

@@ -1,3 +1,4 @@
 pub mod ByteLayouts
 pub mod Bodies
 pub mod Functions
+pub mod PlainNames

@@ -1,2 +1,3 @@
 pub mod NumbersBy
 pub mod StaticsBy
+pub mod PlainNames

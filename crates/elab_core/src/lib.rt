@@ -5,6 +5,7 @@
 //! error.
 #![tactic(auto)]
 
+mod names;
 mod numbers;
 mod points;
 mod program;

@@ -4,6 +4,7 @@ ghost use Rattle.std.specs.Prelude.{◌≡◌, ◌++◌, None, IfOk, length, map
 ghost use Rattle.elaboration.specs.Context.{Context};
 ghost use Rattle.elaboration.specs.Resolving.{variable_static, literal_static, function_of, core_of};
 
+use crate::names::plain_name;
 use crate::numbers::Numbers;
 use crate::points::{count, points_of};
 use crate::statics::{literal, variable};
@@ -56,7 +57,7 @@ fn function(
     let registers = with_registers(locals, integers, false)?;
     let registers = with_registers(registers, pointers, true)?;
     Ok(Func {
-        name,
+        name: plain_name(name),
         line,
         params,
         regs: Items::from(registers),

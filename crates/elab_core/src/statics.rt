@@ -5,6 +5,7 @@ ghost use Rattle.elaboration.specs.Context.{Context};
 ghost use Rattle.elaboration.specs.Resolving.{start_by, variable_static, literal_static};
 ghost use Rattle.elab_core.specs.StaticsBy.{pointer_by};
 
+use crate::names::plain_name;
 use crate::numbers::static_number;
 use c_types::Layout;
 use core_tree::{Start, Static};
@@ -63,7 +64,7 @@ pub(crate) fn variable(
         None => no_start(alloc),
     };
     Ok(Static {
-        name: Some(name),
+        name: Some(plain_name(name)),
         layout,
         start: first,
     })

@@ -108,10 +108,15 @@ temporary = record { name = None; pointer = false }
 abbrev pub pointer_register : Register
 pointer_register = record { name = None; pointer = true }
 
+-- a name without the suffix that its unit may have given it: its part before the first dot
+abbrev pub plain_name : List ℕ → List ℕ
+plain_name [] = []
+plain_name (b ∷ rest) = cond (b == 46) [] (b ∷ plain_name rest)
+
 -- a function of the core
 abbrev pub function_of : Context → Walked → Func
 function_of c w = record {
-  name = w.name;
+  name = plain_name w.name;
   line = w.running.line;
   params = w.params;
   regs = w.running.locals ++ (replicate w.code.most_integers temporary ++ replicate w.code.most_pointers pointer_register);
@@ -127,7 +132,7 @@ start_by c start =
 
 abbrev pub variable_static : Context → Variable → Static
 variable_static c v =
-    record { name = Some v.name; layout = v.layout; start = start_by c (unwrap_or v.start no_start) }
+    record { name = Some (plain_name v.name); layout = v.layout; start = start_by c (unwrap_or v.start no_start) }
 
 -- a literal has its bytes and a zero
 abbrev pub literal_static : List ℕ → Static

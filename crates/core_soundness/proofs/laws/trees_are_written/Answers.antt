@@ -1,5 +1,5 @@
-use Rattle.core_soundness.proofs.Formed as grammatical
+use Rattle.core_soundness.proofs.Texts as made
 use Rattle.core_soundness.proofs.laws.trees_are_written.Goals as goal
 
 pub returns : goal.returns
-returns c = grammatical.trees_written_all
+returns c = λ texts units unit m. (made.made_all texts units unit m).written

@@ -2,7 +2,7 @@ use Rattle.std.proofs.Common.{◌≡◌, List, ◌++◌, length, replicate, map,
 use Rattle.std.proofs.lemmas.Grind.{common_steps}
 use Rattle.core_tree.specs.declared.program.Reg.{Reg}
 use Rattle.elaboration.specs.Context.{Running, Code, Walked}
-use Rattle.elaboration.specs.Resolving.{temporary, pointer_register}
+use Rattle.elaboration.specs.Resolving.{temporary, pointer_register, plain_name}
 use Rattle.elab_base.specs.PlainPieces.{plain_piece}
 use Rattle.elab_core.specs.NumbersBy.{IsPlaced}
 use Rattle.elab_core.proofs.Functions.{body_is, placed_along, function_is}
@@ -12,7 +12,7 @@ pub returns : goal.returns
 returns c = λ d variables functions.
     let w : Walked = c.args.walked in
     let whole = c.into_parts-name.ensures in
-    let name : c.into_parts-name.result.0 ≡ w.name = λ i. (whole i).0 in
+    let name : c.plain_name.result ≡ plain_name w.name = c.plain_name.ensures ∙ (λ i. plain_name (whole i).0) in
     let params : c.into_parts-name.result.1 ≡ w.params = λ i. (whole i).1 in
     let running : c.into_parts-name.result.2 ≡ w.running = λ i. (whole i).2 in
     let code : c.into_parts-name.result.3 ≡ w.code = λ i. (whole i).3 in

@@ -1,0 +1,83 @@
+-- The name `main`, which no suffix makes of another name or another name of it.
+use Rattle.std.proofs.Common.{◌≡◌, ◌==◌, ℕ, Bool, true, false, cond, List, [], ◌∷◌, ◌++◌, ◌⊎◌, inl, inr, refl, sym, ap, ◌∙◌, subst, eq-eqb}
+use Rattle.std.proofs.lemmas.Bool.{eqb-true}
+use Rattle.std.proofs.lemmas.List.{append-nil}
+use Rattle.std.specs.Prelude.{codes, IfSome}
+use Rattle.c_lexer.specs.Bytes.{is_space, is_letter, is_digit, is_name_byte, class_of}
+use Rattle.c_lexer.specs.Pieces.{kind_of, IsToken}
+use Rattle.c_lexer.specs.declared.token.TokenKind.TheVariants as kind
+use Rattle.c_tree.specs.Forms as f
+use Rattle.c_tree.specs.Renaming.{IsDotted, IsSuffixed}
+use Rattle.c_tree.specs.Scopes.{name_of}
+use Rattle.c_tree.specs.Tree.{Tree, Trees, Node, none, ◌▹◌}
+use Rattle.elaboration.specs.Resolving.{plain_name}
+use Rattle.core_soundness.specs.Texts.{Names, AllNames}
+use Rattle.core_soundness.specs.Written.{Each}
+use Rattle.core_soundness.proofs.Scopes.{name_named}
+
+-- a name that is `main` without its suffix has none
+abbrev pub IsOwn : List ℕ → Type 0
+IsOwn name = plain_name name ≡ codes "main" → name ≡ codes "main"
+
+-- so is the name of a function that is defined, and of each of some
+abbrev pub HasOwnName : Tree → Type 0
+HasOwnName (Node f.Function (line ▹ words ▹ Node f.Declared (declarator ▹ none) ▹ body ▹ none)) =
+    IfSome (name_of declarator) IsOwn
+HasOwnName tree = Unit {0}
+
+abbrev pub HaveOwnNames : Trees → Type 0
+HaveOwnNames unit = Each HasOwnName unit
+
+-- a token that is a name
+
+-- a name is what it is without its suffix, or has a dot behind that
+IsCut : List ℕ → List ℕ → Type 0
+IsCut name cut = (name ≡ cut) ⊎ ((rest : List ℕ) × (name ≡ cut ++ 46 ∷ rest))
+
+cut_more : (b : ℕ) (name cut : List ℕ) → IsCut name cut → IsCut (b ∷ name) (b ∷ cut)
+unfolding IsCut
+cut_more b name cut (inl e) = inl (ap (λ (xs : List ℕ). b ∷ xs) e)
+cut_more b name cut (inr h) = inr (h.0, ap (λ (xs : List ℕ). b ∷ xs) h.1)
+
+name_cut : (name : List ℕ) → IsCut name (plain_name name)
+unfolding IsCut
+name_cut [] = inl refl
+name_cut (b ∷ rest) = by (b == 46) refl (cut_more b rest (plain_name rest) (name_cut rest))
+  where
+    by : (t : Bool) → (b == 46) ≡ t → IsCut (b ∷ rest) (b ∷ plain_name rest) → IsCut (b ∷ rest) (cond t [] (b ∷ plain_name rest))
+    by true e h = inr (rest, ap (λ (k : ℕ). k ∷ rest) (eqb-true b 46 e))
+    by false e h = h
+
+not_main : (rest : List ℕ) → IsToken kind.Name (codes "main" ++ 46 ∷ rest) → ⊥
+unfolding kind_of class_of is_space is_letter is_digit is_name_byte
+not_main rest e = cc
+
+pub own_name : (name : List ℕ) → IsToken kind.Name name → IsOwn name
+unfolding IsCut
+own_name name token e = by (name_cut name)
+  where
+    by : IsCut name (plain_name name) → name ≡ codes "main"
+    by (inl h) = h ∙ e
+    by (inr h) = absurd (not_main h.0 (subst (IsToken kind.Name) (h.1 ∙ ap (λ (cut : List ℕ). cut ++ 46 ∷ h.0) e) token))
+
+-- a suffix keeps that
+
+plain_suffix : (name suffix : List ℕ) → IsDotted suffix → plain_name (name ++ suffix) ≡ plain_name name
+plain_suffix [] [] h = refl
+plain_suffix [] (b ∷ rest) h = ap (λ (t : Bool). cond t [] (b ∷ plain_name rest)) (eq-eqb b 46 h)
+plain_suffix (b ∷ name) suffix h = ap (λ (xs : List ℕ). cond (b == 46) [] (b ∷ xs)) (plain_suffix name suffix h)
+
+pub own_kept : (name new : List ℕ) → IsSuffixed name new → IsOwn name → IsOwn new
+own_kept name new s own e =
+    let is : name ≡ codes "main" = own (sym (plain_suffix name s.suffix s.dotted) ∙ ap plain_name (sym s.is) ∙ e) in
+    s.is ∙ ap (λ (suffix : List ℕ). name ++ suffix) (s.main is) ∙ append-nil name ∙ is
+
+-- the names of functions that are defined
+
+own_tree : (tree : Tree) → Names IsOwn tree → HasOwnName tree
+own_tree (Node f.Function (line ▹ words ▹ Node f.Declared (declarator ▹ none) ▹ body ▹ none)) h = name_named IsOwn declarator h.1.1.0.0
+own_tree tree h = tt
+
+pub own_trees : (unit : Trees) → AllNames IsOwn unit → HaveOwnNames unit
+own_trees none h = tt
+own_trees (tree ▹ rest) h = (own_tree tree h.0, own_trees rest h.1)
