@@ -46,3 +46,4 @@ pub mod Grouped
 pub mod Gathered
 pub mod Working
 pub mod Onward
+pub mod Links

@@ -40,6 +40,7 @@ pub(crate) fn chosen(instr: Instr) -> Option<u32>
 impl State {
     /// Takes a step, and calls a function that costs so much, if the stack has room for it. While the call waits, the pointers that
     /// count at it are pinned. The memory locals of the function are made.
+    #[inline(always)]
     pub(crate) fn act_call<L: Ledger>(
         &mut self,
         code: &Code,
@@ -72,6 +73,7 @@ impl State {
     }
 
     /// A return with an answer. The memory locals of the call end, and the first that escapes ends the run.
+    #[inline(always)]
     pub(crate) fn act_return<L: Ledger>(
         &mut self,
         code: &Code,

@@ -289,10 +289,7 @@ impl Calls {
         let base = self.words.len();
         push_all(&mut self.words, args);
         push_first_words(&mut self.words, behind(kinds, args.len()));
-        match self.waiting.push(caller) {
-            Ok(()) => {}
-            Err(_) => unreachable!(),
-        }
+        self.waiting.push_reserved(caller);
         self.running = Call {
             func,
             point: point as usize,

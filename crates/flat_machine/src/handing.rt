@@ -22,6 +22,7 @@ fn unsigned(n: i64) -> i128
 
 impl State {
     /// Hands over what an instruction names.
+    #[inline(always)]
     pub(crate) fn act_hand(&mut self, instr: Instr, op: Op)
         requires point { self.old.calls.running.point + 1 < 2 ^ 64 }
         requires room { length self.old.handed < self.old.most }

@@ -26,6 +26,7 @@ mod growing;
 mod handing;
 mod holding;
 mod jumps;
+mod linking;
 mod load;
 mod loaded;
 mod locals;

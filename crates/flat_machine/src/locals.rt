@@ -25,6 +25,7 @@ pub(crate) fn size_of(code: &Code, layout: u32) -> u32
 impl State {
     /// Makes the memory locals of the running call, which is of a function, in their order. All their bytes are zero, and their
     /// pointers are null.
+    #[inline(always)]
     pub(crate) fn make_locals<L: Ledger>(
         &mut self,
         code: &Code,

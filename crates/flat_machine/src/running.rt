@@ -42,7 +42,7 @@ pub(crate) fn end_of_run<I: Source, O: Sink, L: Ledger>(
     step_stays_good();
     step_leaves_less();
     'instructions: loop {
-        state.go(code, loaded.turns.as_slice(), steps);
+        state.come_on(code, loaded, steps);
         match one_step(state, code, loaded, input, out, steps) {
             Ok(()) => {}
             Err(end) => return end,

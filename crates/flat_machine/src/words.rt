@@ -66,10 +66,7 @@ pub(crate) fn push(words: &mut Vec<Word>, word: Word)
     ensures len { vec_len words.new ≡ vec_len words.old + 1 }
     ensures capacity { vec_capacity words.old ≤ vec_capacity words.new }
 {
-    match words.push(word) {
-        Ok(()) => {}
-        Err(_) => unreachable!(),
-    }
+    words.push_reserved(word);
 }
 
 /// Adds words, for which memory was taken before.

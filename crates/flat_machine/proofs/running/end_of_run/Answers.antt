@@ -23,29 +23,29 @@ instructions-preserved g c =
     let moves = rw c.in-Ok.is at c.one_step.ensures.moves in
     let told = rw c.in-Ok.is at c.one_step.ensures.told in
     let known = c.instructions.invariant in
-    let room_is = room_next c.args.code.now c.requires.formed c.step_stays_good.ensures c.step_leaves_less.ensures c.go.new.self c.one_step.new.state c.go.ensures.well moves ∙ c.go.ensures.room in
+    let room_is = room_next c.args.code.now c.requires.formed c.step_stays_good.ensures c.step_leaves_less.ensures c.come_on.new.self c.one_step.new.state c.come_on.ensures.well moves ∙ c.come_on.ensures.room in
     record {
       input = faults.0 ∙ known.input;
       out = faults.1 ∙ known.out;
-      well = well_next c.args.code.now c.requires.formed c.step_stays_good.ensures c.step_leaves_less.ensures c.go.new.self c.one_step.new.state c.go.ensures.well moves;
+      well = well_next c.args.code.now c.requires.formed c.step_stays_good.ensures c.step_leaves_less.ensures c.come_on.new.self c.one_step.new.state c.come_on.ensures.well moves;
       room = room_is ∙ known.room;
       told = λ left n room taken stack first.
-          let r = c.go.ensures.told left n room taken _ _ (known.room ∙ stack) (known.told left n room taken stack first) in
-          reached_more c.args.code.now left n room taken c.go.new.self c.one_step.new.state _ _ _ _ r (good_more c.args.code.now c.requires.formed c.step_stays_good.ensures r.now r.good (has_place room.heap r.trace)) (room_is ∙ known.room ∙ stack) (λ after now. less_state c.args.code.now c.requires.formed c.step_stays_good.ensures c.step_leaves_less.ensures c.go.new.self c.one_step.new.state c.go.ensures.well moves r.now after r.stands now) (told r.stands.places r.now (taken ++ bytes_out r.trace) r.stands.stands r.good r.is_left r.is_taken);
+          let r = c.come_on.ensures.told left n room taken _ _ (known.room ∙ stack) (known.told left n room taken stack first) in
+          reached_more c.args.code.now left n room taken c.come_on.new.self c.one_step.new.state _ _ _ _ r (good_more c.args.code.now c.requires.formed c.step_stays_good.ensures r.now r.good (has_place room.heap r.trace)) (room_is ∙ known.room ∙ stack) (λ after now. less_state c.args.code.now c.requires.formed c.step_stays_good.ensures c.step_leaves_less.ensures c.come_on.new.self c.one_step.new.state c.come_on.ensures.well moves r.now after r.stands now) (told r.stands.places r.now (taken ++ bytes_out r.trace) r.stands.stands r.good r.is_left r.is_taken);
     }
 
 pub instructions-smaller : goal.instructions-smaller
 instructions-smaller g c =
     let moves = rw c.in-Ok.is at c.one_step.ensures.moves in
-    let less = less_next c.args.code.now c.requires.formed c.step_stays_good.ensures c.step_leaves_less.ensures c.go.new.self c.one_step.new.state c.go.ensures.well moves in
-    omega (arith, less, c.go.ensures.left)
+    let less = less_next c.args.code.now c.requires.formed c.step_stays_good.ensures c.step_leaves_less.ensures c.come_on.new.self c.one_step.new.state c.come_on.ensures.well moves in
+    omega (arith, less, c.come_on.ensures.left)
 
 pub returns-in-Err-clause-told : goal.returns-in-Err-clause-told
 returns-in-Err-clause-told g c = λ left n room taken stack first.
     let told = rw c.in-Err.is at c.one_step.ensures.told in
     let known = c.instructions.invariant in
-    let r = c.go.ensures.told left n room taken _ _ (known.room ∙ stack) (known.told left n room taken stack first) in
-    reached_end c.args.code.now left n room taken c.go.new.self c.one_step.new.state _ _ _ _ r (c.go.ensures.room ∙ known.room ∙ stack) c.in-Err.end (told r.stands.places r.now (taken ++ bytes_out r.trace) r.stands.stands r.good r.is_left r.is_taken)
+    let r = c.come_on.ensures.told left n room taken _ _ (known.room ∙ stack) (known.told left n room taken stack first) in
+    reached_end c.args.code.now left n room taken c.come_on.new.self c.one_step.new.state _ _ _ _ r (c.come_on.ensures.room ∙ known.room ∙ stack) c.in-Err.end (told r.stands.places r.now (taken ++ bytes_out r.trace) r.stands.stands r.good r.is_left r.is_taken)
 
 pub returns-in-Err-clause-faults : goal.returns-in-Err-clause-faults
 returns-in-Err-clause-faults g c =
@@ -54,7 +54,7 @@ returns-in-Err-clause-faults g c =
 
 pub returns-in-Err-clause-kept : goal.returns-in-Err-clause-kept
 returns-in-Err-clause-kept g c =
-    let w = c.go.ensures.well in
+    let w = c.come_on.ensures.well in
     let good : IsGoodSoFar c.args.code.now w.state = λ left bytes. good_input c.args.code.now w.state left bytes w.good in
     let images = rw c.in-Err.is at c.one_step.ensures.image in
     let image = images w.places w.state w.stands good in
@@ -65,5 +65,5 @@ returns-in-Err-clause-left g c = λ left n room taken stack first.
     let told = rw c.in-Err.is at c.one_step.ensures.told in
     let images = rw c.in-Err.is at c.one_step.ensures.image in
     let known = c.instructions.invariant in
-    let r = c.go.ensures.told left n room taken _ _ (known.room ∙ stack) (known.told left n room taken stack first) in
-    left_end c.args.code.now left n room taken c.go.new.self _ _ r _ _ c.one_step.new.state (c.go.ensures.room ∙ known.room ∙ stack) c.in-Err.end (told r.stands.places r.now (taken ++ bytes_out r.trace) r.stands.stands r.good r.is_left r.is_taken) (images r.stands.places r.now r.stands.stands r.good)
+    let r = c.come_on.ensures.told left n room taken _ _ (known.room ∙ stack) (known.told left n room taken stack first) in
+    left_end c.args.code.now left n room taken c.come_on.new.self _ _ r _ _ c.one_step.new.state (c.come_on.ensures.room ∙ known.room ∙ stack) c.in-Err.end (told r.stands.places r.now (taken ++ bytes_out r.trace) r.stands.stands r.good r.is_left r.is_taken) (images r.stands.places r.now r.stands.stands r.good)

@@ -7,4 +7,4 @@ pub returns : goal.returns
 returns c =
     let words = c.self.inside.words.items in
     let firsts = ap (λ kinds. c.push_all.new.words.items ++ map first_word kinds) c.behind.ensures in
-    enter_at words c.self.inside.locals.items c.self.inside.waiting.items c.self.inside.running c.self.inside.room c.self.invariant.0 c.args.self.now c.self.view_is c.args.args.now (map first_word (drop (length c.args.args.now) c.args.kinds.now)) c.push_first_words.new.words.items c.push.new.self.items _ c.args.cost (omega arith) (omega arith) refl (c.push_first_words.ensures.items ∙ firsts ∙ ap (λ ws. ws ++ map first_word (drop (length c.args.args.now) c.args.kinds.now)) c.push_all.ensures.items) c.in-Ok.ensures.items
+    enter_at words c.self.inside.locals.items c.self.inside.waiting.items c.self.inside.running c.self.inside.room c.self.invariant.0 c.args.self.now c.self.view_is c.args.args.now (map first_word (drop (length c.args.args.now) c.args.kinds.now)) c.push_first_words.new.words.items c.push_reserved.new.self.items _ c.args.cost (omega arith) (omega arith) refl (c.push_first_words.ensures.items ∙ firsts ∙ ap (λ ws. ws ++ map first_word (drop (length c.args.args.now) c.args.kinds.now)) c.push_all.ensures.items) c.push_reserved.ensures.items
