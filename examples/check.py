@@ -2,6 +2,7 @@
 """check.py [--quiet]: runs every program below this folder by ./heapsafe and compares what it writes and answers.
 
 NAME.c is run in its folder, with NAME.in as its input and the words of NAME.words behind its name, where there are such files.
+The files that NAME.units names are further units of the same program.
 It has to write NAME.out, to say NAME.err on the error stream, and to answer the status in NAME.status; where a file is missing,
 nothing or 0. README.md beside this script has to name every program. With --quiet it says only what differs."""
 
@@ -21,11 +22,18 @@ def content(path, otherwise=b""):
         return file.read()
 
 
+def units(stem):
+    """The files of the further units of a program."""
+    return content(stem + ".units").decode().split()
+
+
 def programs():
     """The programs, as paths from here, without their ending."""
     for folder, _, names in sorted(os.walk(HERE)):
+        stems = [os.path.join(folder, name[:-6]) for name in names if name.endswith(".units")]
+        further = {unit for stem in stems for unit in units(stem)}
         for name in sorted(names):
-            if name.endswith(".c"):
+            if name.endswith(".c") and name not in further:
                 yield os.path.relpath(os.path.join(folder, name[:-2]), HERE)
 
 
@@ -34,7 +42,7 @@ def difference(name):
     folder, base = os.path.split(os.path.join(HERE, name))
     stem = os.path.join(folder, base)
     words = content(stem + ".words").decode().split()
-    ran = subprocess.run([PROGRAM, "run", base + ".c", *words], cwd=folder, input=content(stem + ".in"), capture_output=True)
+    ran = subprocess.run([PROGRAM, "run", base + ".c", *units(stem), *words], cwd=folder, input=content(stem + ".in"), capture_output=True)
     wanted = (content(stem + ".out"), content(stem + ".err"), int(content(stem + ".status", b"0")))
     got = (ran.stdout, ran.stderr, ran.returncode)
     return None if got == wanted else f"{name}: got {got!r}, wanted {wanted!r}"

@@ -3,6 +3,7 @@ use Rattle.std.specs.Prelude.{true, codes, Some}
 use Rattle.clap.specs.declared.builder.action.ArgAction.TheVariants.{SetTrue}
 use Rattle.clap.specs.Words.{App, Shape, Rule, Text, new_app, new_rule, with_rule, with_subcommand}
 use Rattle.clap.specs.Simple.{on_top}
+use Rattle.clap.specs.Lexer.{usize_max}
 
 -- an argument that each use of its command needs
 abbrev pub needed : Text → Rule
@@ -12,6 +13,10 @@ needed name = record (new_rule name) { required = true }
 abbrev pub file : Rule
 file = needed (codes "FILE")
 
+-- the files of a command, one or more
+abbrev pub files : Rule
+files = record file { range = Some (record { start_inclusive = 1; end_inclusive = usize_max }) }
+
 -- an option with a value, at most once
 abbrev pub option : Text → Rule
 option name = record (new_rule name) { long = Some name }
@@ -20,22 +25,26 @@ option name = record (new_rule name) { long = Some name }
 abbrev pub flag : Text → Rule
 flag name = record (new_rule name) { long = Some name; action = Some SetTrue }
 
--- `NAME FILE [--heap N] [--stack N] [--steps N] [--leaks]`
-abbrev pub running : Text → App
-running name =
-    with_rule (with_rule (with_rule (with_rule (with_rule (new_app name) file) (option (codes "heap"))) (option (codes "stack"))) (option (codes "steps"))) (flag (codes "leaks"))
+-- a command with its file or files and what may be said of a run: `[--heap N] [--stack N] [--steps N] [--leaks]`
+abbrev pub running : Text → Rule → App
+running name word =
+    with_rule (with_rule (with_rule (with_rule (with_rule (new_app name) word) (option (codes "heap"))) (option (codes "stack"))) (option (codes "steps"))) (flag (codes "leaks"))
 
--- `mean FILE [--heap N] [--steps N]`
+-- `mean FILE.. [--heap N] [--steps N]`
 abbrev pub mean : App
-mean = with_rule (with_rule (with_rule (new_app (codes "mean")) file) (option (codes "heap"))) (option (codes "steps"))
+mean = with_rule (with_rule (with_rule (new_app (codes "mean")) files) (option (codes "heap"))) (option (codes "steps"))
 
--- a command with a file alone
-abbrev pub plain : Text → App
-plain name = with_rule (new_app name) file
+-- a command with its words alone
+abbrev pub plain : Text → Rule → App
+plain name word = with_rule (new_app name) word
+
+-- a command with files alone
+abbrev pub on_files : Text → App
+on_files name = plain name files
 
 -- `self N`
 abbrev pub generated : App
-generated = with_rule (new_app (codes "self")) (needed (codes "N"))
+generated = plain (codes "self") (needed (codes "N"))
 
 -- all words are arguments; there is one command, and no help and no version
 abbrev pub bare : Shape → Shape
@@ -51,7 +60,7 @@ bare shape = record shape {
 abbrev pub program : App
 program = on_top bare (new_app (codes "heapsafe"))
 
--- `run` and `mean`, `print FILE`, `layout FILE`, `list FILE` and `live FILE`, `self`, and `compile FILE` and `exec`
+-- `run` and `mean`, those with files alone, `self` and `exec`; how many files a command takes at most is no rule of `clap`
 unfoldable pub command_set : App
 command_set =
-    with_subcommand (with_subcommand (with_subcommand (with_subcommand (with_subcommand (with_subcommand (with_subcommand (with_subcommand (with_subcommand program (running (codes "run")).top) mean.top) (plain (codes "print")).top) (plain (codes "layout")).top) (plain (codes "list")).top) (plain (codes "live")).top) generated.top) (plain (codes "compile")).top) (running (codes "exec")).top
+    with_subcommand (with_subcommand (with_subcommand (with_subcommand (with_subcommand (with_subcommand (with_subcommand (with_subcommand (with_subcommand program (running (codes "run") files).top) mean.top) (on_files (codes "print")).top) (on_files (codes "layout")).top) (on_files (codes "list")).top) (on_files (codes "live")).top) generated.top) (on_files (codes "compile")).top) (running (codes "exec") file).top

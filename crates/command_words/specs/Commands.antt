@@ -1,8 +1,9 @@
 -- What the words of the command line ask for.
-use Rattle.std.specs.Prelude.{◌≡◌, ◌≤◌, ⊤, ℕ, Bool, false, cond, nat_eq, List as Listed, length, Option, Some, None, option_and_then, option_map, Result, Ok, Err, codes}
+use Rattle.std.specs.Prelude.{◌≡◌, ◌≤◌, ⊤, ℕ, Bool, false, ◌&&◌, cond, nat_eq, nat_le, List as Listed, length, map, Option, Some, None, option_and_then, option_map, Result, Ok, Err, codes}
+use Rattle.std.specs.List.{list_all}
 use Rattle.std.specs.Option.{option_map_or}
 use Rattle.std.specs.Str.{bytes_eq}
-use Rattle.clap.specs.Words.{Row, Text, first_of, fault_of, subcommand_of}
+use Rattle.clap.specs.Words.{Row, Text, all_of, first_of, fault_of, subcommand_of}
 use Rattle.command_words.specs.CommandSet.{command_set}
 use Rattle.command_words.specs.Numbers.{is_file, number_in, within}
 use Rattle.command_words.specs.declared.command.Options.{Options}
@@ -26,10 +27,10 @@ pub data Task : Type 0 where
   Live : Task
   Compile : Task
 
--- a task is done with the text of a file, the code in a file is run as a text would be, or a text is made with so many functions
--- and run
+-- a task is done with the program whose units are the texts of these files, the code in a file is run as such a program would be,
+-- or a text is made with so many functions and run
 pub data Command : Type 0 where
-  OnFile : (file : Listed ℕ) → (task : Task) → Command
+  OnFiles : (files : Listed Text) → (task : Task) → Command
   Execute : (file : Listed ℕ) → (heap stack steps : ℕ) → (leaks : Bool) → Command
   Generated : (number : ℕ) → Command
 
@@ -58,9 +59,23 @@ functions_in word = within 1 2000 (number_in word)
 abbrev pub flag_in : Text → Listed Row → Bool
 flag_in name rows = option_map_or (λ word. bytes_eq word (codes "true")) (first_of name rows) false
 
--- a task with a file
-abbrev pub with_file : Text → Task → Option Command
-with_file file task = cond (is_file file) (Some (OnFile file task)) None
+-- how many files a task takes at most
+abbrev pub most_files : Task → ℕ
+most_files Print = 1
+most_files _ = 64
+
+-- words that can be the files of a task: one at least, and not too many
+abbrev pub are_files : Task → Listed Text → Bool
+are_files task words =
+    nat_le 1 (length words) && nat_le (length words) (most_files task) && list_all is_file words
+
+-- a task with its files
+abbrev pub with_files : Listed Text → Task → Option Command
+with_files files task = cond (are_files task files) (Some (OnFiles files task)) None
+
+-- the same, by the values of its arguments
+abbrev pub files_in : Task → Listed Row → Option Command
+files_in task rows = option_and_then (λ files. with_files files task) (all_of (codes "FILE") rows)
 
 -- what a command says of a run, by the values of its arguments
 abbrev pub options_in : Listed Row → Option Options
@@ -70,7 +85,7 @@ options_in rows =
 -- what a command asks for, by the values of its arguments
 abbrev pub run_in : Listed Row → Option Command
 run_in rows =
-    option_and_then (λ file. option_and_then (λ (o : Options). with_file file (Run o.heap o.stack o.steps o.leaks)) (options_in rows)) (first_of (codes "FILE") rows)
+    option_and_then (λ (o : Options). files_in (Run o.heap o.stack o.steps o.leaks) rows) (options_in rows)
 
 abbrev pub exec_in : Listed Row → Option Command
 exec_in rows =
@@ -78,23 +93,20 @@ exec_in rows =
 
 abbrev pub mean_in : Listed Row → Option Command
 mean_in rows =
-    option_and_then (λ file. option_and_then (λ heap. option_and_then (λ steps. with_file file (Mean heap steps)) (steps_in (first_of (codes "steps") rows))) (heap_in (first_of (codes "heap") rows))) (first_of (codes "FILE") rows)
-
-abbrev pub plain_in : Task → Listed Row → Option Command
-plain_in task rows = option_and_then (λ file. with_file file task) (first_of (codes "FILE") rows)
+    option_and_then (λ heap. option_and_then (λ steps. files_in (Mean heap steps) rows) (steps_in (first_of (codes "steps") rows))) (heap_in (first_of (codes "heap") rows))
 
 abbrev pub self_in : Listed Row → Option Command
 self_in rows =
     option_and_then (λ word. option_map (λ n. Generated n) (functions_in word)) (first_of (codes "N") rows)
 
--- the task of a command with a file alone
+-- the task of a command with files alone
 abbrev pub task_named : Text → Option Task
 task_named name =
     cond (bytes_eq name (codes "print")) (Some Print) (cond (bytes_eq name (codes "layout")) (Some Layout) (cond (bytes_eq name (codes "list")) (Some List) (cond (bytes_eq name (codes "live")) (Some Live) (cond (bytes_eq name (codes "compile")) (Some Compile) None))))
 
 abbrev pub asked : Text → Listed Row → Option Command
 asked name rows =
-    cond (bytes_eq name (codes "run")) (run_in rows) (cond (bytes_eq name (codes "mean")) (mean_in rows) (cond (bytes_eq name (codes "exec")) (exec_in rows) (cond (bytes_eq name (codes "self")) (self_in rows) (option_and_then (λ task. plain_in task rows) (task_named name)))))
+    cond (bytes_eq name (codes "run")) (run_in rows) (cond (bytes_eq name (codes "mean")) (mean_in rows) (cond (bytes_eq name (codes "exec")) (exec_in rows) (cond (bytes_eq name (codes "self")) (self_in rows) (option_and_then (λ task. files_in task rows) (task_named name)))))
 
 -- words in which `clap` finds no fault ask for what their command and its values say; all other words are not taken
 abbrev pub command_of : Listed Text → Option Command
@@ -112,7 +124,7 @@ task_shown tasks.Live = Live
 task_shown tasks.Compile = Compile
 
 abbrev pub command_shown : code.Command → Command
-command_shown (commands.OnFile file task) = OnFile file.now (task_shown task)
+command_shown (commands.OnFiles files task) = OnFiles (map (λ w. w.now) files) (task_shown task)
 command_shown (commands.Execute file heap stack steps leaks) = Execute file.now heap stack steps leaks
 command_shown (commands.Generated number) = Generated number
 
@@ -128,14 +140,8 @@ IsLimited (Run heap stack steps leaks) = (heap ≤ 268435456) × (stack ≤ 6710
 IsLimited (Mean heap steps) = (heap ≤ 268435456) × (steps ≤ 1000000000)
 IsLimited _ = ⊤
 
--- the numbers of a command are within their limits
+-- the numbers of a command are within their limits, and so is how many files it has
 abbrev pub HasLimits : Command → Type 0
-HasLimits (OnFile file task) = IsLimited task
+HasLimits (OnFiles files task) = (1 ≤ length files) × (length files ≤ most_files task) × IsLimited task
 HasLimits (Execute file heap stack steps leaks) = IsLimited (Run heap stack steps leaks)
 HasLimits (Generated number) = (1 ≤ number) × (number ≤ 2000)
-
--- the command does this task with a file
-abbrev pub IsOnFile : code_task.Task → code.Command → Type 0
-IsOnFile wanted (commands.OnFile file task) = task ≡ wanted
-IsOnFile wanted (commands.Execute file heap stack steps leaks) = ⊥
-IsOnFile wanted (commands.Generated number) = ⊥

@@ -1,25 +1,31 @@
 //! What the words of the command line ask for.
 
 ghost use Rattle.std.specs.Prelude.{◌≡◌, ⊤, IfOk, IfSome, MatchOption, map, option_map};
-ghost use Rattle.clap.specs.Words.{first_of, found_of, rows_of};
-ghost use Rattle.command_words.specs.Commands.{command_of, command_shown, task_shown, asked, run_in, exec_in, options_in, Run, mean_in, plain_in, self_in, flag_in, task_named, with_file, HasLimits, IsLimited, IsOnFile, IsRead};
+ghost use Rattle.std.specs.List.{list_all};
+ghost use Rattle.clap.specs.Words.{all_of, first_of, found_of, rows_of};
+ghost use Rattle.command_words.specs.Numbers.{is_file};
+ghost use Rattle.command_words.specs.Commands.{command_of, command_shown, task_shown, asked, run_in, exec_in, options_in, Run, mean_in, most_files, are_files, files_in, self_in, flag_in, task_named, with_files, HasLimits, IsLimited, IsRead};
 
 use crate::error::WordsError;
 use crate::set::command_set;
 use crate::values::{functions, heap, is_file, stack, steps};
 use clap::ArgMatches;
 use clap::error::ErrorKind;
+use hs_base::Items;
 use std::alloc::Global;
 
+/// How many files a program has at most.
+const MOST_FILES: usize = 64;
+
 /// What the words ask for.
-#[derive(Clone, Copy)]
+#[derive(Drop)]
 pub enum Command<'a> {
-    /// A task is done with the text of this name.
-    OnFile {
-        file: &'a str,
+    /// A task is done with the program whose units are the texts of these names.
+    OnFiles {
+        files: Items<&'a str>,
         task: Task,
     },
-    /// The code in the file of this name is run, as a text is by [`Task::Run`].
+    /// The code in the file of this name is run, as a program is by [`Task::Run`].
     Execute {
         file: &'a str,
         heap: u32,
@@ -33,7 +39,7 @@ pub enum Command<'a> {
     },
 }
 
-/// What is done with a text.
+/// What is done with a program.
 #[derive(Clone, Copy)]
 pub enum Task {
     /// It is run on a heap and a stack of so many bytes, with at most so many steps, and perhaps with a list of the blocks
@@ -70,16 +76,44 @@ struct Options {
     leaks: bool,
 }
 
-/// What is done with a file, if the word can be its name.
-fn with_file<'a>(file: &'a str, task: Task) -> Result<Command<'a>, WordsError>
-    ensures read { IsRead (with_file file.entry.now (task_shown task)) result }
-    ensures task { IfOk result (IsOnFile task) }
+/// How many files a task takes at most.
+fn most_files(task: Task) -> usize
+    ensures { result ≡ most_files (task_shown task) }
 {
-    if is_file(file) {
-        Ok(Command::OnFile { file, task })
-    } else {
-        Err(WordsError::Usage)
+    match task {
+        Task::Print => 1,
+        _ => MOST_FILES,
     }
+}
+
+/// Says whether each word can be a file's name.
+fn all_are_files(words: &[&str]) -> bool
+    ensures { result ≡ list_all (λ w. is_file w.now) words.now }
+{
+    words.iter().all(|word| is_file(word))
+}
+
+/// Says whether words can be the files of a task.
+#[tactic(auto, using(crate::proofs::Files::not_too_many))]
+fn are_files(task: Task, words: &[&str]) -> bool
+    ensures { result ≡ are_files (task_shown task) (map (λ w. w.now) words.now) }
+{
+    if words.is_empty() || words.len() > most_files(task) {
+        return false;
+    }
+    all_are_files(words)
+}
+
+/// What is done with some files, if the words can be their names.
+fn with_files<'a>(alloc: Global, words: &[&'a str], task: Task) -> Result<Command<'a>, WordsError>
+    ensures read { IsRead (with_files (map (λ w. w.now) words.now) (task_shown task)) result }
+    ensures limits { IsLimited (task_shown task) → IfOk result (λ c. HasLimits (command_shown c)) }
+{
+    if !are_files(task, words) {
+        return Err(WordsError::Usage);
+    }
+    let files = Items::from(words.to_vec(alloc)?);
+    Ok(Command::OnFiles { files, task })
 }
 
 /// The value of an argument, if it has one.
@@ -87,6 +121,14 @@ fn value_of<'a>(found: &ArgMatches<'a>, id: &str) -> Option<&'a str>
     ensures { option_map (λ w. w.now) result ≡ first_of id.now (rows_of (found_of found.now)) }
 {
     found.get_str(id)
+}
+
+/// The values of an argument that may have several, if it has one.
+fn values_of<'m, 'a>(found: &'m ArgMatches<'a>, id: &str) -> Option<&'m [&'a str]>
+    ensures { option_map (λ words. map (λ w. w.now) words.now) result ≡
+        all_of id.now (rows_of (found_of found.now)) }
+{
+    found.get_strs(id)
 }
 
 /// Whether a flag was given. `clap` has the value `true` for one that was, and else its default, `false`.
@@ -116,14 +158,26 @@ fn run_options(found: &ArgMatches) -> Option<Options>
     })
 }
 
+/// What is done with the files of a command, by the values of its arguments.
+fn on_files<'a>(
+    alloc: Global,
+    task: Task,
+    found: &ArgMatches<'a>,
+) -> Result<Command<'a>, WordsError>
+    ensures read { IsRead (files_in (task_shown task) (rows_of (found_of found.now))) result }
+    ensures limits { IsLimited (task_shown task) → IfOk result (λ c. HasLimits (command_shown c)) }
+{
+    match values_of(found, "FILE") {
+        Some(words) => with_files(alloc, words, task),
+        None => Err(WordsError::Usage),
+    }
+}
+
 /// `run`, by the values of its arguments.
-fn run<'a>(found: &ArgMatches<'a>) -> Result<Command<'a>, WordsError>
+fn run<'a>(alloc: Global, found: &ArgMatches<'a>) -> Result<Command<'a>, WordsError>
     ensures read { IsRead (run_in (rows_of (found_of found.now))) result }
     ensures limits { IfOk result (λ c. HasLimits (command_shown c)) }
 {
-    let Some(file) = value_of(found, "FILE") else {
-        return Err(WordsError::Usage);
-    };
     let Some(options) = run_options(found) else {
         return Err(WordsError::Usage);
     };
@@ -133,7 +187,7 @@ fn run<'a>(found: &ArgMatches<'a>) -> Result<Command<'a>, WordsError>
         steps: options.steps,
         leaks: options.leaks,
     };
-    with_file(file, task)
+    on_files(alloc, task, found)
 }
 
 /// `exec`, by the values of its arguments.
@@ -160,34 +214,20 @@ fn execute<'a>(found: &ArgMatches<'a>) -> Result<Command<'a>, WordsError>
 }
 
 /// `mean`, by the values of its arguments.
-fn mean<'a>(found: &ArgMatches<'a>) -> Result<Command<'a>, WordsError>
+fn mean<'a>(alloc: Global, found: &ArgMatches<'a>) -> Result<Command<'a>, WordsError>
     ensures read { IsRead (mean_in (rows_of (found_of found.now))) result }
     ensures limits { IfOk result (λ c. HasLimits (command_shown c)) }
 {
-    let Some(file) = value_of(found, "FILE") else {
-        return Err(WordsError::Usage);
-    };
     let Some(heap) = heap(value_of(found, "heap")) else {
         return Err(WordsError::Usage);
     };
     match steps(value_of(found, "steps")) {
-        Some(steps) => with_file(file, Task::Mean { heap, steps }),
+        Some(steps) => on_files(alloc, Task::Mean { heap, steps }, found),
         None => Err(WordsError::Usage),
     }
 }
 
-/// A command with a file alone, by the values of its arguments.
-fn plain<'a>(task: Task, found: &ArgMatches<'a>) -> Result<Command<'a>, WordsError>
-    ensures read { IsRead (plain_in (task_shown task) (rows_of (found_of found.now))) result }
-    ensures task { IfOk result (IsOnFile task) }
-{
-    match value_of(found, "FILE") {
-        Some(file) => with_file(file, task),
-        None => Err(WordsError::Usage),
-    }
-}
-
-/// The task of a command with a file alone.
+/// The task of a command with files alone.
 fn task_named(name: &str) -> Option<Task>
     ensures task { option_map task_shown result ≡ task_named name.now }
     ensures limits { MatchOption result ⊤ (λ task. IsLimited (task_shown task)) }
@@ -225,15 +265,15 @@ fn generated<'a>(found: &ArgMatches<'a>) -> Result<Command<'a>, WordsError>
 }
 
 /// What a command asks for.
-fn asked<'a>(name: &str, found: &ArgMatches<'a>) -> Result<Command<'a>, WordsError>
+fn asked<'a>(alloc: Global, name: &str, found: &ArgMatches<'a>) -> Result<Command<'a>, WordsError>
     ensures read { IsRead (asked name.now (rows_of (found_of found.now))) result }
     ensures limits { IfOk result (λ c. HasLimits (command_shown c)) }
 {
     if name == "run" {
-        return run(found);
+        return run(alloc, found);
     }
     if name == "mean" {
-        return mean(found);
+        return mean(alloc, found);
     }
     if name == "exec" {
         return execute(found);
@@ -242,7 +282,7 @@ fn asked<'a>(name: &str, found: &ArgMatches<'a>) -> Result<Command<'a>, WordsErr
         return generated(found);
     }
     match task_named(name) {
-        Some(task) => plain(task, found),
+        Some(task) => on_files(alloc, task, found),
         None => Err(WordsError::Usage),
     }
 }
@@ -252,8 +292,9 @@ fn asked<'a>(name: &str, found: &ArgMatches<'a>) -> Result<Command<'a>, WordsErr
 /// # Errors
 ///
 /// [`WordsError::Usage`] exactly where the words are not taken, but for want of memory, which is
-/// [`WordsError::NoMemory`]. The steps of a task that is read are at most 1,000,000,000, its heap has at most 268,435,456 bytes
-/// and its stack at most 67,108,864; a text that is made has 1 to 2,000 functions.
+/// [`WordsError::NoMemory`]. A task that is read has 1 to 64 files, and one to be written in its canonical spelling; its steps are
+/// at most 1,000,000,000, its heap has at most 268,435,456 bytes and its stack at most 67,108,864. A text that is made has 1 to
+/// 2,000 functions.
 pub fn read<'a>(alloc: Global, words: &'a [&'a str]) -> Result<Command<'a>, WordsError>
     ensures read { IsRead (command_of (map (λ w. w.now) words.entry.now)) result }
     ensures limits { IfOk result (λ command. HasLimits (command_shown command)) }
@@ -261,7 +302,7 @@ pub fn read<'a>(alloc: Global, words: &'a [&'a str]) -> Result<Command<'a>, Word
     let set = command_set(alloc)?;
     match set.try_get_matches_from(words) {
         Ok(matches) => match matches.subcommand() {
-            Some((name, found)) => asked(name, found),
+            Some((name, found)) => asked(alloc, name, found),
             None => Err(WordsError::Usage),
         },
         Err(error) => match error.kind() {

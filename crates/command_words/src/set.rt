@@ -1,9 +1,9 @@
 //! The commands and options, as `clap` builds them.
 
 ghost use Rattle.std.specs.Prelude.{◌≡◌, codes, false, IfOk};
-ghost use Rattle.clap.specs.Words.{app_of, new_app, rule_of, with_rule, with_subcommand};
+ghost use Rattle.clap.specs.Words.{app_of, rule_of, with_subcommand};
 ghost use Rattle.clap.specs.declared.builder.command.Command.TheViews.{out-Command as fields_of};
-ghost use Rattle.command_words.specs.CommandSet.{command_set, flag, mean, needed, option, running};
+ghost use Rattle.command_words.specs.CommandSet.{command_set, files, flag, mean, needed, option, plain, running};
 
 use clap::{Arg, ArgAction, Command};
 use std::alloc::{AllocError, Global};
@@ -16,12 +16,12 @@ fn needed<'a>(alloc: Global, name: &'a str) -> Arg<'a>
     Arg::new(alloc, name).required(true)
 }
 
-/// The argument for a file.
-fn file<'a>(alloc: Global) -> Arg<'a>
-    ensures rule { rule_of result ≡ needed (codes "FILE") }
+/// The argument for files, one or more.
+fn files<'a>(alloc: Global) -> Arg<'a>
+    ensures rule { rule_of result ≡ files }
     ensures local { result.global ≡ false }
 {
-    needed(alloc, "FILE")
+    needed(alloc, "FILE").num_args(1..)
 }
 
 /// An option with a value.
@@ -40,9 +40,10 @@ fn flag<'a>(alloc: Global, name: &'a str) -> Arg<'a>
     Arg::new(alloc, name).long(name).action(ArgAction::SetTrue)
 }
 
-/// A command with a file and what may be said of a run.
-fn running<'a>(alloc: Global, name: &'a str) -> Result<Command<'a>, AllocError>
-    ensures shape { IfOk result (λ c. app_of c ≡ running name.entry.now) }
+/// A command with its file or files and what may be said of a run.
+fn running<'a>(alloc: Global, name: &'a str, word: Arg<'a>) -> Result<Command<'a>, AllocError>
+    requires { word.global ≡ false }
+    ensures shape { IfOk result (λ c. app_of c ≡ running name.entry.now (rule_of word.entry)) }
     ensures local { IfOk result (λ c. (fields_of c).has_globals ≡ false) }
 {
     let heap = option(alloc, "heap");
@@ -50,48 +51,65 @@ fn running<'a>(alloc: Global, name: &'a str) -> Result<Command<'a>, AllocError>
     let steps = option(alloc, "steps");
     let leaks = flag(alloc, "leaks");
     Command::new(alloc, name)
-        .arg(file(alloc))?
+        .arg(word)?
         .arg(heap)?
         .arg(stack)?
         .arg(steps)?
         .arg(leaks)
 }
 
-/// Adds a command with a file and what may be said of a run.
+/// Adds a command with its file or files and what may be said of a run.
 fn add_running<'a>(
     alloc: Global,
     program: Command<'a>,
     name: &'a str,
+    word: Arg<'a>,
 ) -> Result<Command<'a>, AllocError>
-    ensures { IfOk result (λ c. app_of c ≡ with_subcommand (app_of program.entry) (running name.entry.now).top) }
+    requires { word.global ≡ false }
+    ensures { IfOk result (λ c. app_of c ≡ with_subcommand (app_of program.entry)
+        (running name.entry.now (rule_of word.entry)).top) }
 {
-    program.subcommand(running(alloc, name)?)
+    program.subcommand(running(alloc, name, word)?)
 }
 
-/// Adds `mean FILE [--heap N] [--steps N]`.
+/// Adds `mean FILE.. [--heap N] [--steps N]`.
 fn add_mean<'a>(alloc: Global, program: Command<'a>) -> Result<Command<'a>, AllocError>
     ensures { IfOk result (λ c. app_of c ≡ with_subcommand (app_of program.entry) mean.top) }
 {
     let heap = option(alloc, "heap");
     let steps = option(alloc, "steps");
     let mean = Command::new(alloc, "mean")
-        .arg(file(alloc))?
+        .arg(files(alloc))?
         .arg(heap)?
         .arg(steps)?;
     program.subcommand(mean)
 }
 
-/// Adds a command with one word, which it needs.
+/// Adds a command with its words alone.
 fn add_plain<'a>(
     alloc: Global,
     program: Command<'a>,
     name: &'a str,
-    word: &'a str,
+    word: Arg<'a>,
 ) -> Result<Command<'a>, AllocError>
-    ensures { IfOk result (λ c. app_of c ≡ with_subcommand (app_of program.entry) (with_rule (new_app name.entry.now) (needed word.entry.now)).top) }
+    requires { word.global ≡ false }
+    ensures { IfOk result (λ c. app_of c ≡ with_subcommand (app_of program.entry)
+        (plain name.entry.now (rule_of word.entry)).top) }
 {
-    let plain = Command::new(alloc, name).arg(needed(alloc, word))?;
+    let plain = Command::new(alloc, name).arg(word)?;
     program.subcommand(plain)
+}
+
+/// Adds a command with files alone.
+fn add_on_files<'a>(
+    alloc: Global,
+    program: Command<'a>,
+    name: &'a str,
+) -> Result<Command<'a>, AllocError>
+    ensures { IfOk result (λ c. app_of c ≡ with_subcommand (app_of program.entry)
+        (plain name.entry.now files).top) }
+{
+    add_plain(alloc, program, name, files(alloc))
 }
 
 /// All commands.
@@ -104,13 +122,13 @@ pub(crate) fn command_set<'a>(alloc: Global) -> Result<Command<'a>, AllocError>
         .disable_version_flag(true)
         .disable_help_subcommand(true)
         .subcommand_required(true);
-    let program = add_running(alloc, program, "run")?;
+    let program = add_running(alloc, program, "run", files(alloc))?;
     let program = add_mean(alloc, program)?;
-    let program = add_plain(alloc, program, "print", "FILE")?;
-    let program = add_plain(alloc, program, "layout", "FILE")?;
-    let program = add_plain(alloc, program, "list", "FILE")?;
-    let program = add_plain(alloc, program, "live", "FILE")?;
-    let program = add_plain(alloc, program, "self", "N")?;
-    let program = add_plain(alloc, program, "compile", "FILE")?;
-    add_running(alloc, program, "exec")
+    let program = add_on_files(alloc, program, "print")?;
+    let program = add_on_files(alloc, program, "layout")?;
+    let program = add_on_files(alloc, program, "list")?;
+    let program = add_on_files(alloc, program, "live")?;
+    let program = add_plain(alloc, program, "self", needed(alloc, "N"))?;
+    let program = add_on_files(alloc, program, "compile")?;
+    add_running(alloc, program, "exec", needed(alloc, "FILE"))
 }

@@ -1,9 +1,12 @@
-//! Tests of what no command shows: the tokens of preprocessed texts, the listing of each statement, and the generated text.
+//! Tests of what no command shows: the tokens of preprocessed texts, merged units, the listing of each statement, and the
+//! generated text.
 //! They stand apart from the crates that they try, since a crate with tests is proved twice.
 #![tactic(auto)]
 
 #[cfg(test)]
 mod listing;
+#[cfg(test)]
+mod merged;
 #[cfg(test)]
 mod preprocessed;
 #[cfg(test)]

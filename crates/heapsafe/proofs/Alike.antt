@@ -8,10 +8,9 @@ use Rattle.core_tree.specs.declared.program.Core.{Core}
 use Rattle.meaning_run.specs.Meant.{end_in}
 use Rattle.compiled_file.specs.Laws.{RunsAs}
 use Rattle.heapsafe.specs.declared.executing.Asked.{Asked}
-use Rattle.heapsafe.specs.Execution.{AnswersExecution, IsCompiledTo, code_text, code_within}
+use Rattle.heapsafe.specs.Execution.{AnswersExecution, code_text, code_within, IsCompiledTo, most_bytes}
 use Rattle.heapsafe.specs.Laws.{AreAlike}
 use Rattle.heapsafe.specs.Program.{Done, Ended, run_within, status_of, steady}
-use Rattle.heapsafe.specs.Reading.{most_bytes}
 use Rattle.heapsafe.specs.Shown.{Shown}
 use Rattle.heapsafe.proofs.Bytes.{short_is}
 

@@ -19,24 +19,20 @@ use Rattle.flat_codegen.specs.Running.{RunAnswers}
 use Rattle.flat_machine.specs.Running.{RunCounts}
 use Rattle.flat_codegen.specs.Running as run_specs
 use Rattle.heapsafe.specs.declared.program.Way.TheVariants.{Run, Mean}
-use Rattle.c_lexer.specs.declared.token.Token.{Token}
-use Rattle.c_parser.specs.Parses.{IsRefused}
-use Rattle.c_parser.specs.declared.error.ParseError.{ParseError}
-use Rattle.c_parser.specs.declared.error.ParseError.TheVariants as parse
 use Rattle.c_decls.specs.Refusals.{Checked, Meets}
 use Rattle.c_decls.specs.declared.refusal.TypeError.{TypeError}
 use Rattle.c_decls.specs.declared.refusal.TypeError.TheVariants as type
-use Rattle.c_pre.specs.Answering.{CountsFault, FailsBelow, Gives as Expects}
-use Rattle.c_pre.specs.Texts.{preprocessed}
-use Rattle.c_pre.specs.declared.answer.Pre.{Pre}
-use Rattle.c_pre.specs.declared.answer.PreError.{PreError}
 use Rattle.c_pre.specs.declared.answer.PreError.TheVariants as pre
-use Rattle.command_words.specs.Commands.{Command, Execute, Generated, OnFile, Task}
+use Rattle.command_words.specs.Commands.{Command, Execute, Generated, OnFiles, Task}
 use Rattle.heapsafe.specs.declared.program.Way.{Way}
-use Rattle.heapsafe.specs.Answer.{AnswersFile, AnswersRead, AnswersTokens, AnswersTypes}
-use Rattle.heapsafe.specs.Shown.{Shown, written, no_memory, output_fault, text_fault, untokened}
+use Rattle.heapsafe.specs.Answer.{AnswersFiles, AnswersTypes}
+use Rattle.heapsafe.specs.Reads.{FailsIn, ReadsAs}
+use Rattle.heapsafe.specs.declared.units.ProgramError.{ProgramError}
+use Rattle.heapsafe.specs.declared.units.ProgramError.TheVariants.{Text}
+use Rattle.heapsafe.specs.Shown.{Shown, written, no_memory, output_fault}
 use Rattle.heapsafe.specs.Program.{Done, Ended, Input, AnswersWay, AreTold, TellsNone, ended, meant, run_within, status_of, steady}
-use Rattle.heapsafe.specs.Saying.{Breaks, IsSaid, Says, SaysLeaks, SaysMore, TakesAll, TakesFront, unparsed, unread_file, untyped}
+use Rattle.heapsafe.specs.Saying.{Breaks, IsSaid, Says, SaysLeaks, SaysMore, TakesAll, TakesFront, unmade, unread_files, untyped}
+use Rattle.heapsafe.proofs.Told.{Cause, Refusal, Memory, Fault}
 use Rattle.heapsafe.proofs.Ended.{IsNoExit, same_some, tells_none}
 
 -- all of some bytes are a front of them
@@ -56,7 +52,7 @@ says_front err err' f f' status result bytes said =
     ⊎_elim (λ h. (all_front err err' bytes h.2, omega (arith, h.0))) (λ h. (h.2, omega (arith, h.0))) said
 
 -- the input and the output are as before
-pub broken_said : (unread : Option (List ℕ)) (s a : Shown) (left : List ℕ) (left' o o' err err' : Option (List ℕ)) (i i' p p' f f' result : ℕ) → IsSaid unread a i i' p p' s.err → left' ≡ Some left → o' ≡ o → p' ≡ p → Says err err' f f' s.err s.status result → Breaks unread a left left' o o' err err' i i' p p' f f'
+pub broken_said : (unread : Option (List (List ℕ))) (s a : Shown) (left : List ℕ) (left' o o' err err' : Option (List ℕ)) (i i' p p' f f' result : ℕ) → IsSaid unread a i i' p p' s.err → left' ≡ Some left → o' ≡ o → p' ≡ p → Says err err' f f' s.err s.status result → Breaks unread a left left' o o' err err' i i' p p' f f'
 broken_said unread s a left left' o o' err err' i i' p p' f f' result is stays same counts said =
     let front = says_front err err' f f' s.status result s.err said in
     record {
@@ -88,50 +84,46 @@ broken_own s a left left' o o' err err' i i' p p' f f' result is stays same same
 pub said_either : (s a other : Shown) → a ≡ other → (s ≡ other) ⊎ (s ≡ no_memory) → (a ≡ s) ⊎ (s ≡ no_memory)
 said_either s a other is either = ⊎_elim (λ h. inl (is ∙ sym h)) (λ h. inr h) either
 
--- what was said where types were refused, where tokens have no tree, where a text has no tokens, and where it was not read
+-- what was said where types were refused, and where a program was not read
 pub untyped_line : (error : TypeError) (file : List ℕ) (opened : List Opened) (wanted : Checked Core) (input : Input) (way : Way) (a : Shown) → Meets {A = Core} (λ core. core) (Err error) wanted → AnswersTypes file opened wanted input way a → (a ≡ untyped error opened) ⊎ (untyped error opened ≡ no_memory)
 untyped_line (type.Bad kind line) file opened wanted input way a meets is =
     inl (subst (λ (w : Checked Core). AnswersTypes file opened w input way a) meets is)
 untyped_line type.NoMemory file opened wanted input way a meets is = inr refl
 
-pub unparsed_line : (error : ParseError) (file : List ℕ) (opened : List Opened) (tokens : List Token) (input : Input) (task : Task) (a : Shown) → IsRefused tokens error → AnswersTokens file opened tokens input task a → (a ≡ unparsed error opened) ⊎ (unparsed error opened ≡ no_memory)
-unparsed_line (parse.Syntax line) file opened tokens input task a wrong is = inl (is.refused line wrong)
-unparsed_line parse.NoMemory file opened tokens input task a wrong is = inr refl
+refused_said : (s : Shown) (files : List (List ℕ)) (task : Task) (a : Shown) (t t' i p : ℕ) → t' ≡ t → (a ≡ s) ⊎ (s ≡ no_memory) → IsSaid (unread_files (Some (OnFiles files task)) t t') a i i p p s.err
+refused_said s files task a t t' i p same is =
+    subst (λ b. IsSaid (cond b (Some files) None) a i i p p s.err) (sym (le-ltb t t' (omega (arith, same))))
+    (own_line s a i i p p is refl refl)
 
-refused_said : (error : PreError) (file : List ℕ) (input : Input) (task : Task) (a : Shown) (t t' i p : ℕ) → t' ≡ t → a ≡ untokened error → IsSaid (unread_file (Some (OnFile file task)) t t') a i i p p (untokened error).err
-refused_said error file input task a t t' i p same is =
-    subst (λ b. IsSaid (cond b (Some file) None) a i i p p (untokened error).err) (sym (le-ltb t t' (omega (arith, same))))
-    (own_line (untokened error) a i i p p (inl is) refl refl)
+-- a text that failed is named
+pub fault_said : (error : ProgramError) (files : List (List ℕ)) (task : Task) (a : Shown) (t t' i p : ℕ) (name : List ℕ) → FailsIn files error → error ≡ Text (pre.Fault name) → t' ≡ t + 1 → IsSaid (unread_files (Some (OnFiles files task)) t t') a i i p p (unmade error).err
+fault_said error files task a t t' i p name below is counts =
+    subst (λ b. IsSaid (cond b (Some files) None) a i i p p (unmade error).err) (sym (lt-ltb t t' (omega (arith, counts))))
+    (name, subst (FailsIn files) is below, ap (λ (e : ProgramError). (unmade e).err) is)
 
--- a file that has no tokens
-pub untokened_said : (error : PreError) (file : List ℕ) (told : List ℕ → List ℕ) (input : Input) (task : Task) (a : Shown) (t t' i p : ℕ) → Expects {S = Pre} (preprocessed told file 0) (Err error) → FailsBelow file error → CountsFault {T = Pre} t t' (Err error) → AnswersFile file told input task a → IsSaid (unread_file (Some (OnFile file task)) t t') a i i p p (untokened error).err
-untokened_said (pre.Fault name) file told input task a t t' i p gives below counts is =
-    subst (λ b. IsSaid (cond b (Some file) None) a i i p p (text_fault name).err) (sym (lt-ltb t t' (omega (arith, counts)))) (name, below, refl)
-untokened_said (pre.Bad kind at) file told input task a t t' i p gives below counts is =
-    refused_said (pre.Bad kind at) file input task a t t' i p counts (subst (λ r. AnswersRead file r input task a) gives is)
-untokened_said (pre.Lex kind at) file told input task a t t' i p gives below counts is =
-    refused_said (pre.Lex kind at) file input task a t t' i p counts (subst (λ r. AnswersRead file r input task a) gives is)
-untokened_said (pre.TooLong name) file told input task a t t' i p gives below counts is =
-    refused_said (pre.TooLong name) file input task a t t' i p counts (subst (λ r. AnswersRead file r input task a) gives is)
-untokened_said pre.NoMemory file told input task a t t' i p gives below counts is =
-    subst (λ b. IsSaid (cond b (Some file) None) a i i p p no_memory.err) (sym (le-ltb t t' (omega (arith, counts))))
-    (own_line no_memory a i i p p (inr refl) refl refl)
+pub unmade_said : (error : ProgramError) (files : List (List ℕ)) (told : List ℕ → List ℕ) (input : Input) (task : Task) (a : Shown) (t t' i p : ℕ) → ReadsAs told files (Err error) → FailsIn files error → Cause error t t' → AnswersFiles files told input task a → IsSaid (unread_files (Some (OnFiles files task)) t t') a i i p p (unmade error).err
+unmade_said error files told input task a t t' i p reads below (Refusal is stays) answers =
+    refused_said (unmade error) files task a t t' i p stays (inl ((reads is input task a).0 answers))
+unmade_said error files told input task a t t' i p reads below (Memory is stays) answers =
+    refused_said (unmade error) files task a t t' i p stays (inr is)
+unmade_said error files told input task a t t' i p reads below (Fault name is rises) answers =
+    fault_said error files task a t t' i p name below is rises
 
 -- no text failed
-pub unread_none : (asked : Option Command) (t t' : ℕ) → t' ≡ t → unread_file asked t t' ≡ None
+pub unread_none : (asked : Option Command) (t t' : ℕ) → t' ≡ t → unread_files asked t t' ≡ None
 unread_none None t t' same = refl
 unread_none (Some (Generated number)) t t' same = refl
-unread_none (Some (Execute file heap stack steps leaks)) t t' same = ap (λ b. cond b (Some file) None) (le-ltb t t' (omega (arith, same)))
-unread_none (Some (OnFile file task)) t t' same = ap (λ b. cond b (Some file) None) (le-ltb t t' (omega (arith, same)))
+unread_none (Some (Execute file heap stack steps leaks)) t t' same = ap (λ b. cond b (Some (file ∷ [])) None) (le-ltb t t' (omega (arith, same)))
+unread_none (Some (OnFiles files task)) t t' same = ap (λ b. cond b (Some files) None) (le-ltb t t' (omega (arith, same)))
 
-pub broken_read : (asked : Option Command) (a : Shown) (left : List ℕ) (left' o o' err err' : Option (List ℕ)) (t t' i i' p p' f f' : ℕ) → t' ≡ t → Breaks None a left left' o o' err err' i i' p p' f f' → Breaks (unread_file asked t t') a left left' o o' err err' i i' p p' f f'
+pub broken_read : (asked : Option Command) (a : Shown) (left : List ℕ) (left' o o' err err' : Option (List ℕ)) (t t' i i' p p' f f' : ℕ) → t' ≡ t → Breaks None a left left' o o' err err' i i' p p' f f' → Breaks (unread_files asked t t') a left left' o o' err err' i i' p p' f f'
 broken_read asked a left left' o o' err err' t t' i i' p p' f f' same h =
-    subst (λ (u : Option (List ℕ)). Breaks u a left left' o o' err err' i i' p p' f f') (sym (unread_none asked t t' same)) h
+    subst (λ (u : Option (List (List ℕ))). Breaks u a left left' o o' err err' i i' p p' f f') (sym (unread_none asked t t' same)) h
 
 -- in other words
-pub broken_asked : (asked asked' : Option Command) (a : Shown) (left : List ℕ) (left' o o' err err' : Option (List ℕ)) (t t' i i' p p' f f' : ℕ) → asked ≡ asked' → Breaks (unread_file asked' t t') a left left' o o' err err' i i' p p' f f' → Breaks (unread_file asked t t') a left left' o o' err err' i i' p p' f f'
+pub broken_asked : (asked asked' : Option Command) (a : Shown) (left : List ℕ) (left' o o' err err' : Option (List ℕ)) (t t' i i' p p' f f' : ℕ) → asked ≡ asked' → Breaks (unread_files asked' t t') a left left' o o' err err' i i' p p' f f' → Breaks (unread_files asked t t') a left left' o o' err err' i i' p p' f f'
 broken_asked asked asked' a left left' o o' err err' t t' i i' p p' f f' same h =
-    subst (λ (c : Option Command). Breaks (unread_file c t t') a left left' o o' err err' i i' p p' f f') (sym same) h
+    subst (λ (c : Option Command). Breaks (unread_files c t t') a left left' o o' err err' i i' p p' f f') (sym same) h
 
 -- a text that was not written whole
 pub broken_text : (text : List ℕ) (a : Shown) (left : List ℕ) (o o' err err' : Option (List ℕ)) (i p p' f f' result : ℕ) → a ≡ written text → p' ≡ p + 1 → TakesFront o o' text → Says err err' f f' output_fault.err 133 result → Breaks None a left (Some left) o o' err err' i i p p' f f'

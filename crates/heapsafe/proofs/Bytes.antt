@@ -1,5 +1,5 @@
 -- What is answered for the bytes of a file that is executed.
-use Rattle.std.proofs.Common.{◌≡◌, ◌⊎◌, ◌≤◌, ◌<◌, ℕ, List, Some, None, cond, Err, inl, inr, refl, sym, subst, arith, get_or, length}
+use Rattle.std.proofs.Common.{◌≡◌, ◌⊎◌, ◌≤◌, ◌<◌, ℕ, List, [], ◌∷◌, Some, None, cond, Err, inl, inr, refl, sym, subst, arith, get_or, length}
 use Rattle.std.specs.Prelude.{MatchBool}
 use Rattle.std.proofs.lemmas.Bool.{le-ltb, lt-ltb}
 use Rattle.flat_code.specs.WellFormed.{IsWellFormed}
@@ -7,13 +7,13 @@ use Rattle.code_soundness.specs.Laws.{HoldsBytes}
 use Rattle.code_file.specs.declared.file.CodeFile.{CodeFile}
 use Rattle.code_file.specs.CodeFile.{HasBytes, IsFileOf, IsRanged, IsRangedStatic}
 use Rattle.heapsafe.specs.declared.executing.Asked.{Asked}
-use Rattle.heapsafe.specs.declared.reading.ReadError.{ReadError}
-use Rattle.heapsafe.specs.declared.reading.ReadError.TheVariants.{Fault, TooLong, NoMemory}
-use Rattle.heapsafe.specs.Execution.{AnswersBytes, AnswersCode, AnswersExecution, AnswersVerified}
+use Rattle.hs_base.specs.declared.reading.ReadError.{ReadError}
+use Rattle.hs_base.specs.declared.reading.ReadError.TheVariants.{Fault, TooLong, NoMemory}
+use Rattle.heapsafe.specs.Execution.{AnswersBytes, AnswersCode, AnswersExecution, AnswersVerified, most_bytes}
 use Rattle.heapsafe.specs.Program.{Input}
-use Rattle.heapsafe.specs.Reading.{ReadCounts, Reads, most_bytes}
+use Rattle.hs_base.specs.ReadAll.{ReadCounts, Reads}
 use Rattle.command_words.specs.Commands.{Execute}
-use Rattle.heapsafe.specs.Saying.{IsSaid, unread, unread_file}
+use Rattle.heapsafe.specs.Saying.{IsSaid, IsTextOf, unread, unread_files}
 use Rattle.heapsafe.proofs.Broken.{own_line}
 use Rattle.heapsafe.proofs.Told.{IsSilent}
 use Rattle.heapsafe.specs.Shown.{Shown, bad_code, no_memory, text_fault, text_too_long, unverified}
@@ -54,13 +54,13 @@ module _ (name : List ℕ) (input : Input) (asked : Asked) (a : Shown) where
   long_is bytes long is = subst (λ b. MatchBool b (a ≡ text_too_long name) (AnswersBytes name bytes input asked a)) (lt-ltb most_bytes (length bytes) long) is
 
 -- a file that was not read, where reading did not fail
-pub unread_is : (error : ReadError) (name bytes : List ℕ) (input : Input) (asked : Asked) (t t' : ℕ) → Reads bytes (Err error) → ReadCounts {T = List ℕ} t t' (Err error) → t' ≡ t → AnswersExecution name bytes input asked (unread error name) ⊎ (unread error name ≡ no_memory)
+pub unread_is : (error : ReadError) (name bytes : List ℕ) (input : Input) (asked : Asked) (t t' : ℕ) → Reads bytes most_bytes (Err error) → ReadCounts {T = List ℕ} t t' (Err error) → t' ≡ t → AnswersExecution name bytes input asked (unread error name) ⊎ (unread error name ≡ no_memory)
 unread_is Fault name bytes input asked t t' reads counts same = absurd (omega (arith, counts, same))
 unread_is TooLong name bytes input asked t t' reads counts same = inl (is_long name input asked (text_too_long name) bytes reads refl)
 unread_is NoMemory name bytes input asked t t' reads counts same = inr refl
 
 -- an answer of it
-pub unread_line : (error : ReadError) (name bytes : List ℕ) (input : Input) (asked : Asked) (a : Shown) (t t' : ℕ) → Reads bytes (Err error) → ReadCounts {T = List ℕ} t t' (Err error) → t' ≡ t → AnswersExecution name bytes input asked a → (a ≡ unread error name) ⊎ (unread error name ≡ no_memory)
+pub unread_line : (error : ReadError) (name bytes : List ℕ) (input : Input) (asked : Asked) (a : Shown) (t t' : ℕ) → Reads bytes most_bytes (Err error) → ReadCounts {T = List ℕ} t t' (Err error) → t' ≡ t → AnswersExecution name bytes input asked a → (a ≡ unread error name) ⊎ (unread error name ≡ no_memory)
 unread_line Fault name bytes input asked a t t' reads counts same is = absurd (omega (arith, counts, same))
 unread_line TooLong name bytes input asked a t t' reads counts same is = inl (long_is name input asked a bytes reads is)
 unread_line NoMemory name bytes input asked a t t' reads counts same is = inr refl
@@ -70,11 +70,15 @@ unread_silent Fault name = record { read = refl; out = refl }
 unread_silent TooLong name = record { read = refl; out = refl }
 unread_silent NoMemory name = record { read = refl; out = refl }
 
+-- a file is one of itself alone
+own_text : (name : List ℕ) → IsTextOf (name ∷ []) name
+own_text name = inl (0, omega arith, refl)
+
 -- its line, where the error stream failed
-pub unread_off : (error : ReadError) (name bytes : List ℕ) (input : Input) (asked : Asked) (a : Shown) (t t' i p : ℕ) → Reads bytes (Err error) → ReadCounts {T = List ℕ} t t' (Err error) → AnswersExecution name bytes input asked a →
-    IsSaid (unread_file (Some (Execute name asked.limits.heap asked.limits.stack asked.steps asked.leaks)) t t') a i i p p (unread error name).err
+pub unread_off : (error : ReadError) (name bytes : List ℕ) (input : Input) (asked : Asked) (a : Shown) (t t' i p : ℕ) → Reads bytes most_bytes (Err error) → ReadCounts {T = List ℕ} t t' (Err error) → AnswersExecution name bytes input asked a →
+    IsSaid (unread_files (Some (Execute name asked.limits.heap asked.limits.stack asked.steps asked.leaks)) t t') a i i p p (unread error name).err
 unread_off Fault name bytes input asked a t t' i p reads counts is =
-    subst (λ b. IsSaid (cond b (Some name) None) a i i p p (text_fault name).err) (sym (lt-ltb t t' (omega (arith, counts)))) (name, inl refl, refl)
+    subst (λ b. IsSaid (cond b (Some (name ∷ [])) None) a i i p p (text_fault name).err) (sym (lt-ltb t t' (omega (arith, counts)))) (name, own_text name, refl)
 unread_off error name bytes input asked a t t' i p reads counts is =
-    subst (λ b. IsSaid (cond b (Some name) None) a i i p p (unread error name).err) (sym (le-ltb t t' (omega (arith, counts))))
+    subst (λ b. IsSaid (cond b (Some (name ∷ [])) None) a i i p p (unread error name).err) (sym (le-ltb t t' (omega (arith, counts))))
     (own_line (unread error name) a i i p p (unread_line error name bytes input asked a t t' reads counts counts is) refl refl)

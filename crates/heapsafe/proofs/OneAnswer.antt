@@ -1,21 +1,16 @@
 -- What a failed write broke off, where there is one answer and where there are several.
-use Rattle.std.proofs.Common.{◌≡◌, ◌⊎◌, ℕ, List, Option, Some, None, Err, inl, inr, refl, sym, subst, ⊎_elim, arith}
-use Rattle.std.proofs.lemmas.Bool.{lt-ltb}
-use Rattle.std.specs.Prelude.{cond}
-use Rattle.c_pre.specs.Answering.{CountsFault, FailsBelow, Gives as Expects}
-use Rattle.c_pre.specs.Texts.{preprocessed}
-use Rattle.c_pre.specs.declared.answer.Pre.{Pre}
-use Rattle.c_pre.specs.declared.answer.PreError.{PreError}
-use Rattle.c_pre.specs.declared.answer.PreError.TheVariants as pre
-use Rattle.command_words.specs.Commands.{Command, OnFile, Task}
-use Rattle.heapsafe.specs.Answer.{AnswersFile}
+use Rattle.std.proofs.Common.{◌≡◌, ◌⊎◌, ℕ, List, Option, Some, None, Err, inl, inr, refl, sym, subst, ⊎_elim}
+use Rattle.command_words.specs.Commands.{Command, OnFiles, Task}
+use Rattle.heapsafe.specs.declared.units.ProgramError.{ProgramError}
+use Rattle.heapsafe.specs.Answer.{AnswersFiles}
 use Rattle.heapsafe.specs.Program.{Input}
-use Rattle.heapsafe.specs.Shown.{Shown, no_memory, text_fault, untokened}
-use Rattle.heapsafe.specs.Saying.{Breaks, BreaksOff, BreaksOne, IsSaid, Says, SaysMore, unread_file}
-use Rattle.heapsafe.proofs.Broken.{broken_own, broken_read, broken_said, unread_none}
-use Rattle.heapsafe.proofs.Told.{untokened_is}
+use Rattle.heapsafe.specs.Reads.{FailsIn, ReadsAs}
+use Rattle.heapsafe.specs.Shown.{Shown, no_memory}
+use Rattle.heapsafe.specs.Saying.{Breaks, BreaksOff, BreaksOne, Says, SaysMore, unmade, unread_files}
+use Rattle.heapsafe.proofs.Broken.{broken_own, broken_read, broken_said, fault_said, unread_none}
+use Rattle.heapsafe.proofs.Told.{Cause, Refusal, Memory, Fault}
 
-module _ (Is : Shown → Type 0) (unread : Option (List ℕ)) (left : List ℕ) (left' o o' e e' : Option (List ℕ)) (i i' f f' g g' : ℕ) where
+module _ (Is : Shown → Type 0) (unread : Option (List (List ℕ))) (left : List ℕ) (left' o o' e e' : Option (List ℕ)) (i i' f f' g g' : ℕ) where
   -- there is one answer
   pub one_answer : (One : Type 0) → One → ((a : Shown) → Is a → SaysMore a → Breaks unread a left left' o o' e e' i i' f f' g g') → BreaksOff One Is unread left left' o o' e e' i i' f f' g g'
   one_answer One one each = record { each = λ _ a is more. each a is more; some = λ no. absurd (no one) }
@@ -35,22 +30,27 @@ module _ (Is : Shown → Type 0) (unread : Option (List ℕ)) (left : List ℕ) 
   this_answer One s is each this = record { each = λ _ a of more. each a of more; some = λ _. record { shown = s; is = is; breaks = this } }
 
 -- no text failed
-pub off_read : (asked : Option Command) (Is : Shown → Type 0) (One : Type 0) (left : List ℕ) (left' o o' e e' : Option (List ℕ)) (t t' i i' f f' g g' : ℕ) → t' ≡ t → BreaksOff One Is None left left' o o' e e' i i' f f' g g' → BreaksOff One Is (unread_file asked t t') left left' o o' e e' i i' f f' g g'
+pub off_read : (asked : Option Command) (Is : Shown → Type 0) (One : Type 0) (left : List ℕ) (left' o o' e e' : Option (List ℕ)) (t t' i i' f f' g g' : ℕ) → t' ≡ t → BreaksOff One Is None left left' o o' e e' i i' f f' g g' → BreaksOff One Is (unread_files asked t t') left left' o o' e e' i i' f f' g g'
 off_read asked Is One left left' o o' e e' t t' i i' f f' g g' same h =
-    subst (λ (u : Option (List ℕ)). BreaksOff One Is u left left' o o' e e' i i' f f' g g') (sym (unread_none asked t t' same)) h
+    subst (λ (u : Option (List (List ℕ))). BreaksOff One Is u left left' o o' e e' i i' f f' g g') (sym (unread_none asked t t' same)) h
 
--- a file without tokens: its refusal was broken off, or the line of the text that failed
-pub untokened_off : (error : PreError) (file : List ℕ) (told : List ℕ → List ℕ) (input : Input) (task : Task) (left : List ℕ) (o e e' : Option (List ℕ)) (t t' i f g g' result : ℕ) → Expects {S = Pre} (preprocessed told file 0) (Err error) → FailsBelow file error → CountsFault {T = Pre} t t' (Err error) → Says e e' g g' (untokened error).err (untokened error).status result →
-    BreaksOne (AnswersFile file told input task) (unread_file (Some (OnFile file task)) t t') left (Some left) o o e e' i i f f g g'
-untokened_off (pre.Fault name) file told input task left o e e' t t' i f g g' result gives below counts said = record {
+-- a program that was not read: its refusal was broken off, or the line of the text that failed
+pub unmade_off : (error : ProgramError) (files : List (List ℕ)) (told : List ℕ → List ℕ) (input : Input) (task : Task) (left : List ℕ) (o e e' : Option (List ℕ)) (t t' i f g g' result : ℕ) → ReadsAs told files (Err error) → FailsIn files error → Cause error t t' → Says e e' g g' (unmade error).err (unmade error).status result →
+    BreaksOne (AnswersFiles files told input task) (unread_files (Some (OnFiles files task)) t t') left (Some left) o o e e' i i f f g g'
+unmade_off error files told input task left o e e' t t' i f g g' result reads below (Fault name is rises) said = record {
   shown = no_memory;
   is = inr refl;
-  breaks = broken_said _ (text_fault name) no_memory left (Some left) o o e e' i i f f g g' result
-      (subst (λ b. IsSaid (cond b (Some file) None) no_memory i i f f (text_fault name).err) (sym (lt-ltb t t' (omega (arith, counts)))) (name, below, refl)) refl refl refl said;
+  breaks = broken_said _ (unmade error) no_memory left (Some left) o o e e' i i f f g g' result (fault_said error files task no_memory t t' i f name below is rises) refl refl refl said;
 }
-untokened_off error file told input task left o e e' t t' i f g g' result gives below counts said = record {
-  shown = untokened error;
-  is = untokened_is error file told input task t t' gives counts counts;
-  breaks = broken_read (Some (OnFile file task)) (untokened error) left (Some left) o o e e' t t' i i f f g g' counts
-      (broken_own (untokened error) (untokened error) left (Some left) o o e e' i i f f g g' result (inl refl) refl refl refl refl said);
+unmade_off error files told input task left o e e' t t' i f g g' result reads below (Refusal is stays) said = record {
+  shown = unmade error;
+  is = inl ((reads is input task (unmade error)).1 refl);
+  breaks = broken_read (Some (OnFiles files task)) (unmade error) left (Some left) o o e e' t t' i i f f g g' stays
+      (broken_own (unmade error) (unmade error) left (Some left) o o e e' i i f f g g' result (inl refl) refl refl refl refl said);
+}
+unmade_off error files told input task left o e e' t t' i f g g' result reads below (Memory is stays) said = record {
+  shown = unmade error;
+  is = inr is;
+  breaks = broken_read (Some (OnFiles files task)) (unmade error) left (Some left) o o e e' t t' i i f f g g' stays
+      (broken_own (unmade error) (unmade error) left (Some left) o o e e' i i f f g g' result (inl refl) refl refl refl refl said);
 }

@@ -16,7 +16,7 @@ use Rattle.heapsafe.specs.declared.generated.Prepared.TheVariants.{Core, Refused
 use Rattle.heapsafe.specs.declared.program.Way.TheVariants as way
 use Rattle.heapsafe.specs.Shown.{Shown, bad_place, bad_syntax, bad_type}
 use Rattle.heapsafe.specs.Program.{Input}
-use Rattle.heapsafe.specs.Answer.{AnswersText, AnswersTypes, HasCore, alone}
+use Rattle.heapsafe.specs.Answer.{AnswersText, AnswersTypes, Does, HasCore, alone}
 use Rattle.heapsafe.specs.Generated.{IsPrepared, IsPreparedTokens, IsPreparedUnit, IsWithout}
 use Rattle.heapsafe.proofs.Told.{bad_place_is, no_tokens, only_tokens, tokens_is}
 use Rattle.heapsafe.proofs.Trees.{never_both, tree_is, wrong_is}
@@ -58,7 +58,7 @@ module _ (text : List ℕ) (tokens : List Token) (lexed : HasTokens text tokens)
       AnswersTypes file (alone file text) wanted input (way.Run (record { heap = heap; stack = stack }) steps false) a → AnswersText file text input (Run heap stack steps false) a
   typed_answers externals is wanted e file input heap stack steps a h =
       tokens_is file text tokens input (Run heap stack steps false) a only
-      (tree_is file (alone file text) tokens externals input (Run heap stack steps false) a is
+      (tree_is (alone file text) tokens (λ (unit : Trees) b. Does file (alone file text) unit input (Run heap stack steps false) b) externals a is
       (subst (λ (w : Checked Program). AnswersTypes file (alone file text) w input (way.Run (record { heap = heap; stack = stack }) steps false) a) (sym e) h))
 
   -- and does what the text answers
@@ -82,7 +82,7 @@ module _ (text : List ℕ) (tokens : List Token) (lexed : HasTokens text tokens)
     answers = λ file input heap stack steps. (
       bad_syntax (alone file text) line,
       tokens_is file text tokens input (Run heap stack steps false) (bad_syntax (alone file text) line) only
-          (wrong_is line file (alone file text) tokens input (Run heap stack steps false) wrong),
+          (wrong_is (alone file text) tokens (λ (unit : Trees) b. Does file (alone file text) unit input (Run heap stack steps false) b) line wrong),
       refl,
       sym is_status,
     );

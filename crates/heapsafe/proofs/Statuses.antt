@@ -5,18 +5,23 @@ use Rattle.hs_base.specs.declared.ends.End.TheVariants as end
 use Rattle.heapsafe.specs.Places.{told_report}
 use Rattle.c_decls.specs.declared.refusal.TypeError.{TypeError}
 use Rattle.c_decls.specs.declared.refusal.TypeError.TheVariants as type
-use Rattle.c_parser.specs.declared.error.ParseError.{ParseError}
-use Rattle.c_parser.specs.declared.error.ParseError.TheVariants as parse
 use Rattle.c_pre.specs.declared.answer.Opened.{Opened}
 use Rattle.core_tree.specs.declared.program.Core.{Core}
-use Rattle.heapsafe.specs.declared.reading.ReadError.{ReadError}
-use Rattle.heapsafe.specs.declared.reading.ReadError.TheVariants.{Fault, TooLong, NoMemory}
-use Rattle.heapsafe.specs.Reading.{ReadCounts}
+use Rattle.hs_base.specs.declared.reading.ReadError.{ReadError}
+use Rattle.hs_base.specs.declared.reading.ReadError.TheVariants.{Fault, TooLong, NoMemory}
+use Rattle.hs_base.specs.ReadAll.{ReadCounts}
 use Rattle.flat_machine.specs.Running.{RunCounts}
 use Rattle.heapsafe.specs.Program.{status_of}
-use Rattle.heapsafe.specs.Saying.{HasCause, IsFault, IsRefusal, Refuses, Says, SaysCounts, SaysUnread, TakesAll, TakesLeaks, Wants, WriteFails, unparsed, unread, untyped}
-use Rattle.c_pre.specs.Answering.{CountsFault, FailsBelow}
-use Rattle.c_pre.specs.declared.answer.Pre.{Pre}
+use Rattle.heapsafe.specs.Saying.{HasCause, IsFault, IsRefusal, Refuses, Says, SaysCounts, SaysUnread, TakesAll, TakesLeaks, Wants, WriteFails, unmade, unread, untyped}
+use Rattle.heapsafe.specs.Reads.{CountsText, FailsIn}
+use Rattle.heapsafe.specs.declared.units.Program.{Program}
+use Rattle.heapsafe.specs.declared.units.ProgramError.{ProgramError}
+use Rattle.heapsafe.specs.declared.units.ProgramError.TheVariants as program
+use Rattle.heapsafe.specs.declared.units.ProgramError.TheVariants.{Text, Syntax, Conflict}
+use Rattle.heapsafe.proofs.Told.{Cause}
+use Rattle.heapsafe.proofs.Told
+use Rattle.c_pre.specs.Answering.{CountsFault}
+use Rattle.c_pre.specs.declared.answer.Sources.{Sources}
 use Rattle.c_pre.specs.declared.answer.PreError.{PreError}
 use Rattle.c_pre.specs.declared.answer.PreError.TheVariants as pre
 use Rattle.heapsafe.specs.Shown.{Shown, no_memory, untokened}
@@ -41,7 +46,7 @@ wants_more Stays Stays' Own Own' e e' result stays own wants = λ is.
 
 -- The refusals that have that status
 
-pub untokened_wants : (error : PreError) → (untokened error).status ≡ 134 → untokened error ≡ no_memory
+untokened_wants : (error : PreError) → (untokened error).status ≡ 134 → untokened error ≡ no_memory
 untokened_wants (pre.Bad kind at) is = absurd (omega (arith, is))
 untokened_wants (pre.Lex kind at) is = absurd (omega (arith, is))
 untokened_wants (pre.Fault name) is = absurd (omega (arith, is))
@@ -53,9 +58,11 @@ unread_wants Fault file is = absurd (omega (arith, is))
 unread_wants TooLong file is = absurd (omega (arith, is))
 unread_wants NoMemory file is = refl
 
-pub unparsed_wants : (error : ParseError) (opened : List Opened) → (unparsed error opened).status ≡ 134 → unparsed error opened ≡ no_memory
-unparsed_wants (parse.Syntax line) opened is = absurd (omega (arith, is))
-unparsed_wants parse.NoMemory opened is = refl
+pub unmade_wants : (error : ProgramError) → (unmade error).status ≡ 134 → unmade error ≡ no_memory
+unmade_wants (Text error) is = untokened_wants error is
+unmade_wants (Syntax texts line) is = absurd (omega (arith, is))
+unmade_wants (Conflict texts name line) is = absurd (omega (arith, is))
+unmade_wants program.NoMemory is = refl
 
 pub untyped_wants : (error : TypeError) (opened : List Opened) → (untyped error opened).status ≡ 134 → untyped error opened ≡ no_memory
 untyped_wants (type.Bad kind line) opened is = absurd (omega (arith, is))
@@ -93,7 +100,7 @@ cause_more Fails Fails' Own Own' e e' result fails own has = λ is.
     ⊎_elim (λ h. inl (fails h)) (λ h. inr (own h.0, h.1)) (has is)
 
 -- such a status of a file without tokens comes where a text failed
-pub untokened_cause : (error : PreError) (before after : ℕ) → CountsFault {T = Pre} before after (Err error) → IsFault (untokened error).status → before < after
+untokened_cause : (error : PreError) (before after : ℕ) → CountsFault {T = Sources} before after (Err error) → IsFault (untokened error).status → before < after
 untokened_cause (pre.Bad kind at) before after counts is =
     absurd (other 138 (λ h. omega (arith, h)) (λ h. omega (arith, h)) (λ h. omega (arith, h)) is)
 untokened_cause (pre.Lex kind at) before after counts is =
@@ -103,23 +110,29 @@ untokened_cause (pre.TooLong name) before after counts is =
     absurd (other 122 (λ h. omega (arith, h)) (λ h. omega (arith, h)) (λ h. omega (arith, h)) is)
 untokened_cause pre.NoMemory before after counts is = absurd (no_fault_134 is)
 
+pub unmade_cause : (error : ProgramError) (before after : ℕ) → CountsText {T = Program} before after (Err error) → IsFault (unmade error).status → before < after
+unmade_cause (Text error) before after counts is = untokened_cause error before after counts is
+unmade_cause (Syntax texts line) before after counts is =
+    absurd (other 124 (λ h. omega (arith, h)) (λ h. omega (arith, h)) (λ h. omega (arith, h)) is)
+unmade_cause (Conflict texts name line) before after counts is =
+    absurd (other 139 (λ h. omega (arith, h)) (λ h. omega (arith, h)) (λ h. omega (arith, h)) is)
+unmade_cause program.NoMemory before after counts is = absurd (no_fault_134 is)
+
 -- a text failed
-pub unread_says : (error : PreError) (file : List ℕ) (before after : ℕ) (e e' : Option (List ℕ)) (f f' result : ℕ) → CountsFault {T = Pre} before after (Err error) → before < after → FailsBelow file error → Says e e' f f' (untokened error).err (untokened error).status result → SaysUnread file e e' f f' result
-unread_says (pre.Fault name) file before after e e' f f' result counts more below said = record { name = name; is_text = below; says = said }
-unread_says (pre.Bad kind at) file before after e e' f f' result counts more below said = absurd (omega (arith, counts, more))
-unread_says (pre.Lex kind at) file before after e e' f f' result counts more below said = absurd (omega (arith, counts, more))
-unread_says (pre.TooLong name) file before after e e' f f' result counts more below said = absurd (omega (arith, counts, more))
-unread_says pre.NoMemory file before after e e' f f' result counts more below said = absurd (omega (arith, counts, more))
+pub unmade_says : (error : ProgramError) (files : List (List ℕ)) (before after : ℕ) (e e' : Option (List ℕ)) (f f' result : ℕ) → Cause error before after → before < after → FailsIn files error → Says e e' f f' (unmade error).err (unmade error).status result → SaysUnread files e e' f f' result
+unmade_says error files before after e e' f f' result (Told.Fault name is rises) more below said = record {
+  name = name;
+  is_text = subst (FailsIn files) is below;
+  says = subst (λ (x : ProgramError). Says e e' f f' (unmade x).err (unmade x).status result) is said;
+}
+unmade_says error files before after e e' f f' result (Told.Refusal is stays) more below said = absurd (omega (arith, stays, more))
+unmade_says error files before after e e' f f' result (Told.Memory is stays) more below said = absurd (omega (arith, stays, more))
 
 pub unread_cause : (error : ReadError) (file : List ℕ) (before after : ℕ) → ReadCounts {T = List ℕ} before after (Err error) → IsFault (unread error file).status → before < after
 unread_cause Fault file before after counts is = omega (arith, counts)
 unread_cause TooLong file before after counts is =
     absurd (other 122 (λ h. omega (arith, h)) (λ h. omega (arith, h)) (λ h. omega (arith, h)) is)
 unread_cause NoMemory file before after counts is = absurd (no_fault_134 is)
-
-pub unparsed_no_fault : (error : ParseError) (opened : List Opened) → IsFault (unparsed error opened).status → ⊥
-unparsed_no_fault (parse.Syntax line) opened is = other 124 (λ h. omega (arith, h)) (λ h. omega (arith, h)) (λ h. omega (arith, h)) is
-unparsed_no_fault parse.NoMemory opened is = no_fault_134 is
 
 pub untyped_no_fault : (error : TypeError) (opened : List Opened) → IsFault (untyped error opened).status → ⊥
 untyped_no_fault (type.Bad kind line) opened is = other 125 (λ h. omega (arith, h)) (λ h. omega (arith, h)) (λ h. omega (arith, h)) is

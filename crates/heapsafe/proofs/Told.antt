@@ -1,17 +1,20 @@
 -- Answers, from what was said.
-use Rattle.std.proofs.Common.{◌≡◌, ◌⊎◌, ℕ, List, [], ◌++◌, Option, Some, None, inl, inr, refl, sym, ap, ◌∙◌, subst, arith, ⊎_elim}
+use Rattle.std.proofs.Common.{◌≡◌, ◌⊎◌, ℕ, ◌+◌, List, [], ◌++◌, Option, Some, None, inl, inr, refl, sym, ap, ◌∙◌, subst, arith, ⊎_elim}
 use Rattle.std.specs.Prelude.{Result, Ok, Err}
 use Rattle.std.proofs.lemmas.List.{append-nil}
-use Rattle.c_pre.specs.Answering.{CountsFault, Gives as Expects}
-use Rattle.c_pre.specs.Texts.{preprocessed}
-use Rattle.c_pre.specs.declared.answer.Pre.{Pre}
+use Rattle.c_tree.specs.Tree.{Trees}
 use Rattle.c_pre.specs.declared.answer.PreError.{PreError}
 use Rattle.c_pre.specs.declared.answer.PreError.TheVariants as pre
 use Rattle.command_words.specs.Commands.{Command, Task}
 use Rattle.heapsafe.specs.Shown.{Shown, usage, no_memory, bad_place, untokened}
 use Rattle.heapsafe.specs.Program.{Input}
-use Rattle.heapsafe.specs.Answer.{AnswersTokens, AnswersText, AnswersRead, AnswersFile, AnswersCommand, alone}
-use Rattle.heapsafe.specs.Saying.{Says, Gives, Faults, TakesAll}
+use Rattle.heapsafe.specs.Answer.{AnswersText, AnswersFiles, AnswersCommand, Does, alone}
+use Rattle.heapsafe.specs.Units.{AnswersTokens}
+use Rattle.heapsafe.specs.Reads.{CountsText, IsRefused, ReadsAs}
+use Rattle.heapsafe.specs.declared.units.Program.{Program}
+use Rattle.heapsafe.specs.declared.units.ProgramError.{ProgramError}
+use Rattle.heapsafe.specs.declared.units.ProgramError.TheVariants.{Text, Syntax, Conflict, NoMemory}
+use Rattle.heapsafe.specs.Saying.{Says, Gives, Faults, TakesAll, unmade}
 use Rattle.c_lexer.specs.declared.token.Token.{Token}
 use Rattle.c_lexer.specs.declared.token.LexKind.{LexKind}
 use Rattle.c_lexer.specs.declared.token.LexError.{LexError}
@@ -78,10 +81,10 @@ bad_is : (kind kind' : LexKind) (line line' : ℕ) → refused (lex.Bad kind lin
 bad_is kind kind' line line' e = (cc, cc)
 
 -- a text that has these tokens
-pub tokens_is : (file text : List ℕ) (tokens : List Token) (input : Input) (task : Task) (a : Shown) → IsOnlyAnswer text (Ok tokens) → AnswersTokens file (alone file text) tokens input task a → AnswersText file text input task a
+pub tokens_is : (file text : List ℕ) (tokens : List Token) (input : Input) (task : Task) (a : Shown) → IsOnlyAnswer text (Ok tokens) → AnswersTokens (alone file text) tokens (λ (unit : Trees) b. Does file (alone file text) unit input task b) a → AnswersText file text input task a
 tokens_is file text tokens input task a only is = record {
   refused = λ kind line bad. ⊎_elim (λ (h : given tokens ≡ refused (lex.Bad kind line)). absurd cc) (λ (h : given tokens ≡ refused lex.NoMemory). absurd cc) (only (Err (lex.Bad kind line)) bad);
-  lexed = λ others has. ⊎_elim (λ h. subst (λ ts. AnswersTokens file (alone file text) ts input task a) (sym (ok_is tokens others h)) is) (λ (h : given tokens ≡ refused lex.NoMemory). absurd cc) (only (Ok others) has);
+  lexed = λ others has. ⊎_elim (λ h. subst (λ ts. AnswersTokens (alone file text) ts (λ (unit : Trees) b. Does file (alone file text) unit input task b) a) (sym (ok_is tokens others h)) is) (λ (h : given tokens ≡ refused lex.NoMemory). absurd cc) (only (Ok others) has);
 }
 
 -- a text that has these tokens alone
@@ -104,16 +107,27 @@ bad_place_is kind line file text input task only = record {
   lexed = λ tokens has. absurd (no_tokens text kind line tokens only has);
 }
 
--- a file without tokens, where no text failed
-pub untokened_is : (error : PreError) (file : List ℕ) (told : List ℕ → List ℕ) (input : Input) (task : Task) (before after : ℕ) → Expects {S = Pre} (preprocessed told file 0) (Err error) → CountsFault {T = Pre} before after (Err error) → after ≡ before → AnswersFile file told input task (untokened error) ⊎ (untokened error ≡ no_memory)
-untokened_is (pre.Bad kind at) file told input task before after gives counts same =
-    inl (subst (λ r. AnswersRead file r input task (untokened (pre.Bad kind at))) (sym gives) refl)
-untokened_is (pre.Lex kind at) file told input task before after gives counts same =
-    inl (subst (λ r. AnswersRead file r input task (untokened (pre.Lex kind at))) (sym gives) refl)
-untokened_is (pre.TooLong name) file told input task before after gives counts same =
-    inl (subst (λ r. AnswersRead file r input task (untokened (pre.TooLong name))) (sym gives) refl)
-untokened_is (pre.Fault name) file told input task before after gives counts same = absurd (omega (arith, counts, same))
-untokened_is pre.NoMemory file told input task before after gives counts same = inr refl
+-- why a program was not read: it is refused, or memory was wanted, and no text failed; or a text failed
+pub data Cause (error : ProgramError) (before after : ℕ) : Type 0 where
+  Refusal : IsRefused error → after ≡ before → Cause error before after
+  Memory : unmade error ≡ no_memory → after ≡ before → Cause error before after
+  Fault : (name : List ℕ) → error ≡ Text (pre.Fault name) → after ≡ before + 1 → Cause error before after
+
+pub cause_of : (error : ProgramError) (before after : ℕ) → CountsText {T = Program} before after (Err error) → Cause error before after
+cause_of (Text (pre.Bad kind at)) before after counts = Refusal tt counts
+cause_of (Text (pre.Lex kind at)) before after counts = Refusal tt counts
+cause_of (Text (pre.TooLong name)) before after counts = Refusal tt counts
+cause_of (Text (pre.Fault name)) before after counts = Fault name refl counts
+cause_of (Text pre.NoMemory) before after counts = Memory refl counts
+cause_of (Syntax texts line) before after counts = Refusal tt counts
+cause_of (Conflict texts name line) before after counts = Refusal tt counts
+cause_of NoMemory before after counts = Memory refl counts
+
+-- a program that was not read, where no text failed
+pub unmade_is : (error : ProgramError) (files : List (List ℕ)) (told : List ℕ → List ℕ) (input : Input) (task : Task) (before after : ℕ) → ReadsAs told files (Err error) → Cause error before after → after ≡ before → AnswersFiles files told input task (unmade error) ⊎ (unmade error ≡ no_memory)
+unmade_is error files told input task before after reads (Refusal is stays) same = inl ((reads is input task (unmade error)).1 refl)
+unmade_is error files told input task before after reads (Memory is stays) same = inr is
+unmade_is error files told input task before after reads (Fault name is rises) same = absurd (omega (arith, rises, same))
 
 pub untokened_silent : (error : PreError) → IsSilent (untokened error)
 untokened_silent (pre.Bad kind at) = record { read = refl; out = refl }
@@ -122,14 +136,11 @@ untokened_silent (pre.TooLong name) = record { read = refl; out = refl }
 untokened_silent (pre.Fault name) = record { read = refl; out = refl }
 untokened_silent pre.NoMemory = record { read = refl; out = refl }
 
--- a file that has tokens
-pub file_is : (file : List ℕ) (told : List ℕ → List ℕ) (read : Pre) (input : Input) (task : Task) (a : Shown) → preprocessed told file 0 ≡ Ok read → AnswersFile file told input task a → AnswersTokens file read.texts read.tokens input task a
-file_is file told read input task a same is = subst (λ r. AnswersRead file r input task a) same is
-
-pub gives_file : (file : List ℕ) (told : List ℕ → List ℕ) (read : Pre) (input : Input) (task : Task) (left : List ℕ) (left' o o' e e' : Option (List ℕ)) (result : ℕ) → preprocessed told file 0 ≡ Ok read → Gives (AnswersTokens file read.texts read.tokens input task) left left' o o' e e' result → Gives (AnswersFile file told input task) left left' o o' e e' result
-gives_file file told read input task left left' o o' e e' result same g =
-    gives_more (AnswersTokens file read.texts read.tokens input task) (AnswersFile file told input task)
-    (λ s is. subst (λ r. AnswersRead file r input task s) (sym same) is) left left' o o' e e' result g
+pub unmade_silent : (error : ProgramError) → IsSilent (unmade error)
+unmade_silent (Text error) = untokened_silent error
+unmade_silent (Syntax texts line) = record { read = refl; out = refl }
+unmade_silent (Conflict texts name line) = record { read = refl; out = refl }
+unmade_silent NoMemory = record { read = refl; out = refl }
 
 -- the count of the texts stayed
 pub faults_as : (t t' i i' o o' e e' result : ℕ) → t' ≡ t → Faults t t i i' o o' e e' result → Faults t t' i i' o o' e e' result
@@ -138,10 +149,6 @@ faults_as t t' i i' o o' e e' result same h = subst (λ n. Faults t n i i' o o' 
 -- the same in other words
 pub says_as : (r s : Shown) → r ≡ s → (err err' : Option (List ℕ)) (f f' result : ℕ) → Says err err' f f' r.err r.status result → Says err err' f f' s.err s.status result
 says_as r s e err err' f f' result h = subst (λ (x : Shown). Says err err' f f' x.err x.status result) e h
-
--- words that name a file name no other
-pub one_file : (a b : List ℕ) → Some a ≡ Some b → a ≡ b
-one_file a b e = cc
 
 pub usage_is : (command : Option Command) (told : List ℕ → List ℕ) (input : Input) → None ≡ command → AnswersCommand command told input usage
 usage_is command told input e = subst (λ (c : Option Command). AnswersCommand c told input usage) e refl

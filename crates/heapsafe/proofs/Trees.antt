@@ -1,20 +1,14 @@
 -- A text with tokens: its tree, or the line at which it goes wrong, decides the answer.
-use Rattle.std.proofs.Common.{◌≡◌, ◌≤◌, ◌⊎◌, inl, inr, ℕ, List, [], ◌∷◌, ◌++◌, length, Option, get_or, refl, sym, subst, ap, ◌∙◌, arith}
+use Rattle.std.proofs.Common.{◌≡◌, ◌≤◌, ℕ, List, [], ◌∷◌, ◌++◌, length, get_or, sym, subst, ap, ◌∙◌, arith}
 use Rattle.std.proofs.lemmas.List.{length-append, append-nil}
 use Rattle.std.proofs.Math.Seq.{get_or-append_seam}
 use Rattle.c_lexer.specs.declared.token.Token.{Token}
+use Rattle.c_parser.specs.Parses.{IsOnlyTree}
+use Rattle.c_pre.specs.declared.answer.Opened.{Opened}
 use Rattle.c_tree.specs.Tree.{Trees}
 use Rattle.c_tree.specs.HasTree.{HasTree, GoesWrong}
-use Rattle.c_parser.specs.Parses.{IsOnlyTree, IsRefused}
-use Rattle.c_parser.specs.declared.error.ParseError.{ParseError}
-use Rattle.c_parser.specs.declared.error.ParseError.TheVariants as parse
-use Rattle.command_words.specs.Commands.{Task}
-use Rattle.c_pre.specs.declared.answer.Opened.{Opened}
-use Rattle.heapsafe.specs.Shown.{Shown, bad_syntax, no_memory}
-use Rattle.heapsafe.specs.Program.{Input}
-use Rattle.heapsafe.specs.Answer.{AnswersTokens, Does}
-use Rattle.heapsafe.specs.Saying.{Gives, unparsed}
-use Rattle.heapsafe.proofs.Told.{IsSilent, gives_more}
+use Rattle.heapsafe.specs.Shown.{Shown, bad_syntax}
+use Rattle.heapsafe.specs.Units.{AnswersTokens}
 
 -- tokens with a tree do not go wrong
 pub never_both : (tokens : List Token) (externals : Trees) (line : ℕ) → HasTree tokens externals → GoesWrong tokens line → ⊥
@@ -39,29 +33,17 @@ one_line tokens line other a b =
     ∙ ap (λ n. get_or tokens n a.wrong) same ∙ behind tokens b.front b.rest b.wrong a.wrong b.split in
     sym a.here ∙ ap (λ (t : Token). t.line) tokens_are ∙ b.here
 
--- a text with this tree alone
-pub tree_is : (file : List ℕ) (opened : List Opened) (tokens : List Token) (externals : Trees) (input : Input) (task : Task) (a : Shown) → IsOnlyTree tokens externals → Does file opened externals input task a → AnswersTokens file opened tokens input task a
-tree_is file opened tokens externals input task a is does = record {
-  refused = λ line wrong. absurd (never_both tokens externals line is.tree wrong);
-  parsed = λ other has. subst (λ (t : Trees). Does file opened t input task a) (sym (is.only other has)) does;
-}
+module _ (opened : List Opened) (tokens : List Token) (By : Trees → Shown → Type 0) where
+  -- tokens with this tree alone
+  pub tree_is : (unit : Trees) (a : Shown) → IsOnlyTree tokens unit → By unit a → AnswersTokens opened tokens By a
+  tree_is unit a is by = record {
+    refused = λ line wrong. absurd (never_both tokens unit line is.tree wrong);
+    parsed = λ other has. subst (λ (t : Trees). By t a) (sym (is.only other has)) by;
+  }
 
-pub gives_tree : (file : List ℕ) (opened : List Opened) (tokens : List Token) (externals : Trees) (input : Input) (task : Task) (left : List ℕ) (left' o o' e e' : Option (List ℕ)) (result : ℕ) → IsOnlyTree tokens externals → Gives (Does file opened externals input task) left left' o o' e e' result → Gives (AnswersTokens file opened tokens input task) left left' o o' e e' result
-gives_tree file opened tokens externals input task left left' o o' e e' result is g =
-    gives_more (Does file opened externals input task) (AnswersTokens file opened tokens input task)
-    (λ s does. tree_is file opened tokens externals input task s is does) left left' o o' e e' result g
-
--- a text whose tokens are refused
-pub wrong_is : (line : ℕ) (file : List ℕ) (opened : List Opened) (tokens : List Token) (input : Input) (task : Task) → GoesWrong tokens line → AnswersTokens file opened tokens input task (bad_syntax opened line)
-wrong_is line file opened tokens input task wrong = record {
-  refused = λ other also. ap (λ l. bad_syntax opened l) (one_line tokens line other wrong also);
-  parsed = λ externals has. absurd (never_both tokens externals line has wrong);
-}
-
-pub unparsed_is : (error : ParseError) (file : List ℕ) (opened : List Opened) (tokens : List Token) (input : Input) (task : Task) → IsRefused tokens error → AnswersTokens file opened tokens input task (unparsed error opened) ⊎ (unparsed error opened ≡ no_memory)
-unparsed_is (parse.Syntax line) file opened tokens input task wrong = inl (wrong_is line file opened tokens input task wrong)
-unparsed_is parse.NoMemory file opened tokens input task wrong = inr refl
-
-pub unparsed_silent : (error : ParseError) (opened : List Opened) → IsSilent (unparsed error opened)
-unparsed_silent (parse.Syntax line) opened = record { read = refl; out = refl }
-unparsed_silent parse.NoMemory opened = record { read = refl; out = refl }
+  -- tokens that are refused
+  pub wrong_is : (line : ℕ) → GoesWrong tokens line → AnswersTokens opened tokens By (bad_syntax opened line)
+  wrong_is line wrong = record {
+    refused = λ other also. ap (λ l. bad_syntax opened l) (one_line tokens line other wrong also);
+    parsed = λ unit has. absurd (never_both tokens unit line has wrong);
+  }

@@ -1,15 +1,12 @@
 -- What the program reads, writes and answers for its words.
-use Rattle.std.specs.Prelude.{◌≡◌, ◌-◌, ⊤, ℕ, false, List, [], ◌∷◌, length, Option, Some, None, Result, Ok, Err}
+use Rattle.std.specs.Prelude.{◌≡◌, ◌-◌, ⊤, ℕ, false, List, [], ◌∷◌, length, Option, Some, None, Ok, Err}
 use Rattle.hs_base.specs.declared.ends.Limits.{Limits}
 use Rattle.c_lexer.specs.declared.token.Token.{Token}
 use Rattle.c_lexer.specs.declared.token.LexKind.{LexKind}
 use Rattle.c_lexer.specs.Tokens.{HasTokens, HasBadPlace}
-use Rattle.c_pre.specs.Texts.{preprocessed}
 use Rattle.c_pre.specs.declared.answer.Opened.{Opened}
-use Rattle.c_pre.specs.declared.answer.Pre.{Pre}
-use Rattle.c_pre.specs.declared.answer.PreError.{PreError}
 use Rattle.c_tree.specs.Tree.{Trees}
-use Rattle.c_tree.specs.HasTree.{HasTree, GoesWrong}
+use Rattle.c_tree.specs.HasTree.{HasTree}
 use Rattle.c_decls.specs.Refusals.{Checked}
 use Rattle.elaboration.specs.Elaboration.{tags_of}
 use Rattle.c_elab.specs.Core.{core_in}
@@ -17,11 +14,12 @@ use Rattle.core_tree.specs.declared.program.Core.{Core}
 use Rattle.flat_codegen.specs.Lasting.{cut_run}
 use Rattle.generated_text.specs.Summary.{summary_line}
 use Rattle.generated_text.specs.Text.{generated}
-use Rattle.command_words.specs.Commands.{Command, OnFile, Execute, Generated, Task, Run, Mean, Print, Layout, List as ListCore, Live, Compile, command_of}
+use Rattle.command_words.specs.Commands.{Command, OnFiles, Execute, Generated, Task, Run, Mean, Print, Layout, List as ListCore, Live, Compile, command_of}
 use Rattle.heapsafe.specs.declared.program.Way.{Way}
 use Rattle.heapsafe.specs.declared.program.Way.TheVariants as way
-use Rattle.heapsafe.specs.Shown.{Shown, usage, untokened, bad_place, bad_syntax, bad_type, written, printed, layouts_shown, core_shown, live_shown}
+use Rattle.heapsafe.specs.Shown.{Shown, usage, bad_place, bad_type, written, printed, layouts_shown, core_shown, live_shown}
 use Rattle.heapsafe.specs.Program.{Input, AnswersWay}
+use Rattle.heapsafe.specs.Units.{AnswersRest, AnswersTokens, nothing_read}
 use Rattle.heapsafe.specs.Execution.{AnswersCompiled, AnswersExecution}
 
 -- a text whose types are refused has no core
@@ -40,19 +38,16 @@ Does file opened externals input ListCore a = a ≡ core_shown opened (core_in e
 Does file opened externals input Live a = a ≡ live_shown opened (core_in externals)
 Does file opened externals input Compile a = AnswersCompiled opened (core_in externals) a
 
--- a text without a tree is refused, by the line of the first external declaration that has none
-pub record AnswersTokens (file : List ℕ) (opened : List Opened) (tokens : List Token) (input : Input) (task : Task) (a : Shown) : Type 0 where
-  pub refused : (line : ℕ) → GoesWrong tokens line → a ≡ bad_syntax opened line
-  pub parsed : (externals : Trees) → HasTree tokens externals → Does file opened externals input task a
+-- the first of some files
+abbrev pub first_of : List (List ℕ) → List ℕ
+first_of [] = []
+first_of (file ∷ files) = file
 
--- what is answered where a file was read: by its tokens, or by why it has none
-abbrev pub AnswersRead : List ℕ → Result Pre PreError → Input → Task → Shown → Type 0
-AnswersRead file (Ok read) input task a = AnswersTokens file read.texts read.tokens input task a
-AnswersRead file (Err error) input task a = a ≡ untokened error
-
--- a file is preprocessed, where each name has this text
-abbrev pub AnswersFile : List ℕ → (List ℕ → List ℕ) → Input → Task → Shown → Type 0
-AnswersFile file texts input task a = AnswersRead file (preprocessed texts file 0) input task a
+-- what is answered for the program that these files make, where each name has this text. What is said of it without a line names
+-- the first
+abbrev pub AnswersFiles : List (List ℕ) → (List ℕ → List ℕ) → Input → Task → Shown → Type 0
+AnswersFiles files told input task a =
+    AnswersRest told files (λ opened unit b. Does (first_of files) opened unit input task b) nothing_read a
 
 -- a text that stands alone
 abbrev pub alone : List ℕ → List ℕ → List Opened
@@ -61,7 +56,8 @@ alone file text = record { name = file; base = 0; text = text } ∷ []
 -- what is answered for a text that is not preprocessed; one without tokens is refused, by its first bad place
 pub record AnswersText (file text : List ℕ) (input : Input) (task : Task) (a : Shown) : Type 0 where
   pub refused : (kind : LexKind) (line : ℕ) → HasBadPlace text kind line → a ≡ bad_place kind (record { name = file; line = line; text = text })
-  pub lexed : (tokens : List Token) → HasTokens text tokens → AnswersTokens file (alone file text) tokens input task a
+  pub lexed : (tokens : List Token) → HasTokens text tokens →
+      AnswersTokens (alone file text) tokens (λ unit b. Does file (alone file text) unit input task b) a
 
 -- the text has this core
 pub record HasCore (text : List ℕ) (core : Core) : Type 0 where
@@ -95,7 +91,7 @@ pub record AnswersGenerated (number : ℕ) (a : Shown) : Type 0 where
 
 abbrev pub AnswersCommand : Option Command → (List ℕ → List ℕ) → Input → Shown → Type 0
 AnswersCommand None texts input a = a ≡ usage
-AnswersCommand (Some (OnFile file task)) texts input a = AnswersFile file texts input task a
+AnswersCommand (Some (OnFiles files task)) texts input a = AnswersFiles files texts input task a
 AnswersCommand (Some (Execute file heap stack steps leaks)) texts input a =
     AnswersExecution file (texts file) input (record { limits = record { heap = heap; stack = stack }; steps = steps; leaks = leaks }) a
 AnswersCommand (Some (Generated number)) texts input a = AnswersGenerated number a
@@ -117,24 +113,26 @@ MeansNone _ = ⊤
 
 -- words that ask for no program of a file
 abbrev pub AsksNone : Option Command → Type 0
-AsksNone (Some (OnFile file task)) = RunsNone task
+AsksNone (Some (OnFiles files task)) = RunsNone task
 AsksNone (Some (Execute file heap stack steps leaks)) = ⊥
 AsksNone _ = ⊤
 
 -- words that ask for no evaluation
 abbrev pub AsksNoMeaning : Option Command → Type 0
-AsksNoMeaning (Some (OnFile file task)) = MeansNone task
+AsksNoMeaning (Some (OnFiles files task)) = MeansNone task
 AsksNoMeaning _ = ⊤
 
--- the file that words name
-abbrev pub file_asked : Option Command → Option (List ℕ)
-file_asked (Some (OnFile file task)) = Some file
-file_asked (Some (Execute file heap stack steps leaks)) = Some file
-file_asked _ = None
+-- the files that words name
+abbrev pub files_asked : Option Command → List (List ℕ)
+files_asked (Some (OnFiles files task)) = files
+files_asked (Some (Execute file heap stack steps leaks)) = file ∷ []
+files_asked _ = []
 
 -- words that name no file
 abbrev pub AsksNoFile : Option Command → Type 0
-AsksNoFile asked = file_asked asked ≡ None
+AsksNoFile (Some (OnFiles files task)) = ⊥
+AsksNoFile (Some (Execute file heap stack steps leaks)) = ⊥
+AsksNoFile _ = ⊤
 
 -- a task that has one answer for each text and input; those of `compile` differ in the numbers of layouts
 abbrev pub HasOne : Task → Type 0
@@ -143,5 +141,5 @@ HasOne _ = ⊤
 
 -- words that have one answer
 abbrev pub AsksOne : Option Command → Type 0
-AsksOne (Some (OnFile file task)) = HasOne task
+AsksOne (Some (OnFiles files task)) = HasOne task
 AsksOne _ = ⊤

@@ -14,8 +14,11 @@ use Rattle.compiled_file.specs.CompiledFile.{IsFileOfCore}
 use Rattle.meaning_run.specs.Meant.{end_in}
 use Rattle.heapsafe.specs.declared.executing.Asked.{Asked}
 use Rattle.heapsafe.specs.Program.{AnswersProgram, Done, Input}
-use Rattle.heapsafe.specs.Reading.{most_bytes}
 use Rattle.heapsafe.specs.Shown.{Shown, bad_code, bad_type, text_too_long, unverified, written}
+
+-- the most bytes that a code file may have
+abbrev pub most_bytes : ℕ
+most_bytes = 134217728
 
 -- bytes are those of a core's code file
 pub record IsCompiledTo (core : Core) (bytes : List ℕ) : Type 0 where

@@ -5,9 +5,8 @@ use Rattle.core_tree.specs.declared.program.Core.{Core}
 use Rattle.core_tree.specs.Sound.{IsSound}
 use Rattle.heapsafe.specs.declared.executing.Asked.{Asked}
 use Rattle.heapsafe.specs.declared.program.Way.TheVariants.{Run}
-use Rattle.heapsafe.specs.Execution.{AnswersExecution, IsCompiledTo}
+use Rattle.heapsafe.specs.Execution.{AnswersExecution, IsCompiledTo, most_bytes}
 use Rattle.heapsafe.specs.Program.{AnswersWay, steady}
-use Rattle.heapsafe.specs.Reading.{most_bytes}
 use Rattle.heapsafe.specs.Shown.{Shown}
 
 -- two answers that read and write the same bytes and have the same status

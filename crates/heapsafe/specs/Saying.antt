@@ -1,8 +1,8 @@
 -- What is said of an answer, and what a fault of the outside leads to.
 use Rattle.std.specs.List.{list_all}
 use Rattle.c_pre.specs.Directives.{is_path_byte}
-use Rattle.std.specs.Prelude.{◌≡◌, ◌≢◌, ◌⊎◌, ◌<◌, ◌≤◌, ◌+◌, ℕ, true, nat_lt, cond, List, ◌++◌, Option, Some, None, codes}
-use Rattle.command_words.specs.Commands.{Command, OnFile, Execute}
+use Rattle.std.specs.Prelude.{◌≡◌, ◌≢◌, ◌⊎◌, ◌<◌, ◌≤◌, ◌+◌, ℕ, true, nat_lt, cond, List, [], ◌∷◌, ◌++◌, Contains, Option, Some, None, codes}
+use Rattle.command_words.specs.Commands.{Command, OnFiles, Execute}
 use Rattle.hs_base.specs.Object.{Object}
 use Rattle.hs_base.specs.declared.ends.Leak.{Leak}
 use Rattle.c_pre.specs.declared.answer.Opened.{Opened}
@@ -10,14 +10,14 @@ use Rattle.heapsafe.specs.Leaks.{AreLeaks, leak_lines}
 use Rattle.heapsafe.specs.Places.{told_leaks}
 use Rattle.heapsafe.specs.declared.refusal.Refusal.{Refusal}
 use Rattle.heapsafe.specs.declared.refusal.Refusal.TheVariants.{Usage, TextFault, TextTooLong, BadCode, Unverified, NoMemory, OutputFault}
-use Rattle.heapsafe.specs.Shown.{Shown, refusal, input_fault, output_fault, text_fault, text_too_long, no_memory, bad_syntax, bad_type}
-use Rattle.heapsafe.specs.declared.reading.ReadError.{ReadError}
-use Rattle.heapsafe.specs.declared.reading.ReadError.TheVariants.{Fault, TooLong}
-use Rattle.heapsafe.specs.declared.reading.ReadError.TheVariants as reading
+use Rattle.heapsafe.specs.Shown.{Shown, refusal, input_fault, output_fault, text_fault, text_too_long, no_memory, bad_syntax, bad_type, conflicting, untokened}
+use Rattle.hs_base.specs.declared.reading.ReadError.{ReadError}
+use Rattle.hs_base.specs.declared.reading.ReadError.TheVariants.{Fault, TooLong}
+use Rattle.hs_base.specs.declared.reading.ReadError.TheVariants as reading
 use Rattle.c_decls.specs.declared.refusal.TypeError.{TypeError}
 use Rattle.c_decls.specs.declared.refusal.TypeError.TheVariants as type
-use Rattle.c_parser.specs.declared.error.ParseError.{ParseError}
-use Rattle.c_parser.specs.declared.error.ParseError.TheVariants as parse
+use Rattle.heapsafe.specs.declared.units.ProgramError.{ProgramError}
+use Rattle.heapsafe.specs.declared.units.ProgramError.TheVariants as program
 
 abbrev pub name_of : Refusal → List ℕ
 name_of Usage = codes "heapsafe"
@@ -55,10 +55,12 @@ unread Fault file = text_fault file
 unread TooLong file = text_too_long file
 unread reading.NoMemory file = no_memory
 
--- what is said where tokens have no tree
-abbrev pub unparsed : ParseError → List Opened → Shown
-unparsed (parse.Syntax line) opened = bad_syntax opened line
-unparsed parse.NoMemory opened = no_memory
+-- what is said where a program was not read
+abbrev pub unmade : ProgramError → Shown
+unmade (program.Text error) = untokened error
+unmade (program.Syntax texts line) = bad_syntax texts line
+unmade (program.Conflict texts name line) = conflicting texts (record { name = name; line = line })
+unmade program.NoMemory = no_memory
 
 -- what is said where types are refused
 abbrev pub untyped : TypeError → List Opened → Shown
@@ -104,9 +106,9 @@ IsFault status = (status ≡ 121) ⊎ (status ≡ 132) ⊎ (status ≡ 133)
 abbrev pub HasCause : Type 0 → Type 0 → Option (List ℕ) → Option (List ℕ) → ℕ → Type 0
 HasCause Fails Own taken taken' result = IsFault result → Fails ⊎ (Own × TakesLeaks taken taken')
 
--- a status of words, of a text or of a code file that are refused
+-- a status of words, of a program or of a code file that are refused
 abbrev pub IsRefusal : ℕ → Type 0
-IsRefusal status = (status ≡ 120) ⊎ ((136 ≤ status) × (status ≤ 138)) ⊎ ((122 ≤ status) × (status ≤ 125))
+IsRefusal status = (status ≡ 120) ⊎ ((136 ≤ status) × (status ≤ 139)) ⊎ ((122 ≤ status) × (status ≤ 125))
 
 -- with such a status the first of these holds; or it is a program's own, the second holds, and the error stream took no line but
 -- those of leaks
@@ -149,33 +151,33 @@ Faults t t' i i' o o' e e' result =
     ⊎ ((t < t') × (i' ≡ i) × (o' ≡ o) × (e' ≡ e) × (result ≡ 121))
     ⊎ ((t' ≡ t) × (i < i') × (o' ≡ o) × (e' ≡ e) × (result ≡ 132))
 
--- the file of the words, where a text failed
-abbrev pub unread_file : Option Command → ℕ → ℕ → Option (List ℕ)
-unread_file (Some (OnFile file task)) t t' = cond (nat_lt t t') (Some file) None
-unread_file (Some (Execute file heap stack steps leaks)) t t' = cond (nat_lt t t') (Some file) None
-unread_file asked t t' = None
+-- the files of the words, where a text failed
+abbrev pub unread_files : Option Command → ℕ → ℕ → Option (List (List ℕ))
+unread_files (Some (OnFiles files task)) t t' = cond (nat_lt t t') (Some files) None
+unread_files (Some (Execute file heap stack steps leaks)) t t' = cond (nat_lt t t') (Some (file ∷ [])) None
+unread_files asked t t' = None
 
--- a text is this file, or one that an include can name
-abbrev pub IsTextOf : List ℕ → List ℕ → Type 0
-IsTextOf file name = (name ≡ file) ⊎ (list_all is_path_byte name ≡ true)
+-- a text is one of these files, or one that an include can name
+abbrev pub IsTextOf : List (List ℕ) → List ℕ → Type 0
+IsTextOf files name = Contains files name ⊎ (list_all is_path_byte name ≡ true)
 
--- it is said of a text that it could not be read: of this file, or of one that an include can name
-pub record SaysUnread (file : List ℕ) (taken taken' : Option (List ℕ)) (faults faults' result : ℕ) : Type 0 where
+-- it is said of a text that it could not be read: of one of these files, or of one that an include can name
+pub record SaysUnread (files : List (List ℕ)) (taken taken' : Option (List ℕ)) (faults faults' result : ℕ) : Type 0 where
   pub name : List ℕ
-  pub is_text : IsTextOf file name
+  pub is_text : IsTextOf files name
   pub says : Says taken taken' faults faults' (text_fault name).err 121 result
 
 -- the line that is said where a write failed: that of the text that failed; else that of the input or of the output,
 -- where it failed; or, where neither did, that of the answer or of want of memory
-abbrev pub IsSaid : Option (List ℕ) → Shown → ℕ → ℕ → ℕ → ℕ → List ℕ → Type 0
-IsSaid (Some file) a i i' o o' line = (name : List ℕ) × IsTextOf file name × (line ≡ (text_fault name).err)
+abbrev pub IsSaid : Option (List (List ℕ)) → Shown → ℕ → ℕ → ℕ → ℕ → List ℕ → Type 0
+IsSaid (Some files) a i i' o o' line = (name : List ℕ) × IsTextOf files name × (line ≡ (text_fault name).err)
 IsSaid None a i i' o o' line =
     ((i < i') × (line ≡ input_fault.err)) ⊎ ((o < o') × (line ≡ output_fault.err))
     ⊎ ((i' ≡ i) × (o' ≡ o) × ((line ≡ a.err) ⊎ (line ≡ no_memory.err)))
 
 -- a write failed: the input lost a front of what this answer reads, the output took a front of what it writes, the error stream
 -- a front of one line that may be said, and nothing more was written to a stream that failed
-pub record Breaks (unread : Option (List ℕ)) (a : Shown) (left : List ℕ) (left' o o' e e' : Option (List ℕ)) (i i' f f' g g' : ℕ) : Type 0 where
+pub record Breaks (unread : Option (List (List ℕ))) (a : Shown) (left : List ℕ) (left' o o' e e' : Option (List ℕ)) (i i' f f' g g' : ℕ) : Type 0 where
   pub lost : List ℕ
   pub kept : List ℕ
   pub more : List ℕ
@@ -194,12 +196,12 @@ abbrev pub SaysMore : Shown → Type 0
 SaysMore a = a.err ≢ no_memory.err
 
 -- it broke off an answer that is as said, or the line of want of memory
-pub record BreaksOne (Is : Shown → Type 0) (unread : Option (List ℕ)) (left : List ℕ) (left' o o' e e' : Option (List ℕ)) (i i' f f' g g' : ℕ) : Type 0 where
+pub record BreaksOne (Is : Shown → Type 0) (unread : Option (List (List ℕ))) (left : List ℕ) (left' o o' e e' : Option (List ℕ)) (i i' f f' g g' : ℕ) : Type 0 where
   pub shown : Shown
   pub is : Is shown ⊎ (shown ≡ no_memory)
   pub breaks : Breaks unread shown left left' o o' e e' i i' f f' g g'
 
 -- where there is one answer that is as said, it broke off that one; and else one of them
-pub record BreaksOff (One : Type 0) (Is : Shown → Type 0) (unread : Option (List ℕ)) (left : List ℕ) (left' o o' e e' : Option (List ℕ)) (i i' f f' g g' : ℕ) : Type 0 where
+pub record BreaksOff (One : Type 0) (Is : Shown → Type 0) (unread : Option (List (List ℕ))) (left : List ℕ) (left' o o' e e' : Option (List ℕ)) (i i' f f' g g' : ℕ) : Type 0 where
   pub each : One → (a : Shown) → Is a → SaysMore a → Breaks unread a left left' o o' e e' i i' f f' g g'
   pub some : (One → ⊥) → BreaksOne Is unread left left' o o' e e' i i' f f' g g'

@@ -14,6 +14,7 @@ use Rattle.c_tree.specs.Canonical.{canonical}
 use Rattle.c_types.specs.TagTable.{TagTable}
 use Rattle.c_decls.specs.Refusals.{Checked, Refusal}
 use Rattle.c_decls.specs.Refusals as types
+use Rattle.c_units.specs.Merge.{Conflict}
 use Rattle.core_tree.specs.declared.program.Core.{Core}
 use Rattle.core_tree.specs.Listing.{listing}
 use Rattle.layout_list.specs.Listing.{layout_listing}
@@ -70,6 +71,10 @@ bad_place kind at = refusal_at at (codes "lex: " ++ word_of kind) 123
 
 abbrev pub bad_syntax : List Opened → ℕ → Shown
 bad_syntax opened line = refusal_at (line_in opened line) (codes "syntax") 124
+
+-- two units say what may not be said of one name twice. What a unit has for itself is in no conflict, so the name has no suffix
+abbrev pub conflicting : List Opened → Conflict → Shown
+conflicting opened conflict = refusal_at (line_in opened conflict.line) (codes "conflict: " ++ conflict.name) 139
 
 abbrev pub bad_type : List Opened → Refusal → Shown
 bad_type opened refusal = refusal_at (line_in opened refusal.line) (codes "type: " ++ types.word_of refusal.kind) 125

@@ -1,24 +1,26 @@
 //! Running the code of a code file.
 
-ghost use Rattle.std.specs.Prelude.{◌≡◌, ◌⊎◌, ◌+◌, ◌<◌, ◌≤◌, ◌^◌, ⊤, ℕ, List, Some, None, IfOk};
+ghost use Rattle.std.specs.Prelude.{◌≡◌, ◌⊎◌, ◌+◌, ◌<◌, ◌≤◌, ◌^◌, ⊤, ℕ, List, [], ◌∷◌, Some, None, IfOk};
 ghost use Rattle.code_file.specs.CodeFile.{HasBytes, IsFileOf, IsRanged};
 ghost use Rattle.code_soundness.specs.Laws.{HoldsBytes};
 ghost use Rattle.flat_code.specs.WellFormed.{IsWellFormed};
 ghost use Rattle.command_words.specs.Commands.{Execute};
 ghost use Rattle.heapsafe.specs.Execution.{AnswersBytes, AnswersCode, AnswersExecution, AnswersVerified, IsWithin, code_text};
 ghost use Rattle.heapsafe.specs.Program.{input_of, steady};
-ghost use Rattle.heapsafe.specs.Saying.{Breaks, Faults, Gives, HasCause, Refuses, Says, SaysMore, SaysUnread, Wants, WriteFails, shown_of, unread, unread_file};
+ghost use Rattle.heapsafe.specs.Saying.{Breaks, Faults, Gives, HasCause, Refuses, Says, SaysMore, SaysUnread, Wants, WriteFails, shown_of, unread, unread_files};
 ghost use Rattle.heapsafe.specs.Shown.{Shown, input_fault, output_fault};
 
 use crate::program::finish_run;
-use crate::reading::{ReadError, read_file};
 use crate::refusal::{Refusal, refuse};
 use crate::running::run_file;
 use c_pre::Opened;
 use code_file::{CodeError, CodeFile, read_code, verify};
 use compiled_file::whole_runs_are_whole;
-use hs_base::{Items, Limits, NoMemory, Sink, Source, Texts};
+use hs_base::{Items, Limits, NoMemory, ReadError, Sink, Source, Texts, read_all};
 use std::alloc::Global;
+
+/// How many bytes a code file may have.
+const MOST_BYTES: u32 = 134_217_728;
 
 /// How code is run: within these limits, with so many steps, and perhaps with a line for each leak behind an exit.
 #[derive(Clone, Copy)]
@@ -239,14 +241,14 @@ pub(crate) fn execute_file<T: Texts, I: Source, O: Sink, E: Sink>(
         Says (E.taken err.old) (E.taken err.new) (E.faults err.old) (E.faults err.new)
         output_fault.err 133 result }
     ensures text_fault { T.faults texts.old < T.faults texts.new → (input.new ≡ input.old) ×
-        (out.new ≡ out.old) × SaysUnread file.now (E.taken err.old) (E.taken err.new)
+        (out.new ≡ out.old) × SaysUnread (file.now ∷ []) (E.taken err.old) (E.taken err.new)
         (E.faults err.old) (E.faults err.new) result }
     ensures broken { (told : List ℕ → List ℕ) (left : List ℕ) → T.texts texts.old ≡ Some told →
         I.left input.old ≡ Some left → WriteFails (O.faults out.old) (O.faults out.new)
         (E.faults err.old) (E.faults err.new) → (a : Shown) →
         AnswersExecution file.now (told file.now) (steady left) asked a → SaysMore a →
         Breaks
-        (unread_file
+        (unread_files
         (Some (Execute file.now asked.limits.heap asked.limits.stack asked.steps asked.leaks))
         (T.faults texts.old) (T.faults texts.new)) a left (I.left input.new) (O.taken out.old)
         (O.taken out.new) (E.taken err.old) (E.taken err.new) (I.faults input.old)
@@ -260,7 +262,7 @@ pub(crate) fn execute_file<T: Texts, I: Source, O: Sink, E: Sink>(
     ensures refused { Refuses ((input.new ≡ input.old) × (out.new ≡ out.old)) ⊤ (E.taken err.old)
         (E.taken err.new) result }
 {
-    match read_file(alloc, texts, file) {
+    match read_all(alloc, texts, file, MOST_BYTES) {
         Ok(bytes) => with_bytes(alloc, file, bytes, asked, input, out, err),
         Err(error) => refuse(err, reading_refusal(error, file)),
     }

@@ -1,17 +1,17 @@
 //! The command `self N`: a text with N functions is made and run, and the line of its run is written.
 
 ghost use Rattle.std.specs.Prelude.{◌≡◌, ◌≤◌, ◌+◌, ◌-◌, ◌<◌, ◌^◌, ℕ, All, List, [], Some, None, IfOk, false, length};
-ghost use Rattle.c_elab.specs.Core.{IsOfTokens, core_in};
+ghost use Rattle.c_elab.specs.Core.{core_in};
 ghost use Rattle.c_lexer.specs.Tokens.{IsLexed};
 ghost use Rattle.c_tree.specs.StatementView.{unit_view};
 ghost use Rattle.core_soundness.specs.Laws.{AreWithin};
+ghost use Rattle.core_soundness.specs.Texts.{IsOfTexts};
 ghost use Rattle.core_tree.specs.Sound.{IsSound};
 ghost use Rattle.command_words.specs.Commands.{Run};
 ghost use Rattle.generated_text.specs.Summary.{summary_line};
 ghost use Rattle.heapsafe.specs.Answer.{AnswersGenerated, AnswersText, alone, no_input};
 ghost use Rattle.heapsafe.specs.Generated.{IsPrepared, IsPreparedTokens, IsPreparedUnit, MakesOnly, SumsUp, Went, steps_of};
 ghost use Rattle.heapsafe.specs.Program.{AnswersWay};
-ghost use Rattle.c_pre.specs.Bounds.{most_tokens};
 ghost use Rattle.c_pre.specs.Texts.{most_bytes};
 ghost use Rattle.heapsafe.specs.Saying.{Breaks, Faults, Gives, HasCause, Refuses, Says, Wants, WriteFails};
 ghost use Rattle.heapsafe.specs.Shown.{Shown, output_fault, written};
@@ -61,7 +61,7 @@ struct Ran {
 
 /// The core of a tree.
 fn prepare_unit(alloc: Global, unit: &Unit) -> Result<Prepared, NoMemory>
-    requires { IsOfTokens (unit_view unit.now) }
+    requires { IsOfTexts (unit_view unit.now) }
     ensures { IfOk result (IsPreparedUnit (core_in (unit_view unit.now))) }
 {
     match elab(alloc, unit) {
@@ -74,7 +74,7 @@ fn prepare_unit(alloc: Global, unit: &Unit) -> Result<Prepared, NoMemory>
 /// The core of tokens.
 fn prepare_tokens(alloc: Global, tokens: &[Token]) -> Result<Prepared, NoMemory>
     requires lexed { All IsLexed tokens.now }
-    requires short { AreWithin most_tokens tokens.now }
+    requires short { AreWithin most_bytes tokens.now }
     ensures { IfOk result (IsPreparedTokens tokens.now) }
 {
     match parse(alloc, tokens) {

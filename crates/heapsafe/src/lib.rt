@@ -6,18 +6,14 @@
 //! outside comes only where the outside failed; and what want of memory leaves as it was.
 #![tactic(auto)]
 
-ghost use Rattle.std.specs.Prelude.{◌≡◌, ◌⊎◌, ◌+◌, ◌<◌, ◌^◌, ℕ, List, Some, None, map, All};
-ghost use Rattle.c_elab.specs.Core.{IsOfTokens};
-ghost use Rattle.c_lexer.specs.Tokens.{IsLexed};
-ghost use Rattle.core_soundness.specs.Laws.{AreWithin};
-ghost use Rattle.command_words.specs.Commands.{OnFile, command_of, task_shown, IsLimited};
+ghost use Rattle.std.specs.Prelude.{◌≡◌, ◌⊎◌, ◌+◌, ◌<◌, ◌≤◌, ◌^◌, ℕ, List, Some, None, length, map};
+ghost use Rattle.core_soundness.specs.Texts.{IsOfTexts};
+ghost use Rattle.command_words.specs.Commands.{OnFiles, command_of, task_shown, IsLimited};
 ghost use Rattle.c_tree.specs.StatementView.{unit_view};
-ghost use Rattle.heapsafe.specs.Answer.{Answers, AnswersTokens, AnswersFile, AsksNoFile, AsksNoMeaning, AsksNone, AsksOne, Does, HasOne, MeansNone, RunsNone, file_asked};
-ghost use Rattle.c_pre.specs.Bounds.{most_tokens};
-ghost use Rattle.c_pre.specs.Texts.{preprocessed};
+ghost use Rattle.heapsafe.specs.Answer.{Answers, AnswersFiles, AsksNoFile, AsksNoMeaning, AsksNone, AsksOne, Does, HasOne, MeansNone, RunsNone, files_asked, first_of};
 ghost use Rattle.heapsafe.specs.Shown.{input_fault, output_fault};
 ghost use Rattle.heapsafe.specs.Program.{input_of, steady};
-ghost use Rattle.heapsafe.specs.Saying.{BreaksOff, Faults, Gives, HasCause, Refuses, Says, SaysUnread, Wants, WriteFails, unread_file};
+ghost use Rattle.heapsafe.specs.Saying.{BreaksOff, Faults, Gives, HasCause, Refuses, Says, SaysUnread, Wants, WriteFails, unread_files};
 
 mod executing;
 mod generated;
@@ -27,14 +23,12 @@ mod lent;
 mod log;
 mod places;
 mod program;
-mod reading;
 mod refusal;
 mod running;
+mod units;
 mod written;
 
-use c_lexer::Token;
-use c_parser::parse;
-use c_pre::{Opened, pre};
+use c_pre::Opened;
 use c_tree::Unit;
 use command_words::{Command, Task, WordsError};
 use executing::{Asked, execute_file};
@@ -42,8 +36,9 @@ use generated::run_generated;
 use hs_base::{Limits, Sink, Source, Texts};
 pub use laws::executions_are_runs;
 use program::{Way, run_program};
-use refusal::{Refusal, refuse, refuse_text, refuse_tokens};
+use refusal::{Refusal, refuse, refuse_program};
 use std::alloc::Global;
+use units::read_program;
 use written::{core_compiled, core_list, core_live, layouts, print};
 
 /// Does what is asked with a text that has this tree.
@@ -57,7 +52,7 @@ fn with_tree<I: Source, O: Sink, E: Sink>(
     out: &mut O,
     err: &mut E,
 ) -> u8
-    requires text { IsOfTokens (unit_view unit.now) }
+    requires text { IsOfTexts (unit_view unit.now) }
     requires limits { IsLimited (task_shown task) }
     requires input { I.faults input.old + 1 < 2 ^ 64 }
     requires out { O.faults out.old + 1 < 2 ^ 64 }
@@ -120,70 +115,26 @@ fn with_tree<I: Source, O: Sink, E: Sink>(
     }
 }
 
-/// Does what is asked with a text that has these tokens.
-fn with_tokens<I: Source, O: Sink, E: Sink>(
-    alloc: Global,
-    file: &str,
-    task: Task,
-    opened: &[Opened],
-    tokens: &[Token],
-    input: &mut I,
-    out: &mut O,
-    err: &mut E,
-) -> u8
-    requires lexed { All IsLexed tokens.now }
-    requires short { AreWithin most_tokens tokens.now }
-    requires limits { IsLimited (task_shown task) }
-    requires input { I.faults input.old + 1 < 2 ^ 64 }
-    requires out { O.faults out.old + 1 < 2 ^ 64 }
-    requires err { E.faults err.old + 1 < 2 ^ 64 }
-    ensures exact { (left : List ℕ) → I.left input.old ≡ Some left →
-        O.faults out.new ≡ O.faults out.old → E.faults err.new ≡ E.faults err.old →
-        Gives (AnswersTokens file.now opened.now tokens.now
-        (input_of left (I.faults input.old) (I.faults input.new)) (task_shown task)) left
-        (I.left input.new) (O.taken out.old) (O.taken out.new) (E.taken err.old) (E.taken err.new)
-        result }
-    ensures faults { (t : ℕ) → Faults t t (I.faults input.old) (I.faults input.new)
-        (O.faults out.old) (O.faults out.new) (E.faults err.old) (E.faults err.new) result }
-    ensures input_fault { I.faults input.old < I.faults input.new →
-        Says (E.taken err.old) (E.taken err.new) (E.faults err.old) (E.faults err.new)
-        input_fault.err 132 result }
-    ensures output_fault { O.faults out.old < O.faults out.new →
-        Says (E.taken err.old) (E.taken err.new) (E.faults err.old) (E.faults err.new)
-        output_fault.err 133 result }
-    ensures stays { RunsNone (task_shown task) → input.new ≡ input.old }
-    ensures broken { (left : List ℕ) → I.left input.old ≡ Some left → WriteFails (O.faults out.old)
-        (O.faults out.new) (E.faults err.old) (E.faults err.new) →
-        BreaksOff (HasOne (task_shown task)) (AnswersTokens file.now opened.now tokens.now
-        (steady left) (task_shown task)) None left (I.left input.new) (O.taken out.old)
-        (O.taken out.new) (E.taken err.old) (E.taken err.new) (I.faults input.old)
-        (I.faults input.new) (O.faults out.old) (O.faults out.new) (E.faults err.old)
-        (E.faults err.new) }
-    ensures memory { Wants (MeansNone (task_shown task) → (input.new ≡ input.old) ×
-        (out.new ≡ out.old)) (RunsNone (task_shown task) → ⊥) (E.taken err.old) (E.taken err.new)
-        result }
-    ensures cause { HasCause ((I.faults input.old < I.faults input.new) ⊎
-        WriteFails (O.faults out.old) (O.faults out.new) (E.faults err.old) (E.faults err.new))
-        (RunsNone (task_shown task) → ⊥) (E.taken err.old) (E.taken err.new) result }
-    ensures refused { Refuses ((input.new ≡ input.old) × (out.new ≡ out.old))
-        (RunsNone (task_shown task) → ⊥) (E.taken err.old) (E.taken err.new) result }
+/// The first of some files.
+fn first<'a>(files: &[&'a str]) -> &'a str
+    requires { 0 < length files.now }
+    ensures { result.now ≡ first_of (map (λ w. w.now) files.entry.now) }
 {
-    match parse(alloc, tokens) {
-        Ok(unit) => with_tree(alloc, file, task, opened, &unit, input, out, err),
-        Err(error) => refuse_tokens(err, error, opened),
-    }
+    files[0]
 }
 
-/// Preprocesses a file, and does what is asked with its tokens.
-fn with_file<T: Texts, I: Source, O: Sink, E: Sink>(
+/// Reads the program of some files, and does what is asked with it.
+fn with_files<T: Texts, I: Source, O: Sink, E: Sink>(
     alloc: Global,
-    file: &str,
+    files: &[&str],
     task: Task,
     texts: &mut T,
     input: &mut I,
     out: &mut O,
     err: &mut E,
 ) -> u8
+    requires some { 0 < length files.now }
+    requires few { length files.now ≤ 64 }
     requires limits { IsLimited (task_shown task) }
     requires texts { T.faults texts.old + 1 < 2 ^ 64 }
     requires input { I.faults input.old + 1 < 2 ^ 64 }
@@ -192,8 +143,8 @@ fn with_file<T: Texts, I: Source, O: Sink, E: Sink>(
     ensures exact { (told : List ℕ → List ℕ) (left : List ℕ) → T.texts texts.old ≡ Some told →
         I.left input.old ≡ Some left → T.faults texts.new ≡ T.faults texts.old →
         O.faults out.new ≡ O.faults out.old → E.faults err.new ≡ E.faults err.old →
-        Gives (AnswersFile file.now told (input_of left (I.faults input.old) (I.faults input.new))
-        (task_shown task)) left (I.left input.new) (O.taken out.old) (O.taken out.new)
+        Gives (AnswersFiles (map (λ w. w.now) files.now) told
+        (input_of left (I.faults input.old) (I.faults input.new)) (task_shown task)) left (I.left input.new) (O.taken out.old) (O.taken out.new)
         (E.taken err.old) (E.taken err.new) result }
     ensures faults { Faults (T.faults texts.old) (T.faults texts.new) (I.faults input.old)
         (I.faults input.new) (O.faults out.old) (O.faults out.new) (E.faults err.old)
@@ -206,13 +157,13 @@ fn with_file<T: Texts, I: Source, O: Sink, E: Sink>(
         output_fault.err 133 result }
     ensures stays { RunsNone (task_shown task) → input.new ≡ input.old }
     ensures text_fault { T.faults texts.old < T.faults texts.new → (input.new ≡ input.old) ×
-        (out.new ≡ out.old) × SaysUnread file.now (E.taken err.old) (E.taken err.new)
+        (out.new ≡ out.old) × SaysUnread (map (λ w. w.now) files.now) (E.taken err.old) (E.taken err.new)
         (E.faults err.old) (E.faults err.new) result }
     ensures broken { (told : List ℕ → List ℕ) (left : List ℕ) → T.texts texts.old ≡ Some told →
         I.left input.old ≡ Some left → WriteFails (O.faults out.old) (O.faults out.new)
         (E.faults err.old) (E.faults err.new) → BreaksOff (HasOne (task_shown task))
-        (AnswersFile file.now told (steady left) (task_shown task))
-        (unread_file (Some (OnFile file.now (task_shown task))) (T.faults texts.old)
+        (AnswersFiles (map (λ w. w.now) files.now) told (steady left) (task_shown task))
+        (unread_files (Some (OnFiles (map (λ w. w.now) files.now) (task_shown task))) (T.faults texts.old)
         (T.faults texts.new)) left (I.left input.new) (O.taken out.old) (O.taken out.new)
         (E.taken err.old) (E.taken err.new) (I.faults input.old) (I.faults input.new)
         (O.faults out.old) (O.faults out.new) (E.faults err.old) (E.faults err.new) }
@@ -226,20 +177,20 @@ fn with_file<T: Texts, I: Source, O: Sink, E: Sink>(
     ensures refused { Refuses ((input.new ≡ input.old) × (out.new ≡ out.old))
         (RunsNone (task_shown task) → ⊥) (E.taken err.old) (E.taken err.new) result }
 {
-    match pre(alloc, texts, file, 0) {
-        Ok(read) => {
-            with_tokens(
+    match read_program(alloc, texts, files) {
+        Ok(program) => {
+            with_tree(
                 alloc,
-                file,
+                first(files),
                 task,
-                read.texts.as_slice(),
-                read.tokens.as_slice(),
+                program.texts.as_slice(),
+                &program.unit,
                 input,
                 out,
                 err,
             )
         }
-        Err(error) => refuse_text(err, &error),
+        Err(error) => refuse_program(err, &error),
     }
 }
 
@@ -248,23 +199,24 @@ fn with_file<T: Texts, I: Source, O: Sink, E: Sink>(
 /// `words` are the arguments after the program's name. The texts are read by name, `input` is the program's input, its
 /// output goes to `out`, and what is said of it goes to `err`.
 ///
-/// For every accepted text, input, number of steps and size of the heap, `run` writes the bytes and answers the status or trap that
+/// The texts of some files make a program: each is preprocessed and parsed by itself, and their units are merged. For every accepted
+/// program, input, number of steps and size of the heap, `run` writes the bytes and answers the status or trap that
 /// the object meaning gives, in which an allocation answers null exactly where first fit finds no place. It stops at the first
 /// bad free or escaping local with its line, never touches a freed object, and reports out of stack exactly where the costs of
 /// the active calls would pass the stack.
 ///
-/// `compile` writes the code file of a text's core, and `exec` does for such a file what the meaning of its code says; code that is
+/// `compile` writes the code file of a program's core, and `exec` does for such a file what the meaning of its code says; code that is
 /// not well formed it does not run.
 ///
 /// Where texts and input are told and neither texts nor streams failed, what is read and answered, and what each stream took that
 /// tells of it, is by `Answers`, or nothing but the line of want of memory. Where a write to a stream failed, the input lost a
 /// front of what the answer reads, the output took a front of what it writes, and nothing more was written to a stream that
-/// failed. The error stream then took a front of one line: of the text that failed, which is the file of the words or one that an
+/// failed. The error stream then took a front of one line: of the text that failed, which is a file of the words or one that an
 /// include names; of the input or the output where that failed; and else the answer's own, or the one for want of memory.
 ///
 /// The rest holds whatever is told. The status of a failure of the texts, the input or a stream comes only where that failed, and
 /// where it failed its line is said, unless the error stream fails. The status of want of memory comes with its line, and input
-/// and output are as before unless a program is evaluated by `mean`; with the status of words or a text that are refused they are
+/// and output are as before unless a program is evaluated by `mean`; with the status of words or a program that are refused they are
 /// as before. Each of these statuses may also be a program's own: then no line was said but those of leaks. Where the text could
 /// not be read, the input and the output are as before; so is the input where no program of a file is run; of words that name no
 /// file the texts are not asked; and of words that are not taken nothing but the error stream is.
@@ -300,16 +252,15 @@ pub fn heapsafe<T: Texts, I: Source, O: Sink, E: Sink>(
     ensures no_file { AsksNoFile (command_of (map (λ w. w.now) words.now)) →
         (texts.new ≡ texts.old) × (input.new ≡ input.old) }
     ensures stays { AsksNone (command_of (map (λ w. w.now) words.now)) → input.new ≡ input.old }
-    ensures text_fault { (file : List ℕ) → file_asked (command_of (map (λ w. w.now) words.now)) ≡
-        Some file → T.faults texts.old < T.faults texts.new → (input.new ≡ input.old) ×
-        (out.new ≡ out.old) × SaysUnread file (E.taken err.old) (E.taken err.new) (E.faults err.old)
-        (E.faults err.new) result }
+    ensures text_fault { T.faults texts.old < T.faults texts.new → (input.new ≡ input.old) ×
+        (out.new ≡ out.old) × SaysUnread (files_asked (command_of (map (λ w. w.now) words.now)))
+        (E.taken err.old) (E.taken err.new) (E.faults err.old) (E.faults err.new) result }
     ensures broken { (told : List ℕ → List ℕ) (left : List ℕ) → T.texts texts.old ≡ Some told →
         I.left input.old ≡ Some left → WriteFails (O.faults out.old) (O.faults out.new)
         (E.faults err.old) (E.faults err.new) →
         BreaksOff (AsksOne (command_of (map (λ w. w.now) words.now)))
         (Answers (map (λ w. w.now) words.now) told (steady left))
-        (unread_file (command_of (map (λ w. w.now) words.now)) (T.faults texts.old)
+        (unread_files (command_of (map (λ w. w.now) words.now)) (T.faults texts.old)
         (T.faults texts.new)) left (I.left input.new) (O.taken out.old) (O.taken out.new)
         (E.taken err.old) (E.taken err.new) (I.faults input.old) (I.faults input.new)
         (O.faults out.old) (O.faults out.new) (E.faults err.old) (E.faults err.new) }
@@ -326,7 +277,9 @@ pub fn heapsafe<T: Texts, I: Source, O: Sink, E: Sink>(
         result }
 {
     match command_words::read(alloc, words) {
-        Ok(Command::OnFile { file, task }) => with_file(alloc, file, task, texts, input, out, err),
+        Ok(Command::OnFiles { files, task }) => {
+            with_files(alloc, files.as_slice(), task, texts, input, out, err)
+        }
         Ok(
             Command::Execute {
                 file,

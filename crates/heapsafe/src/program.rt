@@ -2,7 +2,8 @@
 
 ghost use Rattle.std.specs.Prelude.{◌≡◌, ◌⊎◌, ◌+◌, ◌<◌, ◌≤◌, ◌^◌, ⊤, ℕ, List, [], Some, None, false, IsTrue};
 ghost use Rattle.c_tree.specs.StatementView.{unit_view};
-ghost use Rattle.c_elab.specs.Core.{IsOfTokens, core_in};
+ghost use Rattle.c_elab.specs.Core.{core_in};
+ghost use Rattle.core_soundness.specs.Texts.{IsOfTexts};
 ghost use Rattle.core_tree.specs.Sound.{IsSound};
 ghost use Rattle.flat_objects.specs.Keeping.{Keeps};
 ghost use Rattle.flat_objects.specs.Leaks.{KeepsSome};
@@ -328,7 +329,7 @@ pub(crate) fn run_program<I: Source, O: Sink, E: Sink>(
     out: &mut O,
     err: &mut E,
 ) -> u8
-    requires text { IsOfTokens (unit_view unit.now) }
+    requires text { IsOfTexts (unit_view unit.now) }
     requires limits { IsBounded way }
     requires input { I.faults input.old + 1 < 2 ^ 64 }
     requires out { O.faults out.old + 1 < 2 ^ 64 }

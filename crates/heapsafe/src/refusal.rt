@@ -3,12 +3,12 @@
 ghost use Rattle.std.specs.Prelude.{◌≡◌, ◌+◌, ◌<◌, ◌^◌, ◌++◌};
 ghost use Rattle.heapsafe.specs.Places.{line_in};
 ghost use Rattle.heapsafe.specs.Shown.{refusal_at, untokened};
-ghost use Rattle.heapsafe.specs.Saying.{Says, name_of, words_of, status_in, shown_of, unparsed, untyped};
+ghost use Rattle.heapsafe.specs.Saying.{Says, name_of, words_of, status_in, shown_of, unmade, untyped};
 
 use crate::places::text_of;
+use crate::units::ProgramError;
 use bad_free_report::{complain, complain_labelled};
 use c_decls::TypeError;
-use c_parser::ParseError;
 use c_pre::{Opened, PreError};
 use hs_base::{Line, Sink};
 
@@ -90,6 +90,9 @@ pub(crate) const BAD_TREE: u8 = 124;
 
 /// The status of a text whose types are refused.
 pub(crate) const BAD_TYPES: u8 = 125;
+
+/// The status of a program of which two units say what may not be said of one name twice.
+pub(crate) const CONFLICT: u8 = 139;
 
 /// Writes the line of a refusal and answers its status, or that of a failed write.
 pub(crate) fn refuse<E: Sink>(err: &mut E, refusal: Refusal<'_>) -> u8
@@ -189,18 +192,6 @@ pub(crate) fn refuse_text<E: Sink>(err: &mut E, error: &PreError) -> u8
     }
 }
 
-/// Says why tokens have no tree, and answers the status of that.
-pub(crate) fn refuse_tokens<E: Sink>(err: &mut E, error: ParseError, opened: &[Opened]) -> u8
-    requires { E.faults err.old + 1 < 2 ^ 64 }
-    ensures says { Says (E.taken err.old) (E.taken err.new) (E.faults err.old) (E.faults err.new)
-        (unparsed error opened.now).err (unparsed error opened.now).status result }
-{
-    match error {
-        ParseError::Syntax { line } => refuse_in(err, opened, line, b"", b"syntax", BAD_TREE),
-        ParseError::NoMemory => refuse(err, Refusal::NoMemory),
-    }
-}
-
 /// Says why the types of a text are refused, and answers the status of that.
 pub(crate) fn refuse_types<E: Sink>(err: &mut E, error: TypeError, opened: &[Opened]) -> u8
     requires { E.faults err.old + 1 < 2 ^ 64 }
@@ -219,5 +210,30 @@ pub(crate) fn refuse_types<E: Sink>(err: &mut E, error: TypeError, opened: &[Ope
             )
         }
         TypeError::NoMemory => refuse(err, Refusal::NoMemory),
+    }
+}
+
+/// Says why a program was not read, and answers the status of that.
+pub(crate) fn refuse_program<E: Sink>(err: &mut E, error: &ProgramError) -> u8
+    requires { E.faults err.old + 1 < 2 ^ 64 }
+    ensures says { Says (E.taken err.old) (E.taken err.new) (E.faults err.old) (E.faults err.new)
+        (unmade error.now).err (unmade error.now).status result }
+{
+    match error {
+        ProgramError::Text(error) => refuse_text(err, error),
+        ProgramError::Syntax { texts, line } => {
+            refuse_in(err, texts.as_slice(), *line, b"", b"syntax", BAD_TREE)
+        }
+        ProgramError::Conflict { texts, name, line } => {
+            refuse_in(
+                err,
+                texts.as_slice(),
+                *line,
+                b"conflict: ",
+                name.as_slice(),
+                CONFLICT,
+            )
+        }
+        ProgramError::NoMemory => refuse(err, Refusal::NoMemory),
     }
 }

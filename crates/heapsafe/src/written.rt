@@ -3,7 +3,8 @@
 
 ghost use Rattle.std.specs.Prelude.{◌≡◌, ◌+◌, ◌<◌, ◌^◌, ℕ, List, [], Some, None, Ok, IfOk};
 ghost use Rattle.c_tree.specs.StatementView.{unit_view};
-ghost use Rattle.c_elab.specs.Core.{IsOfTokens, core_in};
+ghost use Rattle.c_elab.specs.Core.{core_in};
+ghost use Rattle.core_soundness.specs.Texts.{IsOfTexts};
 ghost use Rattle.core_tree.specs.Sound.{IsSound};
 ghost use Rattle.heapsafe.specs.Execution.{AnswersCompiled, IsCompiledTo};
 ghost use Rattle.core_tree.specs.Listing.{listing};
@@ -256,7 +257,7 @@ pub(crate) fn core_compiled<O: Sink, E: Sink>(
     out: &mut O,
     err: &mut E,
 ) -> u8
-    requires text { IsOfTokens (unit_view unit.now) }
+    requires text { IsOfTexts (unit_view unit.now) }
     requires out { O.faults out.old + 1 < 2 ^ 64 }
     requires err { E.faults err.old + 1 < 2 ^ 64 }
     ensures exact { (left : List ℕ) → O.faults out.new ≡ O.faults out.old →

@@ -20,7 +20,7 @@ returns-in-Ok-clause-exact g c = λ told left k l same_texts same_out same_err.
 
 pub returns-in-Ok-clause-faults : goal.returns-in-Ok-clause-faults
 returns-in-Ok-clause-faults g c =
-    faults_as (g.T.Texts.faults c.args.texts.now) (g.T.Texts.faults c.read_file.new.texts) _ _ _ _ _ _ c.with_bytes.result
+    faults_as (g.T.Texts.faults c.args.texts.now) (g.T.Texts.faults c.read_all.new.texts) _ _ _ _ _ _ c.with_bytes.result
     c.in-Ok.ensures.cause (c.with_bytes.ensures.faults (g.T.Texts.faults c.args.texts.now))
 
 pub returns-in-Ok-clause-broken : goal.returns-in-Ok-clause-broken

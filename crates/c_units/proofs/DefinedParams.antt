@@ -1,0 +1,97 @@
+-- The parameters of a function that is defined.
+use Rattle.std.proofs.Common.{◌≡◌, ◌<◌, ◌≤◌, ℕ, List, [], ◌∷◌, Option, Some, None, Box, Vec, Global, length, get_or, refl, ap, sym, ◌∙◌, arith}
+use Rattle.c_tree.specs.declared.tree.Declarator.{Declarator}
+use Rattle.c_tree.specs.declared.tree.Declarator.TheVariants as d
+use Rattle.c_tree.specs.declared.tree.Base.{Base}
+use Rattle.c_tree.specs.declared.tree.Base.TheVariants as b
+use Rattle.c_tree.specs.declared.tree.Suffix.{Suffix}
+use Rattle.c_tree.specs.declared.tree.SuffixKind.{SuffixKind}
+use Rattle.c_tree.specs.declared.tree.SuffixKind.TheVariants as s
+use Rattle.c_tree.specs.declared.tree.Param.{Param}
+use Rattle.c_tree.specs.declared.tree.Expr.{Expr}
+use Rattle.c_tree.specs.Forms as f
+use Rattle.c_tree.specs.Tree.{Tree, Trees, At, Node, none, ◌▹◌}
+use Rattle.c_tree.specs.Scopes.{is_scope, first_list, leads_to_name, params_of, params_among, suffix_params}
+use Rattle.c_tree.specs.View.{declarator_tree, base_tree, suffix_tree}
+use Rattle.c_tree.specs.StatementView.{trees, suffix_view, param_view}
+use Rattle.c_tree.proofs.Views.{direct_tree, params_tree}
+use Rattle.c_units.specs.Names.{Names, behind, all_behind}
+use Rattle.c_units.specs.Externals.{with_params}
+use Rattle.c_units.specs.Turns.{in_turn, kind_params}
+use Rattle.c_units.proofs.ListTurns.{params_turn}
+
+list_none : (list : Option Trees) → first_list list None ≡ list
+list_none None = refl
+list_none (Some parts) = refl
+
+among_declarator : (declarator : Declarator) → params_among (declarator_tree declarator ▹ none) ≡ params_of (declarator_tree declarator)
+unfolding declarator_tree params_among
+among_declarator (d.Pointer' line consts p target) = list_none (params_of (declarator_tree (d.Pointer' line consts p target)))
+among_declarator (d.Direct' base shape suffixes) = list_none (params_of (declarator_tree (d.Direct' base shape suffixes)))
+
+pub pointer_params : (declarator : Declarator) (line consts : ℕ) (target : Box Declarator Global) → declarator ≡ d.Pointer line consts target →
+    params_of (declarator_tree declarator) ≡ params_of (declarator_tree target.value)
+unfolding declarator_tree params_of params_among leads_to_name
+pointer_params declarator line consts target h =
+    ap (λ (k : Declarator). params_of (declarator_tree k)) h ∙ among_declarator target.value
+
+pub direct_params : (declarator : Declarator) (base : Base) (suffixes : Vec Suffix Global) → declarator ≡ d.Direct base suffixes →
+    params_of (declarator_tree declarator) ≡ params_of (Node f.Direct (base_tree base ▹ Node f.Suffixes (trees suffix_view suffixes.items) ▹ none))
+direct_params declarator base suffixes h =
+    ap (λ (k : Declarator). params_of (declarator_tree k)) h ∙ ap (λ (tree : Tree). params_of tree) (direct_tree base suffixes)
+
+module _ (base : Base) (parts : Trees) where
+  pub nothing_params : base ≡ b.Nothing → params_of (Node f.Direct (base_tree base ▹ Node f.Suffixes parts ▹ none)) ≡ None
+  unfolding base_tree params_of params_among leads_to_name
+  nothing_params h =
+      ap (λ (k : Base). params_of (Node f.Direct (base_tree k ▹ Node f.Suffixes parts ▹ none))) h
+
+  pub name_params : (name : List ℕ) → base ≡ b.Name name →
+      params_of (Node f.Direct (base_tree base ▹ Node f.Suffixes parts ▹ none)) ≡ suffix_params (Node f.Suffixes parts ▹ none)
+  unfolding base_tree params_of params_among leads_to_name
+  name_params name h =
+      ap (λ (k : Base). params_of (Node f.Direct (base_tree k ▹ Node f.Suffixes parts ▹ none))) h
+
+  pub parens_params : (line : ℕ) (declarator : Box Declarator Global) → base ≡ b.Parens line declarator →
+      params_of (Node f.Direct (base_tree base ▹ Node f.Suffixes parts ▹ none)) ≡ params_of (declarator_tree declarator.value)
+  unfolding base_tree params_of params_among leads_to_name
+  parens_params line declarator h =
+      ap (λ (k : Base). params_of (Node f.Direct (base_tree k ▹ Node f.Suffixes parts ▹ none))) h
+      ∙ list_none (params_among (declarator_tree declarator.value ▹ none))
+      ∙ among_declarator declarator.value
+
+-- the line of a suffix, and those behind it, do not matter
+any_line : (kind : SuffixKind) (line : ℕ) (rest : Trees) →
+    suffix_params (Node f.Suffixes (suffix_tree kind line ▹ rest) ▹ none) ≡ kind_params kind
+unfolding suffix_tree suffix_params
+any_line (s.Array' length) line rest = refl
+any_line s.Void line rest = refl
+any_line (s.Params' shape params) line rest = refl
+
+pub first_is : (xs : List Suffix) (x : Suffix) → 0 < length xs → x ≡ get_or xs 0 x →
+    suffix_params (Node f.Suffixes (trees suffix_view xs) ▹ none) ≡ kind_params x.kind
+first_is [] x h e = absurd (omega (arith, h))
+first_is (y ∷ ys) x h e =
+    any_line y.kind y.line (trees suffix_view ys) ∙ ap (λ (z : Suffix). kind_params z.kind) (sym e)
+
+pub none_is : (xs : List Suffix) → length xs ≤ 0 → suffix_params (Node f.Suffixes (trees suffix_view xs) ▹ none) ≡ None
+unfolding suffix_params
+none_is [] h = refl
+none_is (x ∷ xs) h = absurd (omega (arith, h))
+
+module _ (x : Names) where
+  pub array_params : (kind : SuffixKind) (length : Option (Box Expr Global)) → kind ≡ s.Array length → with_params (kind_params kind) x ≡ x
+  unfolding suffix_tree suffix_params
+  array_params kind length h = ap (λ (k : SuffixKind). with_params (kind_params k) x) h
+
+  pub void_params : (kind : SuffixKind) → kind ≡ s.Void → with_params (kind_params kind) x ≡ x
+  unfolding suffix_tree suffix_params all_behind
+  void_params kind h = ap (λ (k : SuffixKind). with_params (kind_params k) x) h
+
+  pub list_params : (kind : SuffixKind) (params : Vec Param Global) → kind ≡ s.Params params →
+      with_params (kind_params kind) x ≡ in_turn (trees param_view params.items) x
+  unfolding suffix_params all_behind is_scope
+  list_params kind params h =
+      ap (λ (k : SuffixKind). with_params (kind_params k) x) h
+      ∙ ap (λ (tree : Tree). with_params (suffix_params (Node f.Suffixes (tree ▹ none) ▹ none)) x) (params_tree params 0)
+      ∙ (params_turn (trees param_view params.items) x).0

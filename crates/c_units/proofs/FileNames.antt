@@ -1,0 +1,24 @@
+-- A declarator at file scope, with or without a name.
+use Rattle.std.proofs.Common.{◌≡◌, ℕ, List, Option, Some, None, ap, refl}
+use Rattle.c_tree.specs.Tree.{Tree}
+use Rattle.c_tree.specs.Scopes.{name_of}
+use Rattle.c_units.specs.declared.mention.Role.{Role}
+use Rattle.c_units.specs.Names.{Names, name_by, declare, mention, behind, renamed}
+use Rattle.c_units.specs.Externals.{with_name, binding_as, before_declarator, declared_as, behind_declarator, named_as, renamed_declarator}
+
+module _ (role : Role) (line : ℕ) (tree : Tree) (s : Names) where
+  pub nameless_made : name_of tree ≡ None → renamed_declarator role line tree s ≡ renamed tree s
+  nameless_made h = ap (λ (name : Option (List ℕ)). named_as name role (renamed tree (before_declarator name role line s)) s) h
+
+  pub nameless_known : name_of tree ≡ None → behind_declarator role line tree s ≡ behind tree s
+  nameless_known h = ap (λ (name : Option (List ℕ)). declared_as name role s.own (behind tree (before_declarator name role line s))) h
+
+  pub named_made : (name : List ℕ) → name_of tree ≡ Some name →
+      let binding = binding_as role s.own name in
+      renamed_declarator role line tree s ≡ with_name (name_by binding s.suffix name) (renamed tree (mention binding role name line s))
+  named_made name h = ap (λ (name : Option (List ℕ)). named_as name role (renamed tree (before_declarator name role line s)) s) h
+
+  pub named_known : (name : List ℕ) → name_of tree ≡ Some name →
+      let binding = binding_as role s.own name in
+      behind_declarator role line tree s ≡ declare (Some name) binding (behind tree (mention binding role name line s))
+  named_known name h = ap (λ (name : Option (List ℕ)). declared_as name role s.own (behind tree (before_declarator name role line s))) h

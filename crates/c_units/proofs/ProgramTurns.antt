@@ -1,0 +1,227 @@
+-- Units that are added in turn, and the external declarations that are left of them.
+use Rattle.std.proofs.Common.{◌≡◌, ◌≢◌, ◌<◌, ◌≤◌, ◌+◌, ℕ, Bool, true, false, not, ◌&&◌, if◌then◌else◌, List, [], ◌∷◌, ◌++◌, drop, length, get_or, map, filter, Option, Some, None, Result, Ok, Err, append_assoc, append-nil, refl, ap, ap₂, sym, ◌∙◌, arith}
+use Rattle.std.proofs.lemmas.List.{map-append}
+use Rattle.std.proofs.lemmas.List.Elements.{filter-append}
+use Rattle.c_tree.specs.Tree.{Tree, Trees, none, ◌▹◌}
+use Rattle.c_tree.specs.declared.statement.Decl.{Decl}
+use Rattle.c_tree.specs.declared.statement.Unit.{Unit as Code}
+use Rattle.c_tree.specs.StatementView.{trees, decl_view, unit_view}
+use Rattle.c_units.specs.declared.said.Said.{Said as Kept}
+use Rattle.c_units.specs.Mentions.{Mention, Taken, is_among, is_taken, all_noted, first_taken, with_mentions}
+use Rattle.c_units.specs.declared.error.MergeError.{MergeError}
+use Rattle.c_units.specs.declared.error.MergeError.TheVariants as e
+use Rattle.c_units.specs.Externals.{Said, unit_said}
+use Rattle.c_units.specs.Merge.{Conflict, Program, Adds, IsConflict, Merges, is_plain, spelling, is_again, kept, spellings_of, mentions_of, trees_of, unless, with_unit, with_units, followed, merged, no_program}
+use Rattle.c_units.specs.Kept.{said_view}
+use Rattle.c_units.specs.Turns.{joined}
+use Rattle.c_units.proofs.Steps.{drop_next, drop_end}
+use Rattle.c_units.proofs.ItemTurns.{joined_more, joined_none}
+
+spellings_append : (xs ys : List Said) → spellings_of (xs ++ ys) ≡ spellings_of xs ++ spellings_of ys
+spellings_append [] ys = refl
+spellings_append (x ∷ xs) ys = by (is_plain x.tree) (spellings_append xs ys)
+  where
+    by : (plain : Bool) → spellings_of (xs ++ ys) ≡ spellings_of xs ++ spellings_of ys →
+        (if plain then spelling x.tree ∷ spellings_of (xs ++ ys) else spellings_of (xs ++ ys)) ≡
+        (if plain then spelling x.tree ∷ spellings_of xs else spellings_of xs) ++ spellings_of ys
+    by true h = ap (λ (l : List (List ℕ)). spelling x.tree ∷ l) h
+    by false h = h
+
+-- the declarations so far, with one more
+left_next : (spellings : List (List ℕ)) (seen : List Kept) (one : Kept) →
+    (kept spellings (map said_view (seen ++ one ∷ [])) ≡ kept spellings (map said_view seen) ++ kept spellings (said_view one ∷ []))
+    × (spellings_of (map said_view (seen ++ one ∷ [])) ≡ spellings_of (map said_view seen) ++ spellings_of (said_view one ∷ []))
+left_next spellings seen one = (
+  ap (kept spellings) (map-append said_view seen (one ∷ [])) ∙ filter-append (λ said. not (is_again spellings said)) (map said_view seen) (said_view one ∷ []),
+  ap spellings_of (map-append said_view seen (one ∷ [])) ∙ spellings_append (map said_view seen) (said_view one ∷ []),
+)
+
+left_start : (spellings : List (List ℕ)) → (kept spellings [] ≡ []) × (spellings_of [] ≡ [])
+left_start spellings = (refl, refl)
+
+module _ (spellings : List (List ℕ)) (said : Said) where
+  -- with a body or an initializer it is left
+  whole_left : is_plain said.tree ≡ false → (kept spellings (said ∷ []) ≡ said ∷ []) × (spellings_of (said ∷ []) ≡ [])
+  whole_left h = (
+    ap (λ (b : Bool). if not (b && is_among spellings (spelling said.tree)) then said ∷ [] else []) h,
+    ap (λ (b : Bool). if b then spelling said.tree ∷ [] else []) h,
+  )
+
+  -- without, it is left where no earlier unit has it
+  new_left : is_plain said.tree ≡ true → is_among spellings (spelling said.tree) ≡ false →
+      (kept spellings (said ∷ []) ≡ said ∷ []) × (spellings_of (said ∷ []) ≡ spelling said.tree ∷ [])
+  new_left h g = (
+    ap₂ (λ (b c : Bool). if not (b && c) then said ∷ [] else []) h g,
+    ap (λ (b : Bool). if b then spelling said.tree ∷ [] else []) h,
+  )
+
+  again_left : is_plain said.tree ≡ true → is_among spellings (spelling said.tree) ≡ true →
+      (kept spellings (said ∷ []) ≡ []) × (spellings_of (said ∷ []) ≡ spelling said.tree ∷ [])
+  again_left h g = (
+    ap₂ (λ (b c : Bool). if not (b && c) then said ∷ [] else []) h g,
+    ap (λ (b : Bool). if b then spelling said.tree ∷ [] else []) h,
+  )
+
+-- the first of two mentions
+abbrev first_of : Option Mention → Option Mention → Option Mention
+first_of None other = other
+first_of (Some mention) other = Some mention
+
+first_append : (t : Taken) (xs ys : List Mention) → first_taken t (xs ++ ys) ≡ first_of (first_taken t xs) (first_taken t ys)
+first_append t [] ys = refl
+first_append t (x ∷ xs) ys = by (is_taken t x.role x.name) (first_append t xs ys)
+  where
+    by : (found : Bool) → first_taken t (xs ++ ys) ≡ first_of (first_taken t xs) (first_taken t ys) →
+        (if found then Some x else first_taken t (xs ++ ys)) ≡ first_of (if found then Some x else first_taken t xs) (first_taken t ys)
+    by true h = refl
+    by false h = h
+
+module _ (t : Taken) (xs : List Kept) (i : ℕ) (x : Kept) where
+  at_one : i < length xs → x ≡ get_or xs i x →
+      first_taken t (mentions_of (map said_view (drop i xs))) ≡
+      first_of (first_taken t x.mentions.items) (first_taken t (mentions_of (map said_view (drop (i + 1) xs))))
+  at_one h is =
+      ap (λ (l : List Kept). first_taken t (mentions_of (map said_view l))) (drop_next xs i x h is)
+      ∙ first_append t x.mentions.items (mentions_of (map said_view (drop (i + 1) xs)))
+
+  pub free_next : i < length xs → x ≡ get_or xs i x → first_taken t x.mentions.items ≡ None →
+      first_taken t (mentions_of (map said_view (drop (i + 1) xs))) ≡ first_taken t (mentions_of (map said_view (drop i xs)))
+  free_next h is free =
+      sym (at_one h is ∙ ap (λ (m : Option Mention). first_of m (first_taken t (mentions_of (map said_view (drop (i + 1) xs))))) free)
+
+  pub taken_here : (mention : Mention) → i < length xs → x ≡ get_or xs i x → first_taken t x.mentions.items ≡ Some mention →
+      first_taken t (mentions_of (map said_view (drop i xs))) ≡ Some mention
+  taken_here mention h is found =
+      at_one h is ∙ ap (λ (m : Option Mention). first_of m (first_taken t (mentions_of (map said_view (drop (i + 1) xs))))) found
+
+pub free_end : (t : Taken) (xs : List Kept) (i : ℕ) → length xs ≤ i → first_taken t (mentions_of (map said_view (drop i xs))) ≡ None
+free_end t xs i h = ap (λ (l : List Kept). first_taken t (mentions_of (map said_view l))) (drop_end xs i h)
+
+mentions_append : (xs : List Said) (y : Said) → mentions_of (xs ++ y ∷ []) ≡ mentions_of xs ++ y.mentions
+mentions_append [] y = append-nil y.mentions
+mentions_append (x ∷ xs) y =
+    ap (λ (l : List Mention). x.mentions ++ l) (mentions_append xs y) ∙ sym (append_assoc x.mentions (mentions_of xs) y.mentions)
+
+trees_append : (base : Trees) (xs : List Said) (y : Said) → joined base (trees_of (xs ++ y ∷ [])) ≡ joined (joined base (trees_of xs)) (y.tree ▹ none)
+trees_append base [] y = ap (λ (ts : Trees). joined ts (y.tree ▹ none)) (sym (joined_none base))
+trees_append none (x ∷ xs) y = ap (λ (ts : Trees). x.tree ▹ ts) (trees_append none xs y)
+trees_append (tree ▹ base) (x ∷ xs) y = ap (λ (ts : Trees). tree ▹ ts) (trees_append base (x ∷ xs) y)
+
+pub mentions_next : (seen : List Kept) (one : Kept) → mentions_of (map said_view (seen ++ one ∷ [])) ≡ mentions_of (map said_view seen) ++ one.mentions.items
+mentions_next seen one =
+    ap mentions_of (map-append said_view seen (one ∷ [])) ∙ mentions_append (map said_view seen) (said_view one)
+
+pub trees_next : (base : Trees) (decls : List Decl) (seen : List Kept) (one : Kept) →
+    trees decl_view decls ≡ joined base (trees_of (map said_view seen)) →
+    trees decl_view (decls ++ one.decl ∷ []) ≡ joined base (trees_of (map said_view (seen ++ one ∷ [])))
+trees_next base decls seen one h =
+    sym (joined_none (trees decl_view (decls ++ one.decl ∷ [])))
+    ∙ joined_more decl_view decls one.decl none
+    ∙ ap (λ (ts : Trees). joined ts (decl_view one.decl ▹ none)) h
+    ∙ sym (ap (λ (l : List Said). joined base (trees_of l)) (map-append said_view seen (one ∷ [])) ∙ trees_append base (map said_view seen) (said_view one))
+
+pub trees_start : (base : Trees) → joined base (trees_of []) ≡ base
+trees_start base = joined_none base
+
+-- a unit more
+module _ (number : ℕ) (unit : Trees) (before : Program) (left : List Said) where
+  pub added : left ≡ kept before.spellings (unit_said number unit) → first_taken before.taken (mentions_of left) ≡ None →
+      with_unit number unit before ≡ Ok (record {
+        trees = joined before.trees (trees_of left);
+        spellings = all_noted before.spellings (spellings_of (unit_said number unit));
+        taken = with_mentions (mentions_of left) before.taken;
+      })
+  added is free =
+      ap (λ (l : List Said). unless (first_taken before.taken (mentions_of l)) (record {
+        trees = joined before.trees (trees_of l);
+        spellings = all_noted before.spellings (spellings_of (unit_said number unit));
+        taken = with_mentions (mentions_of l) before.taken;
+      })) (sym is)
+      ∙ ap (λ (m : Option Mention). unless m (record {
+        trees = joined before.trees (trees_of left);
+        spellings = all_noted before.spellings (spellings_of (unit_said number unit));
+        taken = with_mentions (mentions_of left) before.taken;
+      })) free
+
+  stopped : (mention : Mention) → left ≡ kept before.spellings (unit_said number unit) → first_taken before.taken (mentions_of left) ≡ Some mention →
+      with_unit number unit before ≡ Err (record { name = mention.name; line = mention.line })
+  stopped mention is found =
+      ap (λ (l : List Said). unless (first_taken before.taken (mentions_of l)) (record {
+        trees = joined before.trees (trees_of l);
+        spellings = all_noted before.spellings (spellings_of (unit_said number unit));
+        taken = with_mentions (mentions_of l) before.taken;
+      })) (sym is)
+      ∙ ap (λ (m : Option Mention). unless m (record {
+        trees = joined before.trees (trees_of left);
+        spellings = all_noted before.spellings (spellings_of (unit_said number unit));
+        taken = with_mentions (mentions_of left) before.taken;
+      })) found
+
+  pub refused : (mention : Mention) (new : Program) (error : MergeError) → left ≡ kept before.spellings (unit_said number unit) →
+      first_taken before.taken (mentions_of left) ≡ Some mention → IsConflict mention error →
+      Adds {U = Unit {0}} (with_unit number unit before) new (Err error)
+  refused mention new (e.Conflict name line) is found same =
+      stopped mention is found
+      ∙ ap₂ (λ (n : List ℕ) (l : ℕ). Err (record { name = n; line = l })) (sym same.0) (sym same.1)
+  refused mention new e.NoMemory is found same = tt
+
+module _ (xs : List Code) (i number : ℕ) (x : Code) (before : Program) where
+  at_unit : i < length xs → x ≡ get_or xs i x →
+      with_units number (map unit_view (drop i xs)) before ≡
+      followed (with_unit number (unit_view x) before) (λ next. with_units (number + 1) (map unit_view (drop (i + 1) xs)) next)
+  at_unit h is = ap (λ (l : List Code). with_units number (map unit_view l) before) (drop_next xs i x h is)
+
+  pub unit_next : (new : Program) → i < length xs → x ≡ get_or xs i x → with_unit number (unit_view x) before ≡ Ok new →
+      with_units (number + 1) (map unit_view (drop (i + 1) xs)) new ≡ with_units number (map unit_view (drop i xs)) before
+  unit_next new h is one =
+      sym (at_unit h is ∙ ap (λ (r : Result Program Conflict). followed r (λ next. with_units (number + 1) (map unit_view (drop (i + 1) xs)) next)) one)
+
+  unit_stops : (conflict : Conflict) → i < length xs → x ≡ get_or xs i x → with_unit number (unit_view x) before ≡ Err conflict →
+      with_units number (map unit_view (drop i xs)) before ≡ Err conflict
+  unit_stops conflict h is one =
+      at_unit h is ∙ ap (λ (r : Result Program Conflict). followed r (λ next. with_units (number + 1) (map unit_view (drop (i + 1) xs)) next)) one
+
+pub unit_end : (xs : List Code) (i number : ℕ) (before : Program) → length xs ≤ i → with_units number (map unit_view (drop i xs)) before ≡ Ok before.trees
+unit_end xs i number before h = ap (λ (l : List Code). with_units number (map unit_view l) before) (drop_end xs i h)
+
+pub one_merged : (xs : List Code) (x : Code) → length xs ≡ 1 → x ≡ get_or xs 0 x → merged (map unit_view xs) ≡ Ok (unit_view x)
+one_merged [] x h is = absurd (omega (arith, h))
+one_merged (y ∷ []) x h is = ap (λ (z : Code). Ok (unit_view z)) (sym is)
+one_merged (y ∷ z ∷ xs) x h is = absurd (omega (arith, h))
+
+pub several_merged : (xs : List Code) → length xs ≢ 1 → merged (map unit_view xs) ≡ with_units 1 (map unit_view xs) no_program
+several_merged [] h = refl
+several_merged (x ∷ []) h = absurd (h refl)
+several_merged (x ∷ y ∷ xs) h = refl
+
+pub merge_refused : (xs : List Code) (i number : ℕ) (x : Code) (before new : Program) (error : MergeError) → length xs ≢ 1 → i < length xs → x ≡ get_or xs i x →
+    with_units number (map unit_view (drop i xs)) before ≡ with_units 1 (map unit_view xs) no_program →
+    Adds {U = Unit {0}} (with_unit number (unit_view x) before) new (Err error) → Merges (map unit_view xs) (Err error)
+merge_refused xs i number x before new (e.Conflict name line) several h is whole refused =
+    several_merged xs several ∙ sym whole ∙ unit_stops xs i number x before (record { name = name; line = line }) h is refused
+merge_refused xs i number x before new e.NoMemory several h is whole refused = tt
+
+-- the same, each alone
+pub kept_next : (spellings : List (List ℕ)) (seen : List Kept) (one : Kept) →
+    kept spellings (map said_view (seen ++ one ∷ [])) ≡ kept spellings (map said_view seen) ++ kept spellings (said_view one ∷ [])
+kept_next spellings seen one = (left_next spellings seen one).0
+
+pub spellings_next : (seen : List Kept) (one : Kept) →
+    spellings_of (map said_view (seen ++ one ∷ [])) ≡ spellings_of (map said_view seen) ++ spellings_of (said_view one ∷ [])
+spellings_next seen one = (left_next [] seen one).1
+
+module _ (spellings : List (List ℕ)) (said : Said) where
+  pub whole_kept : is_plain said.tree ≡ false → kept spellings (said ∷ []) ≡ said ∷ []
+  whole_kept h = (whole_left spellings said h).0
+
+  pub new_kept : is_plain said.tree ≡ true → is_among spellings (spelling said.tree) ≡ false → kept spellings (said ∷ []) ≡ said ∷ []
+  new_kept h g = (new_left spellings said h g).0
+
+  pub again_kept : is_plain said.tree ≡ true → is_among spellings (spelling said.tree) ≡ true → kept spellings (said ∷ []) ≡ []
+  again_kept h g = (again_left spellings said h g).0
+
+pub whole_spelled : (said : Said) → is_plain said.tree ≡ false → spellings_of (said ∷ []) ≡ []
+whole_spelled said h = (whole_left [] said h).1
+
+pub plain_spelled : (said : Said) → is_plain said.tree ≡ true → spellings_of (said ∷ []) ≡ spelling said.tree ∷ []
+plain_spelled said h = ap (λ (b : Bool). if b then spelling said.tree ∷ [] else []) h

@@ -1,0 +1,10 @@
+use Rattle.std.proofs.Common.{◌≡◌, map}
+use Rattle.c_units.specs.Merge.{kept, spellings_of}
+use Rattle.c_units.specs.Kept.{said_view}
+use Rattle.c_units.proofs.program.Program.left.Given as goal
+
+-- what is left of the declarations so far
+abbrev pub invariant-loop-one : goal.invariant-loop-one
+invariant-loop-one l =
+    (map said_view l.left.said.items ≡ kept l.self.spellings (map said_view l.yielded))
+    × (l.left.spellings.items ≡ spellings_of (map said_view l.yielded))

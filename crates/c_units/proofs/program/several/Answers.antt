@@ -1,0 +1,12 @@
+use Rattle.std.proofs.Common.{◌+◌}
+use Rattle.std.proofs.lemmas.Result.{err_from_is_err_and}
+use Rattle.c_units.specs.Kept.{program_view}
+use Rattle.c_units.proofs.ProgramTurns.{merge_refused}
+use Rattle.c_units.proofs.program.several.Goals as goal
+
+pub returns-in_err-add : goal.returns-in_err-add
+returns-in_err-add c =
+    let p = err_from_is_err_and c.from_residual.result c.from_residual.ensures.1 in
+    rw (p.1, p.2) (merge_refused c.args.units.now c.loop-unit.unit-index (c.loop-unit.number + 1) c.unit-item.result
+    (program_view c.loop-unit.program) (program_view c.add.new.self) c.in_err-add.field-0.0 c.requires c.loop-unit-test.true
+    c.unit-item.is c.loop-unit.invariant.1 c.in_err-add.ensures)

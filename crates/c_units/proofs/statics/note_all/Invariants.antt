@@ -1,0 +1,10 @@
+use Rattle.std.proofs.Common.{◌≡◌, drop}
+use Rattle.c_tree.specs.StatementView.{trees, entry_view}
+use Rattle.c_units.specs.Mentions.{all_noted}
+use Rattle.c_units.specs.Externals.{entry_names}
+use Rattle.c_units.proofs.statics.note_all.Given as goal
+
+-- the names of the entries that are left come behind those that are noted
+abbrev pub invariant-loop-entry : goal.invariant-loop-entry
+invariant-loop-entry l =
+    all_noted l.names (entry_names (trees entry_view (drop l.entry-index l.list))) ≡ all_noted l.initial.names (entry_names (trees entry_view l.list))

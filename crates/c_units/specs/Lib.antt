@@ -1,0 +1,13 @@
+pub mod Mentions
+pub mod Names
+pub mod Externals
+pub mod Merge
+pub mod Sets
+pub mod Turns
+pub mod Kept
+pub mod SpecWords
+pub mod Binding
+pub mod KeptBindings
+pub mod MergedBindings
+pub mod MergedNames
+pub mod FileBindings

@@ -1,0 +1,141 @@
+//! The declarations that hold at a place of a unit.
+
+ghost use Rattle.std.specs.Prelude.{◌≡◌, ◌∷◌, ◌<◌, [], ◌-◌, length, slice_get, IfOk, OnOk, OnErr, if◌then◌else◌, bytes_eq, List, ℕ};
+ghost use Rattle.std.specs.Borrow.{Bor};
+ghost use Rattle.c_units.specs.Names.{binding_of};
+ghost use Rattle.c_units.specs.Sets.{bound_in, oldest, without_latest};
+
+use hs_base::NoMemory;
+use std::alloc::Global;
+use std::collections::HashMap;
+use std::marker::Model;
+
+/// What a name is bound to.
+#[derive(Clone, Copy, Debug, Drop, PartialEq, Eq)]
+pub(crate) enum Binding {
+    /// A declaration in an inner scope.
+    Inner,
+    /// An object or function that the unit has for itself.
+    Own,
+    /// What all units share.
+    Shared,
+}
+
+/// A declaration, and what its name was bound to before it.
+#[derive(Clone, Copy, Debug, Drop)]
+pub(crate) struct Entry<'a> {
+    name: &'a [u8],
+    binding: Binding,
+    before: Binding,
+}
+
+/// The declarations that hold at a place.
+#[derive(Drop)]
+pub(crate) struct Scope<'a> {
+    /// The declarations, the latest last.
+    log: Vec<Entry<'a>>,
+    /// What each name is bound to that was declared.
+    bindings: HashMap<&'a [u8], Binding>,
+}
+
+impl<'a> Model for Scope<'a> {
+    ghost use Rattle.std.specs.Prelude.{List, reverse};
+    ghost use Rattle.c_units.specs.Names.{Known};
+    ghost use Rattle.c_units.specs.Sets.{TellBefore, AreBound, entries_known};
+
+    ghost Value = { List Known };
+
+    ghost view = { λ s. entries_known (reverse s.log.items) };
+
+    ghost invariant = { λ s. TellBefore (reverse s.log.items) × AreBound s.bindings (entries_known (reverse s.log.items)) };
+}
+
+impl<'a> Scope<'a> {
+    /// No declarations.
+    pub(crate) fn new(alloc: Global) -> Scope<'a>
+        ensures { result ≡ [] }
+    {
+        Scope {
+            log: Vec::new(alloc),
+            bindings: HashMap::new(alloc),
+        }
+    }
+
+    /// How many declarations there are.
+    pub(crate) fn len(&self) -> usize
+        ensures { result ≡ length self.now }
+    {
+        self.log.len()
+    }
+
+    /// What a name is bound to.
+    pub(crate) fn binding(&self, name: &[u8]) -> Binding
+        ensures { result ≡ binding_of self.now name.now }
+    {
+        match self.bindings.get(name) {
+            Some(binding) => *binding,
+            None => Binding::Shared,
+        }
+    }
+
+    /// Declares a name.
+    pub(crate) fn declare(&mut self, name: &'a [u8], binding: Binding) -> Result<(), NoMemory>
+        ensures { IfOk result (λ _.
+            self.new ≡ record { name = name.entry.now; binding = binding } ∷ self.old) }
+    {
+        let before = self.binding(name);
+        self.log.push(Entry {
+            name,
+            binding,
+            before,
+        })?;
+        if let Err(error) = bind(&mut self.bindings, name, binding) {
+            let _ = self.log.pop();
+            return Err(error);
+        }
+        Ok(())
+    }
+
+    /// Takes the latest declaration back.
+    fn undo(&mut self) -> Result<(), NoMemory>
+        ensures { IfOk result (λ _. self.new ≡ without_latest self.old) }
+    {
+        if let Some(entry) = last(self.log.as_slice()) {
+            bind(&mut self.bindings, entry.name, entry.before)?;
+            let _ = self.log.pop();
+        }
+        Ok(())
+    }
+
+    /// Takes all declarations but the oldest so many back.
+    pub(crate) fn cut(&mut self, count: usize) -> Result<(), NoMemory>
+        ensures { IfOk result (λ _. self.new ≡ oldest count self.old) }
+    {
+        'cut: while self.len() > count {
+            self.undo()?;
+        }
+        Ok(())
+    }
+}
+
+/// The latest entry.
+fn last<'a>(log: &[Entry<'a>]) -> Option<Entry<'a>>
+    ensures { result ≡ slice_get log.now (length log.now - 1) }
+{
+    log.last().copied()
+}
+
+/// Says what a name is bound to. An error changes nothing.
+fn bind<'a>(
+    bindings: &mut HashMap<&'a [u8], Binding>,
+    name: &'a [u8],
+    binding: Binding,
+) -> Result<(), NoMemory>
+    ensures ok { OnOk result ((other : Bor (List ℕ)) →
+        bound_in bindings.new other ≡
+        (if bytes_eq name.entry.now other.now then binding else bound_in bindings.old other)) }
+    ensures err { OnErr result (bindings.new.entries ≡ bindings.old.entries) }
+{
+    bindings.insert(name, binding)?;
+    Ok(())
+}

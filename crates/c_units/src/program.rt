@@ -1,0 +1,203 @@
+//! The merge of units.
+
+ghost use Rattle.std.specs.Prelude.{◌≡◌, ◌≢◌, ◌<◌, ◌≤◌, ◌++◌, ◌∷◌, [], IfOk, length, map, option_copied};
+ghost use Rattle.c_tree.specs.Renaming.{RenamesSome};
+ghost use Rattle.c_tree.specs.StatementView.{unit_view};
+ghost use Rattle.c_units.specs.Kept.{program_view, said_view};
+ghost use Rattle.c_units.specs.Mentions.{first_taken};
+ghost use Rattle.c_units.specs.Merge.{Adds, IsConflict, Merges, kept, mentions_of, no_program, spellings_of, trees_of, with_unit};
+ghost use Rattle.c_units.specs.MergedNames.{joined_all};
+ghost use Rattle.c_units.specs.Turns.{joined};
+
+use crate::error::MergeError;
+use crate::mention::Mention;
+use crate::name_set::NameSet;
+use crate::said::{Said, copied, is_plain, spelled, unit_said};
+use crate::taken::Taken;
+use c_tree::{Decl, Unit};
+use hs_base::{Items, NoMemory};
+use std::alloc::Global;
+
+/// What units give so far.
+#[derive(Drop)]
+struct Program {
+    alloc: Global,
+    /// Their external declarations.
+    decls: Items<Decl>,
+    /// How those are spelled that may be left out elsewhere.
+    spellings: NameSet,
+    /// Their names.
+    taken: Taken,
+}
+
+/// The conflict at a mention.
+fn conflict(alloc: Global, mention: &Mention<'_>) -> MergeError
+    ensures { IsConflict mention.now result }
+{
+    match Vec::from_slice(alloc, mention.name) {
+        Ok(name) => MergeError::Conflict {
+            name: Items::from(name),
+            line: mention.line,
+        },
+        Err(_) => MergeError::NoMemory,
+    }
+}
+
+/// What is left of a unit, and how those of its external declarations are spelled that may be left out elsewhere.
+#[derive(Drop)]
+struct Left<'a> {
+    said: Vec<Said<'a>>,
+    spellings: Vec<Items<u8>>,
+}
+
+impl Program {
+    /// No units.
+    fn new(alloc: Global) -> Program
+        ensures { program_view result ≡ no_program }
+    {
+        Program {
+            alloc,
+            decls: Items::new(alloc),
+            spellings: NameSet::new(alloc),
+            taken: Taken::new(alloc),
+        }
+    }
+
+    /// What is left of a unit: a declaration that an earlier one has in the same words is left out.
+    #[tactic(auto, using(crate::proofs::ProgramTurns::kept_next, crate::proofs::ProgramTurns::spellings_next))]
+    fn left<'a>(&self, all: Vec<Said<'a>>) -> Result<Left<'a>, NoMemory>
+        ensures said { IfOk result (λ left.
+            map said_view left.said.items ≡
+            kept self.now.spellings (map said_view all.entry.items)) }
+        ensures spellings { IfOk result (λ left.
+            left.spellings.items ≡ spellings_of (map said_view all.entry.items)) }
+    {
+        let mut left = Left {
+            said: Vec::new(self.alloc),
+            spellings: Vec::new(self.alloc),
+        };
+        for one in all {
+            self.sort(&mut left, one)?;
+        }
+        Ok(left)
+    }
+
+    /// The same of one external declaration.
+    #[tactic(auto, using(crate::proofs::ProgramTurns::whole_kept, crate::proofs::ProgramTurns::new_kept, crate::proofs::ProgramTurns::again_kept, crate::proofs::ProgramTurns::whole_spelled, crate::proofs::ProgramTurns::plain_spelled))]
+    fn sort<'a>(&self, left: &mut Left<'a>, one: Said<'a>) -> Result<(), NoMemory>
+        ensures said { IfOk result (λ _.
+            map said_view left.new.said.items ≡
+            map said_view left.old.said.items ++ kept self.now.spellings (said_view one.entry ∷ [])) }
+        ensures spellings { IfOk result (λ _.
+            left.new.spellings.items ≡ left.old.spellings.items ++ spellings_of (said_view one.entry ∷ [])) }
+    {
+        if !is_plain(&one.decl) {
+            left.said.push(one)?;
+            return Ok(());
+        }
+        let Said { decl, mentions } = one;
+        let (spelling, decl) = spelled(self.alloc, decl)?;
+        if !self.spellings.contains(spelling.as_slice()) {
+            left.said.push(Said { decl, mentions })?;
+        }
+        left.spellings.push(spelling)?;
+        Ok(())
+    }
+
+    /// The first mention of what is left of a unit that is taken.
+    #[tactic(auto, using(crate::proofs::ProgramTurns::free_next, crate::proofs::ProgramTurns::taken_here, crate::proofs::ProgramTurns::free_end))]
+    fn first_taken<'b, 'a>(&self, said: &'b [Said<'a>]) -> Option<&'b Mention<'a>>
+        ensures { option_copied result ≡
+            first_taken self.now.taken (mentions_of (map said_view said.now)) }
+    {
+        for one in said {
+            if let Some(mention) = self.taken.first(one.mentions.as_slice()) {
+                return Some(mention);
+            }
+        }
+        None
+    }
+
+    /// Takes in what is left of a unit, and answers what it says of the names that units share.
+    #[tactic(auto, using(crate::proofs::ProgramTurns::mentions_next, crate::proofs::ProgramTurns::trees_next, crate::proofs::ProgramTurns::trees_start))]
+    fn take_in<'a>(&mut self, said: Vec<Said<'a>>) -> Result<Vec<Mention<'a>>, NoMemory>
+        ensures mentions { IfOk result (λ mentions.
+            mentions.items ≡ mentions_of (map said_view said.entry.items)) }
+        ensures program { IfOk result (λ _.
+            let more = trees_of (map said_view said.entry.items) in
+            program_view self.new ≡ record (program_view self.old) {
+              trees = joined (program_view self.old).trees more;
+            }) }
+    {
+        let mut mentions = Vec::new(self.alloc);
+        for one in said {
+            let Said {
+                decl,
+                mentions: mut here,
+            } = one;
+            mentions.append(&mut here)?;
+            self.decls.push(decl)?;
+        }
+        Ok(mentions)
+    }
+
+    /// Adds a unit with its number.
+    #[tactic(auto, using(crate::proofs::ProgramTurns::added, crate::proofs::ProgramTurns::refused))]
+    fn add(&mut self, number: usize, unit: &Unit) -> Result<(), MergeError>
+        ensures { let wanted = with_unit number (unit_view unit.now) (program_view self.old) in
+            Adds wanted (program_view self.new) result }
+    {
+        let all = unit_said(self.alloc, number, unit)?;
+        let Left { said, spellings } = self.left(all)?;
+        if let Some(mention) = self.first_taken(said.as_slice()) {
+            return Err(conflict(self.alloc, mention));
+        }
+        let mentions = self.take_in(said)?;
+        self.spellings.note_all(self.alloc, &spellings)?;
+        self.taken.note_all(self.alloc, mentions.as_slice())?;
+        Ok(())
+    }
+}
+
+/// The merge of several units, or of none.
+#[tactic(auto, using(crate::proofs::ProgramTurns::unit_next, crate::proofs::ProgramTurns::unit_end, crate::proofs::ProgramTurns::several_merged, crate::proofs::ProgramTurns::merge_refused))]
+fn several(alloc: Global, units: &[Unit]) -> Result<Unit, MergeError>
+    requires { length units.now ≢ 1 }
+    ensures { Merges (map unit_view units.now) result }
+{
+    let mut program = Program::new(alloc);
+    let mut number = 0;
+    for unit in units {
+        number += 1;
+        program.add(number, unit)?;
+    }
+    let Program { decls, .. } = program;
+    Ok(Unit { decls })
+}
+
+/// The merge of units, however many there are: one is its own.
+#[tactic(auto, using(crate::proofs::ProgramTurns::one_merged))]
+fn merge_all(alloc: Global, units: &[Unit]) -> Result<Unit, MergeError>
+    ensures { Merges (map unit_view units.now) result }
+{
+    if units.len() != 1 {
+        return several(alloc, units);
+    }
+    Ok(copied(alloc, &units[0])?)
+}
+
+/// The merge of at most 64 units, the suffixes of which have at most three bytes.
+///
+/// # Errors
+///
+/// [`MergeError::Conflict`] exactly where two units say what may not be said of one name twice, with the first such name and
+/// the line of its later place; [`MergeError::NoMemory`] only for want of memory.
+pub fn merge(alloc: Global, units: &Items<Unit>) -> Result<Unit, MergeError>
+    requires some { 0 < length units.now }
+    requires few { length units.now ≤ 64 }
+    ensures merged { Merges (map unit_view units.now) result }
+    ensures renamed { IfOk result (λ unit.
+        RenamesSome (joined_all (map unit_view units.now)) (unit_view unit)) }
+{
+    merge_all(alloc, units.as_slice())
+}
