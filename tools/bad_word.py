@@ -6,8 +6,10 @@ It says nothing where there is none: a status of 120 may be a program's own."""
 import re
 import sys
 
-OPTIONS = {"run": ["--heap", "--stack", "--steps", "--leaks"], "mean": ["--heap", "--steps"]}
-COMMANDS = ["run", "mean", "print", "layout", "list", "live", "self"]
+OF_A_RUN = ["--heap", "--stack", "--steps", "--leaks"]
+OPTIONS = {"run": OF_A_RUN, "exec": OF_A_RUN, "mean": ["--heap", "--steps"]}
+# how many words each command takes at most beside its options
+COMMANDS = {"run": 64, "mean": 64, "print": 1, "layout": 64, "list": 64, "live": 64, "compile": 64, "exec": 1, "self": 1}
 RANGES = {"--heap": (0, 268_435_456), "--stack": (0, 67_108_864), "--steps": (1, 1_000_000_000), "self": (1, 2_000)}
 
 
@@ -33,8 +35,8 @@ def option_fault(words, word, seen):
 
 
 def operand_fault(command, word, operands):
-    """What is wrong with a word that is the file, or the number of `self`."""
-    if operands:
+    """What is wrong with a word that is a file, or the number of `self`."""
+    if len(operands) == COMMANDS[command]:
         return f"'{word}' is one word too many"
     if command == "self":
         return number_fault(word, "self")

@@ -2,13 +2,14 @@
 """code_files.py [--quiet]: tries `compile` and `exec` by the program that ./heapsafe takes.
 
 Each run of the rows is made by both ways: `exec` of what `compile` writes has to write, answer and say what `run` does, but for the
-name of the file and the source line that a report shows. Then the code file of a small program is changed: each byte in turn, to
+source line that a report shows, and of several texts but for their names and lines, since a code file counts the lines of all. Then the code file of a small program is changed: each byte in turn, to
 three other values; cut at each place; with bytes behind its end; and with each of its four-byte numbers made as great as it can be. So are
 random bytes. Each of these has to be refused, by status 136 or 137 and that line alone, or to run, within a few seconds. With --quiet
 it says only what differs."""
 
 import os
 import random
+import re
 import subprocess
 import sys
 import tempfile
@@ -43,30 +44,40 @@ def run(folder, *words, data=b"", seconds=20):
     return subprocess.run([PROGRAM, *words], cwd=folder, input=data, capture_output=True, timeout=seconds)
 
 
+def is_file(word):
+    return word.endswith(".c")
+
+
 def unlined(said):
-    """What was said of a.c, without the source lines below it."""
+    """What was said, without the source lines below it."""
     return b"".join(line for line in said.splitlines(True) if not line.startswith(b"  "))
+
+
+def unplaced(said):
+    """What was said, without the names and lines of texts."""
+    return re.sub(rb"(?m)^[a-z]\.[ch](:\d+)?: |\bline \d+", b"", said)
 
 
 def by_both(case):
     """What differs between a run and the execution of what was compiled."""
     name, words, row = case
+    files, options = [it for it in words if is_file(it)], [it for it in words[1:] if not is_file(it)]
     with tempfile.TemporaryDirectory() as folder:
-        path, data = os.path.join(folder, "a.c"), rows.content(row.get("input", ""))
-        with open(path, "wb") as file:
-            file.write(rows.content(row["text"]))
+        rows.write_texts(folder, row)
+        data = rows.content(row.get("input", ""))
         once = run(folder, *words, data=data, seconds=120)
         if once.stderr == b"heapsafe: bad command line\n":
             return None
-        made = run(folder, "compile", "a.c")
+        made = run(folder, "compile", *files)
         if made.returncode != 0:
             return None if (once.stderr, once.returncode) == (made.stderr, made.returncode) and not made.stdout else f"{name}: {words}: compile answers {made.returncode}"
-        with open(path, "wb") as file:
+        with open(os.path.join(folder, files[0]), "wb") as file:
             file.write(made.stdout)
-        again = run(folder, "exec", *words[1:], data=data, seconds=120)
-    wanted = once.stdout, unlined(once.stderr), once.returncode
-    got = again.stdout, again.stderr, again.returncode
-    return None if got == wanted else f"{name}: {words}: {row['text']!r:.200}\n  exec {got!r:.400}\n  run  {wanted!r:.400}"
+        again = run(folder, "exec", *options, files[0], data=data, seconds=120)
+    seen = unplaced if len(rows.texts(row)) > 1 else bytes
+    wanted = once.stdout, seen(unlined(once.stderr)), once.returncode
+    got = again.stdout, seen(again.stderr), again.returncode
+    return None if got == wanted else f"{name}: {words}: {rows.texts(row)!r:.200}\n  exec {got!r:.400}\n  run  {wanted!r:.400}"
 
 
 def is_fine(ran):
@@ -110,7 +121,7 @@ def main():
     if sys.argv[1:] not in ([], ["--quiet"]):
         print("usage: code_files.py [--quiet]", file=sys.stderr)
         return 2
-    every = [case for path in rows.files() for case in rows.cases(path) if case[1][:2] == ["run", "a.c"] and "text" in case[2]]
+    every = [case for path in rows.files() for case in rows.cases(path) if case[1][:1] == ["run"] and any(map(is_file, case[1]))]
     with tempfile.TemporaryDirectory() as folder:
         with open(os.path.join(folder, "a.c"), "wb") as file:
             file.write(SMALL)

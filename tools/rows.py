@@ -25,23 +25,32 @@ def content(parts):
     return b"".join(content(it) if isinstance(it, str) else content(it[0]) * it[1] for it in parts)
 
 
+def texts(row):
+    """The files of a row, by their names."""
+    return {**({"a.c": row["text"]} if "text" in row else {}), **row.get("files", {})}
+
+
+def write_texts(folder, row):
+    """Writes the files of a row into a folder."""
+    for name, text in texts(row).items():
+        with open(os.path.join(folder, name), "wb") as file:
+            file.write(content(text))
+
+
 def difference(case):
     """What is wrong with a command line of a row, if anything is."""
     name, words, row = case
     with tempfile.TemporaryDirectory() as folder:
-        texts = {"a.c": row["text"]} if "text" in row else {}
-        for file_name, text in {**texts, **row.get("files", {})}.items():
-            with open(os.path.join(folder, file_name), "wb") as file:
-                file.write(content(text))
+        write_texts(folder, row)
         try:
             ran = subprocess.run(
                 [PROGRAM, *words], cwd=folder, input=content(row.get("input", "")), capture_output=True, timeout=row.get("seconds")
             )
         except subprocess.TimeoutExpired:
-            return f"{name}: {words}: {row.get('text')!r:.300}\n  not done in {row['seconds']} seconds"
+            return f"{name}: {words}: {texts(row)!r:.300}\n  not done in {row['seconds']} seconds"
     wanted = content(row.get("out", "")), content(row.get("err", "")), row.get("status", 0)
     got = ran.stdout, ran.stderr, ran.returncode
-    return None if got == wanted else f"{name}: {words}: {row.get('text')!r:.300}\n  got    {got!r:.600}\n  wanted {wanted!r:.600}"
+    return None if got == wanted else f"{name}: {words}: {texts(row)!r:.300}\n  got    {got!r:.600}\n  wanted {wanted!r:.600}"
 
 
 def files():
