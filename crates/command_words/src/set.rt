@@ -46,16 +46,12 @@ fn running<'a>(alloc: Global, name: &'a str, word: Arg<'a>) -> Result<Command<'a
     ensures shape { IfOk result (λ c. app_of c ≡ running name.entry.now (rule_of word.entry)) }
     ensures local { IfOk result (λ c. (fields_of c).has_globals ≡ false) }
 {
-    let heap = option(alloc, "heap");
-    let stack = option(alloc, "stack");
-    let steps = option(alloc, "steps");
-    let leaks = flag(alloc, "leaks");
     Command::new(alloc, name)
         .arg(word)?
-        .arg(heap)?
-        .arg(stack)?
-        .arg(steps)?
-        .arg(leaks)
+        .arg(option(alloc, "heap"))?
+        .arg(option(alloc, "stack"))?
+        .arg(option(alloc, "steps"))?
+        .arg(flag(alloc, "leaks"))
 }
 
 /// Adds a command with its file or files and what may be said of a run.
@@ -76,12 +72,10 @@ fn add_running<'a>(
 fn add_mean<'a>(alloc: Global, program: Command<'a>) -> Result<Command<'a>, AllocError>
     ensures { IfOk result (λ c. app_of c ≡ with_subcommand (app_of program.entry) mean.top) }
 {
-    let heap = option(alloc, "heap");
-    let steps = option(alloc, "steps");
     let mean = Command::new(alloc, "mean")
         .arg(files(alloc))?
-        .arg(heap)?
-        .arg(steps)?;
+        .arg(option(alloc, "heap"))?
+        .arg(option(alloc, "steps"))?;
     program.subcommand(mean)
 }
 

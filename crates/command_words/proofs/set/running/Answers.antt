@@ -9,15 +9,15 @@ either a b = a || b
 pub returns-clause-shape : goal.returns-clause-shape
 returns-clause-shape c =
     let with_word = c.in_ok-arg.ensures.shape c.requires ∙ ap (λ (a : App). with_rule a (rule_of c.args.word)) c.new.ensures.app in
-    let with_heap = c.in_ok-arg-2.ensures.shape c.option-heap.ensures.local ∙ ap₂ with_rule with_word c.option-heap.ensures.rule in
-    let with_stack = c.in_ok-arg-3.ensures.shape c.option-stack.ensures.local ∙ ap₂ with_rule with_heap c.option-stack.ensures.rule in
-    let with_steps = c.in_ok-arg-4.ensures.shape c.option-steps.ensures.local ∙ ap₂ with_rule with_stack c.option-steps.ensures.rule in
-    IfOk-weaker c.arg-5.result _ _ (λ r h. h.shape c.flag-leaks.ensures.local ∙ ap₂ with_rule with_steps c.flag-leaks.ensures.rule) c.arg-5.ensures
+    let with_heap = c.in_ok-arg-2.ensures.shape c.option.ensures.local ∙ ap₂ with_rule with_word c.option.ensures.rule in
+    let with_stack = c.in_ok-arg-3.ensures.shape c.option-2.ensures.local ∙ ap₂ with_rule with_heap c.option-2.ensures.rule in
+    let with_steps = c.in_ok-arg-4.ensures.shape c.option-3.ensures.local ∙ ap₂ with_rule with_stack c.option-3.ensures.rule in
+    IfOk-weaker c.arg-5.result _ _ (λ r h. h.shape c.flag.ensures.local ∙ ap₂ with_rule with_steps c.flag.ensures.rule) c.arg-5.ensures
 
 pub returns-clause-local : goal.returns-clause-local
 returns-clause-local c =
     let with_word = c.in_ok-arg.ensures.globals ∙ ap₂ either c.new.ensures.local c.requires in
-    let with_heap = c.in_ok-arg-2.ensures.globals ∙ ap₂ either with_word c.option-heap.ensures.local in
-    let with_stack = c.in_ok-arg-3.ensures.globals ∙ ap₂ either with_heap c.option-stack.ensures.local in
-    let with_steps = c.in_ok-arg-4.ensures.globals ∙ ap₂ either with_stack c.option-steps.ensures.local in
-    IfOk-weaker c.arg-5.result _ _ (λ r h. h.globals ∙ ap₂ either with_steps c.flag-leaks.ensures.local) c.arg-5.ensures
+    let with_heap = c.in_ok-arg-2.ensures.globals ∙ ap₂ either with_word c.option.ensures.local in
+    let with_stack = c.in_ok-arg-3.ensures.globals ∙ ap₂ either with_heap c.option-2.ensures.local in
+    let with_steps = c.in_ok-arg-4.ensures.globals ∙ ap₂ either with_stack c.option-3.ensures.local in
+    IfOk-weaker c.arg-5.result _ _ (λ r h. h.globals ∙ ap₂ either with_steps c.flag.ensures.local) c.arg-5.ensures
