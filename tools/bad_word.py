@@ -10,6 +10,8 @@ OF_A_RUN = ["--heap", "--stack", "--steps", "--leaks"]
 OPTIONS = {"run": OF_A_RUN, "exec": OF_A_RUN, "mean": ["--heap", "--steps"]}
 # how many words each command takes at most beside its options
 COMMANDS = {"run": 64, "mean": 64, "print": 1, "layout": 64, "list": 64, "live": 64, "compile": 64, "exec": 1, "self": 1}
+# what the launcher answers by itself: alone, and with a folder behind it
+ANSWERED = ["--version", "--install"]
 RANGES = {"--heap": (0, 268_435_456), "--stack": (0, 67_108_864), "--steps": (1, 1_000_000_000), "self": (1, 2_000)}
 
 
@@ -48,6 +50,8 @@ def fault(words):
     if not words:
         return "a command is missing"
     command = words.pop(0)
+    if command in ANSWERED:
+        return f"'{words[-1]}' is one word too many" if words else f"a folder is missing after '{command}'"
     if command not in COMMANDS:
         return f"'{command}' is no command"
     operands, seen, has_options = [], [], True

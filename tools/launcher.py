@@ -96,6 +96,7 @@ def faults_on_terminals(folder, installed, same):
     """Tries the line that a bad command line gets on a terminal."""
     hello = f"{folder}/hello.c"
     bad = [("rnu", ["rnu", hello]), ("--step", ["run", hello, "--step", "4"]), ("0", ["run", hello, "--steps", "0"]), ("x.c", ["print", hello, "x.c"])]
+    bad += [("--install", ["--install"]), ("there", ["--install", folder, "there"]), ("all", ["--version", "all"])]
     for word, words in bad:
         shown, status = on_terminal(f"{TOP}/heapsafe", *words)
         lines = shown.splitlines()
