@@ -1,7 +1,7 @@
 //! Reading expressions (C99 6.5).
 //!
-//! Each function gives what the definition of its name in `specs/Expressions.antt` reads. `room` is how deep the tree may
-//! be; `turns` is how often a chain may still grow, which each growth takes from `room`.
+//! Each function gives what the definition of its name in `Expressions.antt` of `grammar_reading` reads. `room` is
+//! how deep the tree may be; `turns` is how often a chain may still grow, which each growth takes from `room`.
 
 ghost use Rattle.std.specs.Prelude.{◌≡◌, ◌<◌, ◌≤◌, IfOk};
 ghost use Rattle.c_tree.specs.Forms as form;

@@ -1,6 +1,7 @@
 //! Reading external declarations (C99 6.9).
 //!
-//! Each function gives what the definition of its name in `specs/Statements.antt` reads; `room` is how deep the tree may be.
+//! Each function gives what the definition of its name in `Statements.antt` of `grammar_reading` reads; `room` is
+//! how deep the tree may be.
 
 ghost use Rattle.std.specs.Prelude.{◌≡◌, ◌<◌, ◌&&◌, not, is_some};
 ghost use Rattle.c_tree.specs.declared.word.Sign.TheVariants as s;

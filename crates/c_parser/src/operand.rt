@@ -1,6 +1,7 @@
 //! Reading casts, unary and primary expressions (C99 6.5.1, 6.5.3 and 6.5.4).
 //!
-//! Each function gives what the definition of its name in `specs/Expressions.antt` reads. `room` is how deep the tree may be.
+//! Each function gives what the definition of its name in `Expressions.antt` of `grammar_reading` reads. `room` is
+//! how deep the tree may be.
 
 ghost use Rattle.std.specs.Prelude.{◌≡◌, ◌<◌, ◌≤◌, IfOk};
 ghost use Rattle.c_tree.specs.Forms as form;

@@ -1,6 +1,7 @@
 //! Reading statements (C99 6.8).
 //!
-//! Each function gives what the definition of its form in `specs/Statements.antt` reads; `room` is how deep the tree may be.
+//! Each function gives what the definition of its form in `Statements.antt` of `grammar_reading` reads; `room` is
+//! how deep the tree may be.
 
 ghost use Rattle.std.specs.Prelude.{◌≡◌, ◌<◌, zero, [], ◌∷◌, drop, IfOk, option_map};
 ghost use Rattle.c_tree.specs.Forms as form;
