@@ -1,3 +1,9 @@
+pub mod Walks
+pub mod Notes
+pub mod Fetched
+pub mod Noting
+pub mod Seen
+pub mod Answered
 pub mod Stacks
 pub mod Numbered
 pub mod WordLists

@@ -7,6 +7,9 @@ pub mod Locals
 pub mod Pinning
 pub mod Growing
 pub mod Holding
+pub mod Noting
+pub mod Noted
+pub mod Faults
 pub mod Leading
 pub mod Putting
 pub mod Writing

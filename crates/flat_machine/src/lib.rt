@@ -12,6 +12,9 @@
 //! stand for the values of that state, one by one, and its memory keeps the objects. Each instruction is proved over all
 //! states that the machine stands for, and leads to a machine that stands for the state behind it. No instruction takes
 //! memory of the host, and none searches but one that makes an object, for its place in the heap.
+//!
+//! What is written waits (`console.rt`) until the source has no byte at hand or the run ends. Where the output then fails, the input is
+//! moved to the place of the byte that failed, so that both stand at one front of the trace.
 #![tactic(auto)]
 
 mod accessing;
@@ -19,6 +22,8 @@ mod arithmetic;
 mod call;
 mod calling;
 mod calls;
+mod console;
+mod fault;
 mod freeing;
 mod gathering;
 mod going;
@@ -30,14 +35,17 @@ mod linking;
 mod load;
 mod loaded;
 mod locals;
+mod log;
 mod machine;
 mod making;
 mod memory;
 mod memory_operations;
+mod note;
 mod operands;
 mod operating;
 mod operation;
 mod output;
+mod page;
 mod pinning;
 mod pointers;
 mod printing;

@@ -1,6 +1,7 @@
 //! Instructions that write and read bytes (C99 7.19.7, 7.20.4).
 
-ghost use Rattle.std.specs.Prelude.{◌≡◌, ◌+◌, ◌<◌, ◌^◌, ℕ, List, All, IfErr, Some};
+ghost use Rattle.std.specs.Prelude.{◌≡◌, ◌+◌, ◌++◌, ◌<◌, ◌^◌, [], ℕ, List, All, IfErr, Some};
+ghost use Rattle.hs_base.specs.declared.ends.End.TheVariants as end;
 ghost use Rattle.core_tree.specs.declared.statements.LibName.TheVariants as libs;
 ghost use Rattle.object_meaning.specs.Builtins.{byte_in, call_lib, get_byte, put_byte};
 ghost use Rattle.meaning_run.specs.Leading.{with_input};
@@ -9,10 +10,12 @@ ghost use Rattle.flat_objects.specs.Keeping.{IsKept};
 ghost use Rattle.flat_machine.specs.Words.{address_at};
 ghost use Rattle.flat_machine.specs.Standing.{Stands};
 ghost use Rattle.flat_machine.specs.Groups.{IsPlainLib};
+ghost use Rattle.flat_machine.specs.Noting.{left_behind};
 ghost use Rattle.flat_machine.specs.Leading.{Counted, Moves, Seen};
 ghost use Rattle.code_soundness.specs.Objects.{IsByte};
 
 use crate::calling::byte_in;
+use crate::console::{Console, Lent};
 use crate::state::State;
 use byte_memory::Steps;
 use core_tree::LibName;
@@ -66,15 +69,21 @@ impl State {
     }
 
     /// `getchar`.
-    fn get<I: Source>(&mut self, r: Option<u32>, input: &mut I) -> Result<(), End>
+    fn get<I: Source, O: Sink, K: Lent>(
+        &mut self,
+        r: Option<u32>,
+        console: &mut Console<'_, '_, I, O, K>,
+    ) -> Result<(), End>
         requires point { self.old.calls.running.point + 1 < 2 ^ 64 }
-        requires count { I.faults input.old + 1 < 2 ^ 64 }
-        ensures told { (places : ℕ → ℕ) (c : CodeState) (taken : List ℕ) → Stands places c self.old → I.left input.old ≡ Some c.state.input → Seen places c self.old (same_numbers c.numbers (get_byte r c.state.input c.state)) c.state.input taken result self.new (I.left input.new) (Some taken) }
-        ensures faults { (o : ℕ) → Counted result (I.faults input.old) (I.faults input.new) o o }
+        requires input { I.faults console.old.input.now + 1 < 2 ^ 64 }
+        requires out { O.faults console.old.out.now + 1 < 2 ^ 64 }
+        ensures told { (places : ℕ → ℕ) (c : CodeState) (taken : List ℕ) → Stands places c self.old → left_behind K.left (console.old.done.notes ++ console.old.page.notes) ≡ Some c.state.input → Some (console.old.done.notes ++ console.old.page.notes) ≡ Some taken → Seen places c self.old (same_numbers c.numbers (get_byte r c.state.input c.state)) c.state.input taken result self.new (left_behind K.left (console.new.done.notes ++ console.new.page.notes)) (Some (console.new.done.notes ++ console.new.page.notes)) }
+        ensures faults { Counted result (I.faults console.old.input.now) (I.faults console.new.input.now) (O.faults console.old.out.now) (O.faults console.new.out.now) }
+        ensures settled { IfErr result (λ e. e ≡ end.InputFault → console.new.page.notes ≡ []) }
         ensures unchanged { IfErr result (λ _. self.new ≡ self.old) }
         ensures moves { (places : ℕ → ℕ) (c : CodeState) → Stands places c self.old → (left : List ℕ) × All IsByte left × Moves self.old (same_numbers c.numbers (get_byte r left (with_input left c.state))) self.new result }
     {
-        match input.next() {
+        match console.next() {
             Ok(Some(byte)) => {
                 self.give(r, Word::Number(i128::from(byte)));
                 Ok(())
@@ -83,34 +92,34 @@ impl State {
                 self.give(r, Word::Number(-1));
                 Ok(())
             }
-            Err(_) => Err(End::InputFault),
+            Err(fault) => Err(fault.end()),
         }
     }
 
     /// A call of a built-in function that writes no object; a register takes its answer.
-    pub(crate) fn act_lib<I: Source, O: Sink, L: Ledger>(
+    pub(crate) fn act_lib<I: Source, O: Sink, K: Lent, L: Ledger>(
         &mut self,
         line: Line,
         name: LibName,
         r: Option<u32>,
-        input: &mut I,
-        out: &mut O,
+        console: &mut Console<'_, '_, I, O, K>,
         steps: &mut Steps<L>,
     ) -> Result<(), End>
         requires point { self.old.calls.running.point + 1 < 2 ^ 64 }
         requires name { IsPlainLib name }
         requires kept { (k : ℕ) → IsKept self.old.memory (address_at self.old.handed k) }
-        requires input { I.faults input.old + 1 < 2 ^ 64 }
-        requires out { O.faults out.old + 1 < 2 ^ 64 }
-        ensures told { (places : ℕ → ℕ) (c : CodeState) (taken : List ℕ) → Stands places c self.old → I.left input.old ≡ Some c.state.input → O.taken out.old ≡ Some taken → Seen places c self.old (same_numbers c.numbers (call_lib line name r c.handed c.state)) c.state.input taken result self.new (I.left input.new) (O.taken out.new) }
-        ensures faults { Counted result (I.faults input.old) (I.faults input.new) (O.faults out.old) (O.faults out.new) }
+        requires input { I.faults console.old.input.now + 1 < 2 ^ 64 }
+        requires out { O.faults console.old.out.now + 1 < 2 ^ 64 }
+        ensures told { (places : ℕ → ℕ) (c : CodeState) (taken : List ℕ) → Stands places c self.old → left_behind K.left (console.old.done.notes ++ console.old.page.notes) ≡ Some c.state.input → Some (console.old.done.notes ++ console.old.page.notes) ≡ Some taken → Seen places c self.old (same_numbers c.numbers (call_lib line name r c.handed c.state)) c.state.input taken result self.new (left_behind K.left (console.new.done.notes ++ console.new.page.notes)) (Some (console.new.done.notes ++ console.new.page.notes)) }
+        ensures faults { (places : ℕ → ℕ) (c : CodeState) → Stands places c self.old → Counted result (I.faults console.old.input.now) (I.faults console.new.input.now) (O.faults console.old.out.now) (O.faults console.new.out.now) }
+        ensures settled { IfErr result (λ e. e ≡ end.InputFault → console.new.page.notes ≡ []) }
         ensures unchanged { IfErr result (λ _. self.new ≡ self.old) }
         ensures moves { (places : ℕ → ℕ) (c : CodeState) → Stands places c self.old → (left : List ℕ) × All IsByte left × Moves self.old (same_numbers c.numbers (call_lib line name r c.handed (with_input left c.state))) self.new result }
     {
         match name {
-            LibName::Getchar => self.get(r, input),
-            LibName::Putchar => self.put_char(r, self.integer(0), out),
-            LibName::Puts => self.act_puts(line, r, out, steps),
+            LibName::Getchar => self.get(r, console),
+            LibName::Putchar => self.put_char(r, self.integer(0), console),
+            LibName::Puts => self.act_puts(line, r, console, steps),
             LibName::Exit => Err(End::Exit(byte_in(self.integer(0)))),
             LibName::Abort => Err(End::Trap(TrapKind::Abort, line)),
             LibName::Strlen | LibName::Strcmp => self.act_string(line, name, r, steps),

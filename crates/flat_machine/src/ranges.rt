@@ -1,6 +1,7 @@
 //! Instructions on ranges of bytes (C99 6.5.16.1, 6.7.8, 7.21.2.1, 7.21.2.2, 7.21.6.1).
 
-ghost use Rattle.std.specs.Prelude.{◌≡◌, ◌+◌, ◌<◌, ◌^◌, ℕ, Bool, List, All, IfErr, Some};
+ghost use Rattle.std.specs.Prelude.{◌≡◌, ◌+◌, ◌++◌, ◌<◌, ◌^◌, [], ℕ, Bool, List, All, IfErr, Some};
+ghost use Rattle.hs_base.specs.declared.ends.End.TheVariants as end;
 ghost use Rattle.core_tree.specs.declared.statements.LibName.TheVariants as libs;
 ghost use Rattle.flat_code.specs.declared.program.Code.{Code as Program};
 ghost use Rattle.flat_code.specs.declared.instructions.Instr.{Instr};
@@ -17,9 +18,11 @@ ghost use Rattle.flat_objects.specs.Ranges.{IsSettable};
 ghost use Rattle.flat_machine.specs.Words.{address_at, integer_at};
 ghost use Rattle.flat_machine.specs.Standing.{Stands};
 ghost use Rattle.flat_machine.specs.Groups.{IsRanges, IsRangeLib};
+ghost use Rattle.flat_machine.specs.Noting.{left_behind};
 ghost use Rattle.flat_machine.specs.Leading.{Alone, Counted, Moves, Seen};
 
 use crate::calling::byte_in;
+use crate::console::{Console, Lent};
 use crate::making::size_in;
 use crate::state::State;
 use byte_memory::Steps;
@@ -172,23 +175,23 @@ impl State {
     }
 
     /// A call of a built-in function; a register takes its answer.
-    pub(crate) fn act_built_in<I: Source, O: Sink, L: Ledger>(
+    pub(crate) fn act_built_in<I: Source, O: Sink, K: Lent, L: Ledger>(
         &mut self,
         line: Line,
         name: LibName,
         r: Option<u32>,
-        input: &mut I,
-        out: &mut O,
+        console: &mut Console<'_, '_, I, O, K>,
         steps: &mut Steps<L>,
     ) -> Result<(), End>
         requires point { self.old.calls.running.point + 1 < 2 ^ 64 }
         requires kept { (k : ℕ) → IsKept self.old.memory (address_at self.old.handed k) }
         requires storable { IsStorable self.old.memory (address_at self.old.handed 0) (address_at self.old.handed 1) }
         requires settable { IsSettable self.old.memory (address_at self.old.handed 0) }
-        requires input { I.faults input.old + 1 < 2 ^ 64 }
-        requires out { O.faults out.old + 1 < 2 ^ 64 }
-        ensures told { (places : ℕ → ℕ) (c : CodeState) (taken : List ℕ) → Stands places c self.old → I.left input.old ≡ Some c.state.input → O.taken out.old ≡ Some taken → Seen places c self.old (other_numbers (behind_lib name c.handed c.numbers) c.numbers (call_lib line name r c.handed c.state)) c.state.input taken result self.new (I.left input.new) (O.taken out.new) }
-        ensures faults { Counted result (I.faults input.old) (I.faults input.new) (O.faults out.old) (O.faults out.new) }
+        requires input { I.faults console.old.input.now + 1 < 2 ^ 64 }
+        requires out { O.faults console.old.out.now + 1 < 2 ^ 64 }
+        ensures told { (places : ℕ → ℕ) (c : CodeState) (taken : List ℕ) → Stands places c self.old → left_behind K.left (console.old.done.notes ++ console.old.page.notes) ≡ Some c.state.input → Some (console.old.done.notes ++ console.old.page.notes) ≡ Some taken → Seen places c self.old (other_numbers (behind_lib name c.handed c.numbers) c.numbers (call_lib line name r c.handed c.state)) c.state.input taken result self.new (left_behind K.left (console.new.done.notes ++ console.new.page.notes)) (Some (console.new.done.notes ++ console.new.page.notes)) }
+        ensures faults { (places : ℕ → ℕ) (c : CodeState) → Stands places c self.old → Counted result (I.faults console.old.input.now) (I.faults console.new.input.now) (O.faults console.old.out.now) (O.faults console.new.out.now) }
+        ensures settled { IfErr result (λ e. e ≡ end.InputFault → console.new.page.notes ≡ []) }
         ensures unchanged { IfErr result (λ _. self.new ≡ self.old) }
         ensures moves { (places : ℕ → ℕ) (c : CodeState) → Stands places c self.old → (left : List ℕ) × All IsByte left × Moves self.old (other_numbers (behind_lib name c.handed c.numbers) c.numbers (call_lib line name r c.handed (with_input left c.state))) self.new result }
     {
@@ -196,7 +199,7 @@ impl State {
             LibName::Memcpy | LibName::Memmove | LibName::Memset => {
                 self.act_range_lib(line, name, r, steps)
             }
-            _ => self.act_lib(line, name, r, input, out, steps),
+            _ => self.act_lib(line, name, r, console, steps),
         }
     }
 }

@@ -1,16 +1,19 @@
 //! Runs: one instruction after another, until the end.
 
-ghost use Rattle.std.specs.Prelude.{◌≡◌, ◌+◌, ◌-◌, ◌<◌, ◌≤◌, ◌^◌, ℕ, List, IfOk, IfErr, Some};
+ghost use Rattle.std.specs.Prelude.{◌≡◌, ◌+◌, ◌++◌, ◌-◌, ◌<◌, ◌≤◌, ◌^◌, [], ℕ, List, IfOk, IfErr, Some};
+ghost use Rattle.hs_base.specs.declared.ends.End.TheVariants as end;
 ghost use Rattle.hs_base.specs.declared.ends.Limits.{Limits};
 ghost use Rattle.flat_code.specs.WellFormed.{IsWellFormed};
 ghost use Rattle.code_soundness.specs.Laws.{HoldsBytes};
 ghost use Rattle.flat_machine.specs.Loaded.{IsLoaded};
 ghost use Rattle.flat_machine.specs.Well.{IsWell};
 ghost use Rattle.flat_machine.specs.First.{IsFirst};
-ghost use Rattle.flat_machine.specs.Running.{Reached, RunAnswers, RunCounts};
+ghost use Rattle.flat_machine.specs.Running.{Reached, RunAnswers, RunCounts, RunNotes};
+ghost use Rattle.flat_machine.specs.Noting.{left_behind};
 ghost use Rattle.flat_machine.specs.Lasting.{LeavesImage};
 ghost use Rattle.flat_objects.specs.Leaks.{KeepsSome};
 
+use crate::console::{Console, Lent};
 use crate::loaded::Loaded;
 use crate::state::State;
 use crate::steps::one_step;
@@ -18,36 +21,69 @@ use byte_memory::{CountRight, Steps};
 use code_soundness::{run_begins_well, step_leaves_less, step_stays_good};
 use flat_code::Code;
 use hs_base::{End, Sink, Source};
+use std::marker::Brand;
 use std::sync::ledger::{Blank, Ledger};
 
 /// Makes instructions until the run ends: groups of them in one where that can be, and else one by one.
-pub(crate) fn end_of_run<I: Source, O: Sink, L: Ledger>(
+fn end_of_run<I: Source, O: Sink, K: Lent, L: Ledger>(
     state: &mut State,
     code: &Code,
     loaded: &Loaded,
-    input: &mut I,
-    out: &mut O,
+    console: &mut Console<'_, '_, I, O, K>,
     steps: &mut Steps<L>,
 ) -> End
     requires formed { IsWellFormed code.now }
     requires loaded { IsLoaded code.now loaded.now }
     requires well { IsWell code.now state.old }
-    requires input { I.faults input.old + 1 < 2 ^ 64 }
-    requires out { O.faults out.old + 1 < 2 ^ 64 }
-    ensures told { (left : List ℕ) (n : ℕ) (limits : Limits) (taken : List ℕ) → state.old.calls.room ≡ limits.stack → Reached code.now left n limits taken state.old (I.left input.old) (O.taken out.old) → RunAnswers code.now left n limits taken result (I.left input.new) (O.taken out.new) }
+    requires input { I.faults console.old.input.now + 1 < 2 ^ 64 }
+    requires out { O.faults console.old.out.now + 1 < 2 ^ 64 }
+    ensures told { (left : List ℕ) (n : ℕ) (limits : Limits) → state.old.calls.room ≡ limits.stack → Reached code.now left n limits [] state.old (left_behind K.left (console.old.done.notes ++ console.old.page.notes)) (Some (console.old.done.notes ++ console.old.page.notes)) → RunNotes code.now left n limits [] result (left_behind K.left (console.new.done.notes ++ console.new.page.notes)) (Some (console.new.done.notes ++ console.new.page.notes)) }
+    ensures settled { result ≡ end.InputFault → console.new.page.notes ≡ [] }
     ensures kept { KeepsSome state.new.memory }
-    ensures left { (left : List ℕ) (n : ℕ) (limits : Limits) (taken : List ℕ) → state.old.calls.room ≡ limits.stack → Reached code.now left n limits taken state.old (I.left input.old) (O.taken out.old) → LeavesImage code.now left n limits result state.new }
-    ensures faults { RunCounts result (I.faults input.old) (I.faults input.new) (O.faults out.old) (O.faults out.new) }
+    ensures left { (left : List ℕ) (n : ℕ) (limits : Limits) → state.old.calls.room ≡ limits.stack → Reached code.now left n limits [] state.old (left_behind K.left (console.old.done.notes ++ console.old.page.notes)) (Some (console.old.done.notes ++ console.old.page.notes)) → LeavesImage code.now left n limits result state.new }
+    ensures faults { RunCounts result (I.faults console.old.input.now) (I.faults console.new.input.now) (O.faults console.old.out.now) (O.faults console.new.out.now) }
 {
     step_stays_good();
     step_leaves_less();
     'instructions: loop {
         state.come_on(code, loaded, steps);
-        match one_step(state, code, loaded, input, out, steps) {
+        match one_step(state, code, loaded, console, steps) {
             Ok(()) => {}
             Err(end) => return end,
         }
     }
+}
+
+/// Runs code from a state that its meaning comes to, with an input and an output that are lent, and hands those back.
+fn run_lent<'i, 'o, I: Source, O: Sink, K: Lent, L: Ledger>(
+    state: &mut State,
+    code: &Code,
+    loaded: &Loaded,
+    input: &'i mut I,
+    out: &'o mut O,
+    steps: &mut Steps<L>,
+) -> (&'i mut I, &'o mut O, End)
+    requires formed { IsWellFormed code.now }
+    requires loaded { IsLoaded code.now loaded.now }
+    requires well { IsWell code.now state.old }
+    requires input { I.faults input.old + 1 < 2 ^ 64 }
+    requires out { O.faults out.old + 1 < 2 ^ 64 }
+    requires same_input { input.ghost_name ≡ K.input_loan }
+    requires same_out { out.ghost_name ≡ K.out_loan }
+    requires lent_left { I.left input.old ≡ K.left }
+    requires lent_taken { O.taken out.old ≡ K.taken }
+    ensures input { result.0.ghost_name ≡ input.entry.ghost_name }
+    ensures out { result.1.ghost_name ≡ out.entry.ghost_name }
+    ensures told { (left : List ℕ) (n : ℕ) (limits : Limits) (taken : List ℕ) → state.old.calls.room ≡ limits.stack → I.left input.old ≡ Some left → O.taken out.old ≡ Some taken → Reached code.now left n limits [] state.old (Some left) (Some []) → RunAnswers code.now left n limits taken result.2 (I.left result.0.now) (O.taken result.1.now) }
+    ensures kept { KeepsSome state.new.memory }
+    ensures left { (left : List ℕ) (n : ℕ) (limits : Limits) → state.old.calls.room ≡ limits.stack → I.left input.old ≡ Some left → Reached code.now left n limits [] state.old (Some left) (Some []) → LeavesImage code.now left n limits result.2 state.new }
+    ensures faults { RunCounts result.2 (I.faults input.old) (I.faults result.0.now) (O.faults out.old) (O.faults result.1.now) }
+{
+    let mut console = Console::<I, O, K>::new(input, out);
+    let stopped = end_of_run(state, code, loaded, &mut console, steps);
+    let end = console.finish(stopped);
+    let Console { input, out, .. } = console;
+    (input, out, end)
 }
 
 /// The first instruction: calls main, if a step is left and the stack has room for it, and makes its memory locals.
@@ -65,7 +101,7 @@ fn begin<L: Ledger>(
     requires budget { state.old.steps ≤ 1000000000 }
     ensures well { IfOk result (λ _. IsWell code.now state.new) }
     ensures room { IfOk result (λ _. state.new.calls.room ≡ stack) }
-    ensures reaches { IfOk result (λ _. (input : List ℕ) (n : ℕ) (limits : Limits) (taken : List ℕ) → n ≡ state.old.steps → limits.stack ≡ stack → limits.heap ≡ state.old.memory.heap.len → Reached code.now input n limits taken state.new (Some input) (Some taken)) }
+    ensures reaches { IfOk result (λ _. (input : List ℕ) (n : ℕ) (limits : Limits) → n ≡ state.old.steps → limits.stack ≡ stack → limits.heap ≡ state.old.memory.heap.len → Reached code.now input n limits [] state.new (Some input) (Some [])) }
     ensures ends { IfErr result (λ e. (input : List ℕ) (n : ℕ) (limits : Limits) (taken : List ℕ) → n ≡ state.old.steps → limits.stack ≡ stack → RunAnswers code.now input n limits taken e (Some input) (Some taken)) }
     ensures left { IfErr result (λ e. (input : List ℕ) (n : ℕ) (limits : Limits) → n ≡ state.old.steps → limits.stack ≡ stack → LeavesImage code.now input n limits e state.new) }
     ensures faults { IfErr result (λ e. (i o : ℕ) → RunCounts e i i o o) }
@@ -122,7 +158,12 @@ pub(crate) fn whole_run<I: Source, O: Sink, L: Ledger>(
 {
     let mut steps = Steps::<L>::new(blank, right);
     match begin(state, code, loaded, stack, &mut steps) {
-        Ok(()) => end_of_run(state, code, loaded, input, out, &mut steps),
+        Ok(()) => {
+            let (_, _, end) = run_lent::<I, O, Brand, L>(
+                state, code, loaded, input, out, &mut steps,
+            );
+            end
+        }
         Err(end) => end,
     }
 }

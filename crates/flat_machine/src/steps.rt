@@ -1,7 +1,8 @@
 //! One instruction.
 
-ghost use Rattle.std.specs.Prelude.{◌≡◌, ◌+◌, ◌-◌, ◌<◌, ◌<ℤ◌, ◌≤◌, ◌^◌, [], ℕ, Bool, pos, List, All, IfErr, IfOk, Some, map, length, slice_get, slice_index, slice_index_or};
+ghost use Rattle.std.specs.Prelude.{◌≡◌, ◌+◌, ◌++◌, ◌-◌, ◌<◌, ◌<ℤ◌, ◌≤◌, ◌^◌, [], ℕ, Bool, pos, List, All, IfErr, IfOk, Some, map, length, slice_get, slice_index, slice_index_or};
 ghost use Rattle.c_print.specs.Format.{IsGiven};
+ghost use Rattle.hs_base.specs.declared.ends.End.TheVariants as end;
 ghost use Rattle.c_print.specs.Pieces.{pieces_of};
 ghost use Rattle.flat_code.specs.WellFormed.{IsWellFormed};
 ghost use Rattle.flat_code.specs.declared.instructions.Op.TheVariants as ops;
@@ -18,10 +19,12 @@ ghost use Rattle.flat_machine.specs.Growing.{IsBefore, about_to_write};
 ghost use Rattle.flat_machine.specs.Loaded.{HasPins, IsLoaded};
 ghost use Rattle.flat_machine.specs.Pinning.{CountsWell, IsReturning, IsStanding};
 ghost use Rattle.flat_machine.specs.Well.{IsGoodSoFar, IsWell};
+ghost use Rattle.flat_machine.specs.Noting.{left_behind};
 ghost use Rattle.flat_machine.specs.Leading.{Alone, Counted, Moves, Seen, WaitsAtCall, HasAllLocals, HandsFresh, MayHand, MayMake, MayCall};
 ghost use Rattle.flat_machine.specs.Image.{StopsIn};
 
 use crate::calling::chosen;
+use crate::console::{Console, Lent};
 use crate::loaded::Loaded;
 use crate::state::State;
 use byte_memory::Steps;
@@ -140,21 +143,21 @@ fn act_alone<L: Ledger>(
 }
 
 /// One instruction of well formed code.
-pub(crate) fn one_step<I: Source, O: Sink, L: Ledger>(
+pub(crate) fn one_step<I: Source, O: Sink, K: Lent, L: Ledger>(
     state: &mut State,
     code: &Code,
     loaded: &Loaded,
-    input: &mut I,
-    out: &mut O,
+    console: &mut Console<'_, '_, I, O, K>,
     steps: &mut Steps<L>,
 ) -> Result<(), End>
     requires formed { IsWellFormed code.now }
     requires loaded { IsLoaded code.now loaded.now }
     requires well { IsWell code.now state.old }
-    requires input { I.faults input.old + 1 < 2 ^ 64 }
-    requires out { O.faults out.old + 1 < 2 ^ 64 }
-    ensures told { (places : ℕ → ℕ) (c : CodeState) (taken : List ℕ) → Stands places c state.old → IsGoodSoFar code.now c → I.left input.old ≡ Some c.state.input → O.taken out.old ≡ Some taken → Seen places c state.old (step_by code.now (fits_now places c state.old) c) c.state.input taken result state.new (I.left input.new) (O.taken out.new) }
-    ensures faults { Counted result (I.faults input.old) (I.faults input.new) (O.faults out.old) (O.faults out.new) }
+    requires input { I.faults console.old.input.now + 1 < 2 ^ 64 }
+    requires out { O.faults console.old.out.now + 1 < 2 ^ 64 }
+    ensures told { (places : ℕ → ℕ) (c : CodeState) (taken : List ℕ) → Stands places c state.old → IsGoodSoFar code.now c → left_behind K.left (console.old.done.notes ++ console.old.page.notes) ≡ Some c.state.input → Some (console.old.done.notes ++ console.old.page.notes) ≡ Some taken → Seen places c state.old (step_by code.now (fits_now places c state.old) c) c.state.input taken result state.new (left_behind K.left (console.new.done.notes ++ console.new.page.notes)) (Some (console.new.done.notes ++ console.new.page.notes)) }
+    ensures faults { Counted result (I.faults console.old.input.now) (I.faults console.new.input.now) (O.faults console.old.out.now) (O.faults console.new.out.now) }
+    ensures settled { IfErr result (λ e. e ≡ end.InputFault → console.new.page.notes ≡ []) }
     ensures image { (places : ℕ → ℕ) (c : CodeState) → Stands places c state.old → IsGoodSoFar code.now c → IfErr result (StopsIn code.now (step_by code.now (fits_now places c state.old) c) state.new) }
     ensures moves { (places : ℕ → ℕ) (c : CodeState) → Stands places c state.old → IsGoodSoFar code.now c → (left : List ℕ) × All IsByte left × Moves state.old (step_by code.now (fits_now places c state.old) (record c { state = with_input left c.state })) state.new result }
 {
@@ -169,10 +172,10 @@ pub(crate) fn one_step<I: Source, O: Sink, L: Ledger>(
     };
     let instr = *instr;
     match instr.op {
-        Op::Lib(name) => state.act_built_in(*line, name, chosen(instr), input, out, steps),
+        Op::Lib(name) => state.act_built_in(*line, name, chosen(instr), console, steps),
         Op::Printf => {
             let pieces = pieces_at(loaded.formats.as_slice(), instr.b);
-            state.act_printf(*line, instr.a, pieces, out, steps)
+            state.act_printf(*line, instr.a, pieces, console, steps)
         }
         op => act_alone(state, code, loaded, *line, instr, op, steps),
     }

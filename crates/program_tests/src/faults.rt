@@ -107,7 +107,7 @@ static INPUTS: [Row; 4] = [
 ];
 
 /// A call of the output fails, and a call of the error stream too.
-static OUTPUTS: [Row; 6] = [
+static OUTPUTS: [Row; 8] = [
     Row {
         text: COPIES,
         input: b"hi",
@@ -115,6 +115,28 @@ static OUTPUTS: [Row; 6] = [
         out: b"",
         err: b"heapsafe: output fault\n",
         left: b"i",
+        status: 133,
+    },
+    Row {
+        text: COPIES,
+        input: b"hi!",
+        failing: Failing { out: 2, ..NONE },
+        out: b"h",
+        err: b"heapsafe: output fault\n",
+        left: b"!",
+        status: 133,
+    },
+    Row {
+        text: COPIES,
+        input: b"hi!",
+        failing: Failing {
+            out: 2,
+            input: 9,
+            ..NONE
+        },
+        out: b"h",
+        err: b"heapsafe: output fault\n",
+        left: b"!",
         status: 133,
     },
     Row {

@@ -97,7 +97,7 @@ returns-clause-room g c =
     room_all c.args.code.now c.requires.formed c.args.stack m c.requires.first c.in-Some.line.now c.in-Some.ensures.item [] c.take_step.new.self.steps steps c.in-Some-get-2.cost.now cost le c.make_locals.new.self made
 
 pub returns-clause-reaches : goal.returns-clause-reaches
-returns-clause-reaches g c = λ input n room taken same stack heap.
+returns-clause-reaches g c = λ input n room same stack heap.
     let m = c.args.state.now in
     let main = main_is_there c.args.code.now c.args.stack m c.requires.first c.func-func.result c.in-Some-get.main.now c.func-func.ensures c.in-Some-get.ensures.item in
     let cost = cost_is c.args.loaded.now.costs c.args.code.now c.requires.loaded.costs c.func-func.result c.in-Some-get-2.cost.now c.in-Some-get.main.now (sym c.in-Some-get.ensures.item) c.in-Some-get-2.ensures.item ∙ ap (λ (x : Entry). cost_of c.args.code.now (Some x)) main in
@@ -107,7 +107,7 @@ returns-clause-reaches g c = λ input n room taken same stack heap.
     let made = made_main c.args.code.now c.requires.formed c.args.stack m c.requires.first c.in-Some.line.now c.in-Some.ensures.item input c.take_step.new.self.steps steps c.in-Some-get-2.cost.now cost c.in-Some-get.main.now main c.take_step.new.self c.begin.new.self yes.1 c.begin.ensures c.make_locals.new.self c.make_locals.ensures in
     let less = less_called c.args.code.now c.requires.formed c.args.stack m c.requires.first c.in-Some.line.now c.in-Some.ensures.item c.run_begins_well.ensures c.requires.bytes c.take_step.new.self.steps steps c.in-Some-get-2.cost.now cost in
     let good = good_so_far c.args.code.now c.requires.formed c.args.stack m c.requires.first c.in-Some.line.now c.in-Some.ensures.item c.run_begins_well.ensures c.requires.bytes c.take_step.new.self.steps steps c.in-Some-get-2.cost.now cost input in
-    reached_all c.args.code.now c.requires.formed c.args.stack m c.requires.first c.in-Some.line.now c.in-Some.ensures.item input c.take_step.new.self.steps steps c.in-Some-get-2.cost.now cost le c.make_locals.new.self made n room taken same heap (omega (arith, le, stack)) good less
+    reached_all c.args.code.now c.requires.formed c.args.stack m c.requires.first c.in-Some.line.now c.in-Some.ensures.item input c.take_step.new.self.steps steps c.in-Some-get-2.cost.now cost le c.make_locals.new.self made n room [] same heap (omega (arith, le, stack)) good less
 
 pub returns-then-not-take_step-clause-left : goal.returns-then-not-take_step-clause-left
 returns-then-not-take_step-clause-left g c = λ input n room same stack.

@@ -1,10 +1,10 @@
-use Rattle.std.proofs.Common.{◌++◌, refl, ◌∙◌, arith}
+use Rattle.std.proofs.Common.{[], refl, ◌∙◌, arith}
 use Rattle.hs_base.specs.Place.{has_place}
-use Rattle.hs_base.specs.Trace.{bytes_out}
 use Rattle.flat_machine.proofs.Lasting.{left_end}
 use Rattle.flat_machine.proofs.Inputs.{good_input, good_more}
 use Rattle.flat_machine.proofs.Reached.{reached_more, reached_end}
 use Rattle.flat_machine.proofs.Loops.{well_next, less_next, room_next, less_state, run_counts}
+use Rattle.flat_machine.specs.Noting.{notes_of}
 use Rattle.flat_machine.specs.Well.{IsGoodSoFar}
 use Rattle.flat_machine.proofs.running.end_of_run.Goals as goal
 
@@ -14,7 +14,7 @@ instructions-init g c = record {
   out = refl;
   well = c.requires.well;
   room = refl;
-  told = λ left n room taken stack r. r;
+  told = λ left n room stack r. r;
 }
 
 pub instructions-preserved : goal.instructions-preserved
@@ -29,9 +29,9 @@ instructions-preserved g c =
       out = faults.1 ∙ known.out;
       well = well_next c.args.code.now c.requires.formed c.step_stays_good.ensures c.step_leaves_less.ensures c.come_on.new.self c.one_step.new.state c.come_on.ensures.well moves;
       room = room_is ∙ known.room;
-      told = λ left n room taken stack first.
-          let r = c.come_on.ensures.told left n room taken _ _ (known.room ∙ stack) (known.told left n room taken stack first) in
-          reached_more c.args.code.now left n room taken c.come_on.new.self c.one_step.new.state _ _ _ _ r (good_more c.args.code.now c.requires.formed c.step_stays_good.ensures r.now r.good (has_place room.heap r.trace)) (room_is ∙ known.room ∙ stack) (λ after now. less_state c.args.code.now c.requires.formed c.step_stays_good.ensures c.step_leaves_less.ensures c.come_on.new.self c.one_step.new.state c.come_on.ensures.well moves r.now after r.stands now) (told r.stands.places r.now (taken ++ bytes_out r.trace) r.stands.stands r.good r.is_left r.is_taken);
+      told = λ left n room stack first.
+          let r = c.come_on.ensures.told left n room [] _ _ (known.room ∙ stack) (known.told left n room stack first) in
+          reached_more c.args.code.now left n room [] c.come_on.new.self c.one_step.new.state _ _ _ _ r (good_more c.args.code.now c.requires.formed c.step_stays_good.ensures r.now r.good (has_place room.heap r.trace)) (room_is ∙ known.room ∙ stack) (λ after now. less_state c.args.code.now c.requires.formed c.step_stays_good.ensures c.step_leaves_less.ensures c.come_on.new.self c.one_step.new.state c.come_on.ensures.well moves r.now after r.stands now) (told r.stands.places r.now (notes_of r.trace) r.stands.stands r.good r.is_left r.is_taken);
     }
 
 pub instructions-smaller : goal.instructions-smaller
@@ -41,11 +41,11 @@ instructions-smaller g c =
     omega (arith, less, c.come_on.ensures.left)
 
 pub returns-in-Err-clause-told : goal.returns-in-Err-clause-told
-returns-in-Err-clause-told g c = λ left n room taken stack first.
+returns-in-Err-clause-told g c = λ left n room stack first.
     let told = rw c.in-Err.is at c.one_step.ensures.told in
     let known = c.instructions.invariant in
-    let r = c.come_on.ensures.told left n room taken _ _ (known.room ∙ stack) (known.told left n room taken stack first) in
-    reached_end c.args.code.now left n room taken c.come_on.new.self c.one_step.new.state _ _ _ _ r (c.come_on.ensures.room ∙ known.room ∙ stack) c.in-Err.end (told r.stands.places r.now (taken ++ bytes_out r.trace) r.stands.stands r.good r.is_left r.is_taken)
+    let r = c.come_on.ensures.told left n room [] _ _ (known.room ∙ stack) (known.told left n room stack first) in
+    reached_end c.args.code.now left n room [] c.come_on.new.self c.one_step.new.state _ _ _ _ r (c.come_on.ensures.room ∙ known.room ∙ stack) c.in-Err.end (told r.stands.places r.now (notes_of r.trace) r.stands.stands r.good r.is_left r.is_taken)
 
 pub returns-in-Err-clause-faults : goal.returns-in-Err-clause-faults
 returns-in-Err-clause-faults g c =
@@ -61,9 +61,13 @@ returns-in-Err-clause-kept g c =
     (image.places, _, image.agrees.keeps)
 
 pub returns-in-Err-clause-left : goal.returns-in-Err-clause-left
-returns-in-Err-clause-left g c = λ left n room taken stack first.
+returns-in-Err-clause-left g c = λ left n room stack first.
     let told = rw c.in-Err.is at c.one_step.ensures.told in
     let images = rw c.in-Err.is at c.one_step.ensures.image in
     let known = c.instructions.invariant in
-    let r = c.come_on.ensures.told left n room taken _ _ (known.room ∙ stack) (known.told left n room taken stack first) in
-    left_end c.args.code.now left n room taken c.come_on.new.self _ _ r _ _ c.one_step.new.state (c.come_on.ensures.room ∙ known.room ∙ stack) c.in-Err.end (told r.stands.places r.now (taken ++ bytes_out r.trace) r.stands.stands r.good r.is_left r.is_taken) (images r.stands.places r.now r.stands.stands r.good)
+    let r = c.come_on.ensures.told left n room [] _ _ (known.room ∙ stack) (known.told left n room stack first) in
+    left_end c.args.code.now left n room [] c.come_on.new.self _ _ r _ _ c.one_step.new.state (c.come_on.ensures.room ∙ known.room ∙ stack) c.in-Err.end (told r.stands.places r.now (notes_of r.trace) r.stands.stands r.good r.is_left r.is_taken) (images r.stands.places r.now r.stands.stands r.good)
+
+pub returns-in-Err-clause-settled : goal.returns-in-Err-clause-settled
+returns-in-Err-clause-settled g c =
+    let settled = rw c.in-Err.is at c.one_step.ensures.settled in settled

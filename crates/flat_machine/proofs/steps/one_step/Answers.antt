@@ -1,8 +1,12 @@
-use Rattle.std.proofs.Common.{[], get_or, pos, refl, ap, sym, subst, ◌∙◌}
+use Rattle.std.proofs.Common.{[], ◌++◌, get_or, pos, refl, ap, sym, subst, ◌∙◌}
 use Rattle.std.specs.Prelude.{All, slice_index_or}
 use Rattle.c_print.specs.Format.{IsGiven}
 use Rattle.flat_code.specs.declared.instructions.Op.TheVariants as op
 use Rattle.meaning_run.specs.Leading.{with_input}
+use Rattle.object_meaning.specs.Meaning.{print_format}
+use Rattle.code_meaning.specs.CodeState.{same_numbers}
+use Rattle.flat_machine.specs.Noting.{told}
+use Rattle.flat_machine.specs.Leading.{Counted}
 use Rattle.code_meaning.specs.CodeMeaning.{step_by, handed_value, hand_or_act}
 use Rattle.flat_machine.proofs.Stays.{stands_input}
 use Rattle.flat_machine.specs.Standing.{fits_now}
@@ -16,6 +20,7 @@ use Rattle.flat_machine.proofs.Counts.{counts_well, may_return, one_scope_more, 
 use Rattle.flat_machine.proofs.Stepped.{step_is, step_acts, seen_alone, moves_alone, counts_alone, alone_of, given_at, read_at, found, found_line, seen_as, moves_as}
 use Rattle.flat_machine.proofs.Ranged.{settable}
 use Rattle.flat_machine.proofs.Image.{built_in_image, image_is, lib_is_still, numbers_before, print_is_still}
+use Rattle.flat_machine.proofs.Seen.{seen_told, seen_faults, unread}
 use Rattle.flat_machine.proofs.steps.one_step.Goals as goal
 
 pub unreachable-requires : goal.unreachable-requires
@@ -72,8 +77,35 @@ returns-in-Printf-clause-told g c = λ places s taken h good l t.
     let pieces = c.pieces_at-pieces.ensures ∙ ap (λ formats. slice_index_or formats c.in-Some.instr.now.b []) c.as_slice.ensures in
     let read = read_at c.args.code.now.formats c.args.loaded.now.formats c.requires.loaded.formats c.requires.formed.formats c.in-Some.instr.now.b in
     let acts = step_acts c.args.code.now (fits_now places s c.args.state.now) places s c.args.state.now h c.in-Some.instr.now at c.in-Some-get.line.now line op.Printf c.in-Printf.is refl in
-    let told = c.act_printf.ensures.told places s (slice_index_or c.args.code.now.formats c.in-Some.instr.now.b []) taken h (pieces ∙ read) t in
-    rw l (seen_as c.args.state.now c.act_printf.new.self _ (step_by c.args.code.now (fits_now places s c.args.state.now) s) acts c.act_printf.result places s s.state.input taken _ _ told)
+    let old = c.args.console.now in
+    let new = c.act_printf.new.out in
+    let notes = old.done.notes ++ old.page.notes in
+    let format = slice_index_or c.args.code.now.formats c.in-Some.instr.now.b [] in
+    let next = same_numbers s.numbers (print_format c.in-Some-get.line.now c.in-Some.instr.now.a format s.handed s.state) in
+    let put = c.act_printf.ensures.told places s format (told (g.I.Source.faults old.input.now) notes) h (pieces ∙ read) refl in
+    let seen = seen_told places s c.args.state.now next s.state.input c.act_printf.result c.act_printf.new.self (g.I.Source.faults old.input.now) (g.I.Source.faults new.input.now) notes (new.done.notes ++ new.page.notes) put g.K.Lent.left taken l t in
+    seen_as c.args.state.now c.act_printf.new.self next (step_by c.args.code.now (fits_now places s c.args.state.now) s) acts c.act_printf.result places s s.state.input taken _ _ seen
+
+pub returns-in-Printf-clause-faults : goal.returns-in-Printf-clause-faults
+returns-in-Printf-clause-faults g c =
+    let w = c.requires.well in
+    let pieces = c.pieces_at-pieces.ensures ∙ ap (λ formats. slice_index_or formats c.in-Some.instr.now.b []) c.as_slice.ensures in
+    let read = read_at c.args.code.now.formats c.args.loaded.now.formats c.requires.loaded.formats c.requires.formed.formats c.in-Some.instr.now.b in
+    let old = c.args.console.now in
+    let new = c.act_printf.new.out in
+    let notes = old.done.notes ++ old.page.notes in
+    let format = slice_index_or c.args.code.now.formats c.in-Some.instr.now.b [] in
+    let next = same_numbers w.state.numbers (print_format c.in-Some-get.line.now c.in-Some.instr.now.a format w.state.handed w.state.state) in
+    let put = c.act_printf.ensures.told w.places w.state format (told (g.I.Source.faults old.input.now) notes) w.stands (pieces ∙ read) refl in
+    let same = seen_faults w.places w.state c.args.state.now next w.state.state.input c.act_printf.result c.act_printf.new.self (g.I.Source.faults old.input.now) (g.I.Source.faults new.input.now) notes (new.done.notes ++ new.page.notes) put in
+    subst (λ k. Counted c.act_printf.result (g.I.Source.faults old.input.now) k (g.O.Sink.faults old.out.now) (g.O.Sink.faults new.out.now)) (sym same) (c.act_printf.ensures.faults (g.I.Source.faults old.input.now))
+
+pub returns-in-Printf-clause-settled : goal.returns-in-Printf-clause-settled
+returns-in-Printf-clause-settled g c = unread _ c.act_printf.result _ _ c.act_printf.ensures.faults
+
+pub returns-in-Lib-clause-faults : goal.returns-in-Lib-clause-faults
+returns-in-Lib-clause-faults g c =
+    let w = c.requires.well in c.act_built_in.ensures.faults w.places w.state w.stands
 
 pub returns-in-Printf-clause-moves : goal.returns-in-Printf-clause-moves
 returns-in-Printf-clause-moves g c = λ places s h good.
@@ -194,6 +226,15 @@ returns-in_default-op-clause-faults g c =
     let fresh = hands_fresh c.args.code.now w.places w.state c.args.state.now w.stands good c.in-Some.instr.now at in
     let counts = counts_well c.args.code.now c.requires.formed c.running_pins_are_fresh.ensures w.places w.state c.args.state.now w.stands good w.ready.pins w.ready.statics c.in-Some.instr.now at in
     counts_alone w.places w.state c.args.state.now _ c.act_alone.new.state c.act_alone.result _ _ (c.act_alone.ensures.alone w.places w.state w.stands counts fresh refl)
+
+pub returns-in_default-op-clause-settled : goal.returns-in_default-op-clause-settled
+returns-in_default-op-clause-settled g c =
+    let w = c.requires.well in
+    let at = found c.args.code.now.instrs c.point-point.result c.args.state.now.calls.running.point c.in-Some.instr.now c.point-point.ensures c.in-Some.ensures.item in
+    let good : IsGoodSoFar c.args.code.now w.state = λ left bytes. good_input c.args.code.now w.state left bytes w.good in
+    let fresh = hands_fresh c.args.code.now w.places w.state c.args.state.now w.stands good c.in-Some.instr.now at in
+    let counts = counts_well c.args.code.now c.requires.formed c.running_pins_are_fresh.ensures w.places w.state c.args.state.now w.stands good w.ready.pins w.ready.statics c.in-Some.instr.now at in
+    unread _ c.act_alone.result 0 0 (λ i. counts_alone w.places w.state c.args.state.now _ c.act_alone.new.state c.act_alone.result i 0 (c.act_alone.ensures.alone w.places w.state w.stands counts fresh refl))
 
 -- Ends
 

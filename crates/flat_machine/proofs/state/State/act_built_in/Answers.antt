@@ -1,11 +1,13 @@
-use Rattle.std.proofs.Common.{[], sym}
+use Rattle.std.proofs.Common.{[], sym, subst, ⊎_elim}
 use Rattle.object_meaning.specs.Builtins.{call_lib}
 use Rattle.code_meaning.specs.CodeState.{CodeState, other_numbers}
 use Rattle.code_meaning.specs.CodeMeaning.{behind_lib}
 use Rattle.meaning_run.specs.Leading.{with_input}
+use Rattle.flat_machine.specs.Groups.{IsRangeLib}
 use Rattle.flat_machine.proofs.Inputs.{no_bytes}
 use Rattle.flat_machine.proofs.Stays.{stands_input}
 use Rattle.flat_machine.proofs.Stepped.{lib_same, plain_lib, seen_alone, moves_alone, seen_as, moves_as}
+use Rattle.flat_machine.proofs.Seen.{unread}
 use Rattle.flat_machine.proofs.state.State.act_built_in.Goals as goal
 
 pub act_lib-requires-clause-name : goal.act_lib-requires-clause-name
@@ -36,4 +38,11 @@ returns-in-Memcpy-clause-moves g c = λ places s h.
     ([], no_bytes, moves_alone places none c.args.self.now (other_numbers (behind_lib c.args.name s.handed s.numbers) s.numbers (call_lib c.args.line c.args.name c.args.r s.handed none.state)) c.act_range_lib.new.self c.act_range_lib.result (c.act_range_lib.ensures.leads places none (stands_input places s c.args.self.now h [])))
 
 pub returns-in-Memcpy-clause-faults : goal.returns-in-Memcpy-clause-faults
-returns-in-Memcpy-clause-faults g c = c.act_range_lib.ensures.faults _ _
+returns-in-Memcpy-clause-faults g c = λ places s h. c.act_range_lib.ensures.faults _ _
+
+pub returns-in-Memcpy-clause-settled : goal.returns-in-Memcpy-clause-settled
+returns-in-Memcpy-clause-settled g c = unread _ c.act_range_lib.result 0 0 (λ i. c.act_range_lib.ensures.faults i 0)
+
+pub act_range_lib-requires-clause-name : goal.act_range_lib-requires-clause-name
+act_range_lib-requires-clause-name g c =
+    ⊎_elim (λ h. subst IsRangeLib (sym h) tt) (λ more. ⊎_elim (λ h. subst IsRangeLib (sym h) tt) (λ h. subst IsRangeLib (sym h) tt) more) c.in-Memcpy.is
