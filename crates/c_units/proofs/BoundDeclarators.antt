@@ -5,7 +5,6 @@ use Rattle.c_tree.specs.declared.tree.Declarator.{Declarator, Row_of-Suffix, end
 use Rattle.c_tree.specs.declared.tree.Declarator.TheVariants as d
 use Rattle.c_tree.specs.declared.tree.Base.{Base}
 use Rattle.c_tree.specs.declared.tree.Base.TheVariants as b
-use Rattle.c_tree.specs.declared.tree.SuffixKind.{SuffixKind}
 use Rattle.c_tree.specs.declared.tree.SuffixKind.TheVariants as s
 use Rattle.c_tree.specs.Words.{Word}
 use Rattle.c_tree.specs.Words as w
@@ -16,7 +15,7 @@ use Rattle.c_tree.specs.Places as p
 use Rattle.c_tree.specs.Tree.{Tree, Trees, Leaf, At, Node, none, ◌▹◌, count}
 use Rattle.c_tree.specs.Grammar.{Item, Part, key, shape}
 use Rattle.c_tree.specs.Scopes.{word_name, first_name, first_list, name_of, name_among, leads_to_name, params_of, params_among, suffix_params, is_scope, places}
-use Rattle.c_tree.specs.View.{declarator_tree, base_tree, suffix_tree, suffix_trees, param_trees}
+use Rattle.c_tree.specs.View.{declarator_tree, base_tree, suffix_tree, suffix_trees}
 use Rattle.c_units.specs.Names.{Names, behind, renamed, all_renamed, made}
 use Rattle.c_units.specs.Names as n
 use Rattle.c_units.specs.Externals.{with_name, all_with_name, word_as}

@@ -1,11 +1,9 @@
 -- In a unit as it stands in the program each name is bound to what it is bound to in the unit.
-use Rattle.std.proofs.Common.{◌≡◌, ◌||◌, ℕ, Bool, true, false, if◌then◌else◌, map, List, [], ◌∷◌, ◌++◌, Option, Some, None, option_map, refl, ap, ap₂, sym, subst, subst₂, ◌∙◌}
+use Rattle.std.proofs.Common.{◌≡◌, ◌||◌, ℕ, Bool, true, false, if◌then◌else◌, map, List, [], ◌∷◌, Option, Some, None, option_map, refl, ap, ap₂, sym, subst, subst₂, ◌∙◌}
 use Rattle.c_tree.specs.declared.tree.Declarator.{Declarator}
 use Rattle.c_tree.specs.declared.statement.Init.{Init}
 use Rattle.c_tree.specs.declared.statement.Decl.{Decl}
 use Rattle.c_tree.specs.declared.statement.Decl.TheVariants as d
-use Rattle.c_tree.specs.declared.statement.Unit.{Unit as Code}
-use Rattle.c_tree.specs.Words.{Word}
 use Rattle.c_tree.specs.Forms as f
 use Rattle.c_tree.specs.Places.{Place}
 use Rattle.c_tree.specs.Places as p
@@ -13,17 +11,17 @@ use Rattle.c_tree.specs.Tree.{Tree, Trees, Leaf, At, Node, none, ◌▹◌, coun
 use Rattle.c_tree.specs.Grammar.{shape}
 use Rattle.c_tree.specs.Scopes.{word_is_typedef, first_list, name_of, params_of, params_among, suffix_params, leads_to_name, has_typedef, places}
 use Rattle.c_tree.specs.View.{declarator_tree, spec_tree}
-use Rattle.c_tree.specs.StatementView.{trees, maybe, init_view, entry_view, decl_view, specs_view, body_view, unit_view}
+use Rattle.c_tree.specs.StatementView.{trees, init_view, entry_view, decl_view, specs_view, body_view, unit_view}
 use Rattle.c_units.specs.declared.mention.Role.{Role}
-use Rattle.c_units.specs.declared.mention.Role.TheVariants.{Typedef, Defined, Declared}
+use Rattle.c_units.specs.declared.mention.Role.TheVariants.{Defined}
 use Rattle.c_units.specs.Names.{Known, Names, name_by, behind, all_behind, renamed, all_renamed, made}
 use Rattle.c_units.specs.Names as n
 use Rattle.c_units.specs.Externals.{with_name, before_declarator, behind_declarator, named_as, renamed_declarator, role_of, behind_entries, renamed_entries, behind_external, renamed_external, each_said, own_names, suffix_of, unit_names}
 use Rattle.c_units.specs.Externals as merging
 use Rattle.c_units.specs.Merge.{trees_of}
-use Rattle.c_units.specs.Binding.{Declaration, External, Constant, Held, Use, Scope, hold, left_scope, after, after_all, declared_as, after_declarator, after_entries, inside_params, after_external, each_uses, no_scope, uses_of}
-use Rattle.c_units.specs.KeptBindings.{has_dot, IsWithoutDot, HasNoDots, HaveNoDots, name_as, use_as, renamed_unit, KeepsBindings, UnitsKeepBindings}
-use Rattle.c_units.proofs.BoundNames.{ArePlain, binding_as, known_as, held_as, same_name}
+use Rattle.c_units.specs.Binding.{Declaration, Held, Use, Scope, hold, left_scope, after, declared_as, after_declarator, after_entries, inside_params, after_external, each_uses, no_scope}
+use Rattle.c_units.specs.KeptBindings.{has_dot, IsWithoutDot, HasNoDots, HaveNoDots, name_as, use_as, UnitsKeepBindings}
+use Rattle.c_units.proofs.BoundNames.{ArePlain, binding_as, same_name}
 use Rattle.c_units.proofs.BoundTrees.{Like, Knows, Told, made_node, name_same, name_plain, knows_mention, knows_part, part_like, part_plain, tree_like, parts_like, tree_known, parts_known, tree_plain, parts_plain, tree_told}
 use Rattle.c_units.proofs.BoundDeclarators.{Keeps, AreRenamed, named_so, name_so, declarator_kept}
 

@@ -1,6 +1,5 @@
 -- A name with its suffix finds the declaration that the name finds without.
 use Rattle.std.proofs.Common.{◌≡◌, ◌||◌, ℕ, Bool, true, false, ◌⊎◌, if◌then◌else◌, bytes_eq, nat_eq, map, List, [], ◌∷◌, ◌++◌, Option, Some, None, inl, inr, refl, ap, sym, subst, ◌∙◌}
-use Rattle.std.specs.List.{list_any}
 use Rattle.std.proofs.lemmas.Slice.Eq.{bytes_eq-Decides}
 use Rattle.std.proofs.lemmas.List.{append_cancel_right}
 use Rattle.std.proofs.lemmas.List.Folds.{list_any-append}

@@ -1,5 +1,5 @@
 -- In a tree as it stands in the program each name is bound to what it is bound to in the unit.
-use Rattle.std.proofs.Common.{◌≡◌, ℕ, zero, suc, Bool, true, false, if◌then◌else◌, map, List, [], ◌∷◌, ◌++◌, Option, Some, None, ◌⊎◌, inl, inr, refl, ap, ap₂, sym, subst, ◌∙◌}
+use Rattle.std.proofs.Common.{◌≡◌, ℕ, suc, Bool, true, false, if◌then◌else◌, map, List, [], ◌∷◌, ◌++◌, Option, Some, None, ◌⊎◌, inl, inr, refl, ap, ap₂, sym, subst, ◌∙◌}
 use Rattle.std.proofs.lemmas.List.{map-append}
 use Rattle.c_tree.specs.Words.{Word}
 use Rattle.c_tree.specs.Words as w
@@ -9,15 +9,14 @@ use Rattle.c_tree.specs.Places.{Place}
 use Rattle.c_tree.specs.Places as p
 use Rattle.c_tree.specs.Tree.{Tree, Trees, Leaf, At, Node, none, ◌▹◌, count}
 use Rattle.c_tree.specs.Grammar.{shape}
-use Rattle.c_tree.specs.Scopes.{word_name, first_name, name_of, name_among, leads_to_name, is_scope, places}
+use Rattle.c_tree.specs.Scopes.{first_name, name_of, name_among, leads_to_name, is_scope, places}
 use Rattle.c_units.specs.declared.names.Binding.{Binding}
 use Rattle.c_units.specs.declared.names.Binding.TheVariants as b
 use Rattle.c_units.specs.declared.mention.Role.{Role}
 use Rattle.c_units.specs.declared.mention.Role.TheVariants.{Defined, Used, Tagged}
-use Rattle.c_units.specs.Mentions.{is_among}
 use Rattle.c_units.specs.Names.{Known, Names, binding_of, binding_at, name_by, declare, mention, mention_any, used, line_in, tag_name, behind, all_behind, renamed, all_renamed, named, made}
 use Rattle.c_units.specs.Names as n
-use Rattle.c_units.specs.Binding.{Declaration, Inner, External, Constant, Held, Use, Scope, declaration_of, hold, hold_inner, hold_here, use_of, left_scope, left_part, entered, left, after, after_all}
+use Rattle.c_units.specs.Binding.{Declaration, Inner, Constant, Held, Use, Scope, declaration_of, hold, hold_inner, hold_here, use_of, left_part, entered, left, after, after_all}
 use Rattle.c_units.specs.KeptBindings.{has_dot, IsWithoutDot, HasNoDots, HaveNoDots, name_as, use_as}
 use Rattle.c_units.proofs.BoundNames.{ArePlain, known_as, held_as, bound_name, bound_same}
 

@@ -1,18 +1,15 @@
 -- The names that an external declaration declares and uses, as they stand in the program: names of the text, some with the suffix.
-use Rattle.std.proofs.Common.{◌≡◌, ℕ, Bool, true, false, if◌then◌else◌, map, All, List, [], ◌∷◌, ◌++◌, Option, Some, None, ◌⊎◌, inl, inr, refl, ap, ap₂, sym, subst, ◌∙◌}
+use Rattle.std.proofs.Common.{◌≡◌, ℕ, Bool, true, false, if◌then◌else◌, All, List, [], ◌∷◌, ◌++◌, Option, Some, None, ◌⊎◌, inl, inr, refl, ap, sym, subst, ◌∙◌}
 use Rattle.std.specs.Prelude.{⊤}
 use Rattle.std.proofs.lemmas.List.Elements.{All-nil, All-cons, All-append}
 use Rattle.c_tree.specs.declared.tree.Declarator.{Declarator}
 use Rattle.c_tree.specs.declared.statement.Init.{Init}
 use Rattle.c_tree.specs.declared.statement.Decl.{Decl}
 use Rattle.c_tree.specs.declared.statement.Decl.TheVariants as d
-use Rattle.c_tree.specs.Words as w
 use Rattle.c_tree.specs.Forms.{Form}
 use Rattle.c_tree.specs.Forms as f
-use Rattle.c_tree.specs.Places.{Place}
-use Rattle.c_tree.specs.Tree.{Tree, Trees, Leaf, At, Node, none, ◌▹◌, count}
-use Rattle.c_tree.specs.Grammar.{shape}
-use Rattle.c_tree.specs.Scopes.{name_of, name_among, leads_to_name, first_name, has_typedef, is_scope, places, params_of}
+use Rattle.c_tree.specs.Tree.{Tree, Trees, At, Node, none, ◌▹◌}
+use Rattle.c_tree.specs.Scopes.{name_of, name_among, leads_to_name, first_name, has_typedef, params_of}
 use Rattle.c_tree.specs.View.{declarator_tree, spec_tree}
 use Rattle.c_tree.specs.StatementView.{trees, init_view, entry_view, decl_view, specs_view, body_view}
 use Rattle.c_units.specs.declared.names.Binding.{Binding}
@@ -21,10 +18,10 @@ use Rattle.c_units.specs.declared.mention.Role.{Role}
 use Rattle.c_units.specs.declared.mention.Role.TheVariants.{Defined}
 use Rattle.c_units.specs.Names.{Names, name_by, behind, renamed, all_renamed}
 use Rattle.c_units.specs.Names as n
-use Rattle.c_units.specs.Externals.{with_name, before_declarator, behind_declarator, binding_as, named_as, declared_as, renamed_declarator, role_of, behind_entries, renamed_entries, inside_params, behind_external, renamed_external}
+use Rattle.c_units.specs.Externals.{before_declarator, behind_declarator, binding_as, named_as, declared_as, renamed_declarator, role_of, behind_entries, renamed_entries, inside_params, behind_external, renamed_external}
 use Rattle.c_units.specs.KeptBindings.{has_dot, IsWithoutDot, HasNoDots, HaveNoDots}
 use Rattle.c_units.specs.FileBindings.{named, entries_declared, declared_by}
-use Rattle.c_units.proofs.Copied.{behind_suffix, mention_suffix, declare_suffix, parts_suffix}
+use Rattle.c_units.proofs.KeptSuffix.{behind_suffix, mention_suffix, parts_suffix}
 use Rattle.c_units.proofs.BoundTrees.{name_same, name_plain}
 use Rattle.c_units.proofs.BoundDeclarators.{named_so, name_so}
 

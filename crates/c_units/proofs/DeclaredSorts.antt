@@ -1,5 +1,5 @@
 -- What an external declaration without a body and initializers declares is what the walk over the sorts of its words finds.
-use Rattle.std.proofs.Common.{◌≡◌, ℕ, zero, suc, Bool, true, false, if◌then◌else◌, replicate, length, List, [], ◌∷◌, ◌++◌, Option, Some, None, refl, ap, ap₂, sym, subst, ◌∙◌}
+use Rattle.std.proofs.Common.{◌≡◌, ℕ, zero, suc, Bool, true, false, if◌then◌else◌, replicate, length, List, [], ◌∷◌, ◌++◌, Option, Some, None, refl, ap, sym, subst, ◌∙◌}
 use Rattle.std.specs.Prelude.{⊤}
 use Rattle.std.proofs.lemmas.List.{append-nil, append_assoc}
 use Rattle.c_tree.specs.declared.word.Keyword.TheVariants as k
@@ -11,25 +11,24 @@ use Rattle.c_tree.specs.declared.tree.Specs.{Specs}
 use Rattle.c_tree.specs.declared.tree.SuffixKind.TheVariants as s
 use Rattle.c_tree.specs.declared.statement.Init.{Init}
 use Rattle.c_tree.specs.Words.{keyword_bytes, sign_bytes}
-use Rattle.c_tree.specs.Words as w
 use Rattle.c_tree.specs.Forms as f
 use Rattle.c_tree.specs.Places as p
-use Rattle.c_tree.specs.Tree.{Tree, Trees, Leaf, At, Node, none, ◌▹◌, count}
-use Rattle.c_tree.specs.Grammar.{Part, key, rows, behind_commas, commas, shape}
-use Rattle.c_tree.specs.Spelling.{spell, spell_all, words}
+use Rattle.c_tree.specs.Tree.{Tree, Trees, At, Node, none, ◌▹◌, count}
+use Rattle.c_tree.specs.Grammar.{Part, key, rows, behind_commas, shape}
+use Rattle.c_tree.specs.Spelling.{spell, spell_all}
 use Rattle.c_tree.specs.Scopes.{name_of, name_among, first_name, leads_to_name, has_typedef, is_scope, places}
 use Rattle.c_tree.specs.Allowed.{tally, is_one_type}
 use Rattle.c_tree.specs.View.{declarator_tree, base_tree, suffix_tree, suffix_trees, spec_tree}
-use Rattle.c_tree.specs.StatementView.{trees, init_view, entry_view, specs_view, decl_view}
+use Rattle.c_tree.specs.StatementView.{trees, entry_view, specs_view, decl_view}
 use Rattle.c_tree.specs.declared.statement.Decl.TheVariants as e
 use Rattle.c_units.specs.declared.mention.Role.{Role}
 use Rattle.c_units.specs.Names.{Names, name_by, mention, behind, renamed, all_renamed, made, entered}
-use Rattle.c_units.specs.Externals.{with_name, all_with_name, before_declarator, behind_declarator, binding_as, named_as, renamed_declarator, role_of, behind_entries, renamed_entries, renamed_external}
+use Rattle.c_units.specs.Externals.{with_name, all_with_name, before_declarator, behind_declarator, binding_as, named_as, renamed_declarator, role_of, renamed_entries, renamed_external}
 use Rattle.c_units.specs.Merge.{are_plain, is_plain}
 use Rattle.c_units.specs.FileBindings.{named, entries_declared, declared_by}
 use Rattle.c_units.proofs.BoundTrees.{name_same}
 use Rattle.c_units.proofs.BoundDeclarators.{pointer_renamed, named_so, name_so}
-use Rattle.c_units.proofs.WordSorts.{Sort, Open, Close, Comma, Plain, tree_sorts, State, Before, Behind, Gone, run, run_append, run_gone, names_in, item_sorts, node_sorts, IsSound, AreSound, sound_neutral}
+use Rattle.c_units.proofs.WordSorts.{Sort, Close, Plain, tree_sorts, State, Before, Behind, Gone, run, run_append, run_gone, names_in, item_sorts, node_sorts, IsSound, AreSound, sound_neutral}
 use Rattle.c_units.proofs.BoundExternals.{typedef_same}
 use Rattle.c_units.proofs.SpecSorts.{each_sorts, rows_sorts, words_as, end_state, specs_run}
 

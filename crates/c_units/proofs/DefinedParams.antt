@@ -10,12 +10,12 @@ use Rattle.c_tree.specs.declared.tree.SuffixKind.TheVariants as s
 use Rattle.c_tree.specs.declared.tree.Param.{Param}
 use Rattle.c_tree.specs.declared.tree.Expr.{Expr}
 use Rattle.c_tree.specs.Forms as f
-use Rattle.c_tree.specs.Tree.{Tree, Trees, At, Node, none, ◌▹◌}
+use Rattle.c_tree.specs.Tree.{Tree, Trees, Node, none, ◌▹◌}
 use Rattle.c_tree.specs.Scopes.{is_scope, first_list, leads_to_name, params_of, params_among, suffix_params}
 use Rattle.c_tree.specs.View.{declarator_tree, base_tree, suffix_tree}
 use Rattle.c_tree.specs.StatementView.{trees, suffix_view, param_view}
 use Rattle.c_tree.proofs.Views.{direct_tree, params_tree}
-use Rattle.c_units.specs.Names.{Names, behind, all_behind}
+use Rattle.c_units.specs.Names.{Names, all_behind}
 use Rattle.c_units.specs.Externals.{with_params}
 use Rattle.c_units.specs.Turns.{in_turn, kind_params}
 use Rattle.c_units.proofs.ListTurns.{params_turn}

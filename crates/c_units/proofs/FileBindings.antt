@@ -1,22 +1,22 @@
 -- In the merge of several units a name that is bound at file scope is bound to what it is bound to in its unit.
-use Rattle.std.proofs.Common.{◌≡◌, ◌≤◌, ◌+◌, ◌||◌, ℕ, suc, Bool, true, false, not, if◌then◌else◌, bytes_eq, length, map, filter, All, List, [], ◌∷◌, ◌++◌, Option, Some, None, IfSome, Ok, ◌⊎◌, inl, inr, refl, ap, sym, subst, ◌∙◌, arith}
+use Rattle.std.proofs.Common.{◌≡◌, ◌≤◌, ◌+◌, ◌||◌, ℕ, Bool, true, false, not, if◌then◌else◌, bytes_eq, length, map, All, List, [], ◌∷◌, ◌++◌, Option, Some, None, IfSome, Ok, inl, inr, refl, ap, sym, subst, ◌∙◌, arith}
 use Rattle.std.specs.Prelude.{⊤}
 use Rattle.std.proofs.lemmas.Slice.Eq.{bytes_eq-Decides}
 use Rattle.std.proofs.lemmas.List.{length-map}
 use Rattle.std.proofs.lemmas.List.Elements.{All-nil, All-cons, All-append, All-head, All-tail, All-map, All-weaker}
 use Rattle.c_tree.specs.declared.statement.Decl.{Decl}
 use Rattle.c_tree.specs.declared.statement.Unit.{Unit as Code}
-use Rattle.c_tree.specs.Tree.{Tree, Trees, none, ◌▹◌}
+use Rattle.c_tree.specs.Tree.{Trees, none, ◌▹◌}
 use Rattle.c_tree.specs.StatementView.{trees, decl_view, unit_view}
 use Rattle.c_units.specs.Mentions.{Mention, is_among, all_noted, first_taken, with_mentions}
 use Rattle.c_units.specs.Names.{Names}
 use Rattle.c_units.specs.Externals.{Said, each_said, own_names, suffix_of, unit_names, unit_said, behind_external, renamed_external}
-use Rattle.c_units.specs.Merge.{Program, no_program, is_again, kept, spellings_of, mentions_of, trees_of, unless, followed, with_units, merged}
+use Rattle.c_units.specs.Merge.{Program, no_program, is_again, kept, spellings_of, mentions_of, trees_of, unless, followed, with_units}
 use Rattle.c_units.specs.Turns.{joined}
 use Rattle.c_units.specs.Binding.{Declaration, Inner, External, Constant, Use, Scope, each_uses, no_scope, uses_of}
 use Rattle.c_units.specs.KeptBindings.{has_dot, HasNoDots, HaveNoDots, name_as, use_as}
 use Rattle.c_units.specs.MergedBindings.{unit_uses}
-use Rattle.c_units.specs.FileBindings.{declared_by, Part, part_trees, left_parts, own_in_program, program_parts, first_of, Agree, MayHave, KeepsBinding, KeepsFileBindings, MergeKeepsFile}
+use Rattle.c_units.specs.FileBindings.{declared_by, Part, part_trees, left_parts, own_in_program, program_parts, first_of, Agree, MayHave, KeepsBinding, MergeKeepsFile}
 use Rattle.c_units.proofs.ItemTurns.{joined_none}
 use Rattle.c_units.proofs.InnerUses.{joined_assoc, same_answer, no_answer}
 use Rattle.c_units.proofs.SuffixesApart.{one_unit, no_text_name, not_own}

@@ -1,6 +1,5 @@
 -- A declaration that is left out since an earlier unit has it in the same words is not missed.
-use Rattle.std.proofs.Common.{◌≡◌, ◌≤◌, ◌<◌, ◌+◌, ◌||◌, ◌&&◌, ℕ, suc, Bool, true, false, if◌then◌else◌, bytes_eq, length, map, All, List, [], ◌∷◌, ◌++◌, Option, Some, None, IsSome, ◌⊎◌, inl, inr, append_assoc, refl, ap, sym, subst, ◌∙◌, arith}
-use Rattle.std.specs.Prelude.{⊤}
+use Rattle.std.proofs.Common.{◌≡◌, ◌≤◌, ◌<◌, ◌+◌, ℕ, Bool, true, false, if◌then◌else◌, bytes_eq, length, map, All, List, [], ◌∷◌, ◌++◌, Option, Some, None, IsSome, ◌⊎◌, inl, inr, append_assoc, refl, sym, subst, ◌∙◌, arith}
 use Rattle.std.proofs.Math.Bool.{or-false}
 use Rattle.std.proofs.lemmas.Bool.{and_parts, or_cases, or_left, or_right}
 use Rattle.std.proofs.lemmas.Slice.Eq.{bytes_eq-Decides}
@@ -8,20 +7,20 @@ use Rattle.std.proofs.lemmas.List.{append-nil, length-map}
 use Rattle.std.proofs.lemmas.List.Folds.{list_any-append}
 use Rattle.std.proofs.lemmas.List.Elements.{All-nil, All-cons, All-head, All-tail}
 use Rattle.c_tree.specs.declared.statement.Unit.{Unit as Code}
-use Rattle.c_tree.specs.Tree.{Tree, Trees, none, ◌▹◌}
+use Rattle.c_tree.specs.Tree.{Tree, Trees}
 use Rattle.c_tree.specs.Scopes.{first_scope}
 use Rattle.c_tree.specs.StatementView.{unit_view}
 use Rattle.c_units.specs.Mentions.{is_among, noted, all_noted}
-use Rattle.c_units.specs.Externals.{Said, own_names, suffix_of, unit_names, unit_said}
+use Rattle.c_units.specs.Externals.{Said, unit_names, unit_said}
 use Rattle.c_units.specs.Merge.{is_plain, spelling, is_again, spellings_of, trees_of}
-use Rattle.c_units.specs.Binding.{External, Use, Scope, after_external, each_uses, no_scope, uses_of}
-use Rattle.c_units.specs.KeptBindings.{HaveNoDots, use_as}
+use Rattle.c_units.specs.Binding.{Use, Scope, after_external, each_uses, no_scope}
+use Rattle.c_units.specs.KeptBindings.{HaveNoDots}
 use Rattle.c_units.specs.MergedBindings.{unit_uses}
 use Rattle.c_units.specs.FileBindings.{declared_by, Part, left_parts, own_in_program, program_parts, first_of, IsDeclared, AreDeclared, IsOfText, MergeKeepsDeclared}
 use Rattle.c_units.proofs.BoundExternals.{units_keep_bindings}
 use Rattle.c_units.proofs.SoundTrees.{unit_suffix}
 use Rattle.c_units.proofs.ReadTrees.{Tells, each_tells, unit_read, alike_declare}
-use Rattle.c_units.proofs.HeldNames.{Have, UseHas, Covers, external_covers, begun_covers, covers_weaker}
+use Rattle.c_units.proofs.HeldNames.{Have, Covers, external_covers, begun_covers, covers_weaker}
 
 -- What is declared stays so.
 

@@ -1,5 +1,5 @@
 -- A declarator at file scope, with or without a name.
-use Rattle.std.proofs.Common.{◌≡◌, ℕ, List, Option, Some, None, ap, refl}
+use Rattle.std.proofs.Common.{◌≡◌, ℕ, List, Option, Some, None, ap}
 use Rattle.c_tree.specs.Tree.{Tree}
 use Rattle.c_tree.specs.Scopes.{name_of}
 use Rattle.c_units.specs.declared.mention.Role.{Role}

@@ -1,5 +1,5 @@
 -- An object or a function that is bound at a place of a unit was declared before it.
-use Rattle.std.proofs.Common.{◌≡◌, ◌||◌, ℕ, Bool, true, false, if◌then◌else◌, bytes_eq, All, List, [], ◌∷◌, ◌++◌, Option, Some, None, ◌⊎◌, inl, inr, refl, ap, sym, subst, ◌∙◌}
+use Rattle.std.proofs.Common.{◌≡◌, ℕ, Bool, true, false, if◌then◌else◌, bytes_eq, All, List, [], ◌∷◌, ◌++◌, Option, Some, None, ◌⊎◌, inl, inr, refl, sym, subst, ◌∙◌}
 use Rattle.std.specs.Prelude.{⊤}
 use Rattle.std.proofs.lemmas.Bool.{or_left, or_right, false≢true}
 use Rattle.std.proofs.lemmas.Slice.Eq.{bytes_eq-Decides}
@@ -14,7 +14,7 @@ use Rattle.c_tree.specs.Tree.{Tree, Trees, Leaf, At, Node, none, ◌▹◌, coun
 use Rattle.c_tree.specs.Grammar.{shape}
 use Rattle.c_tree.specs.Scopes.{name_of, name_among, first_name, leads_to_name, params_of, has_typedef, is_scope, places}
 use Rattle.c_units.specs.Mentions.{is_among}
-use Rattle.c_units.specs.Binding.{Declaration, Inner, External, Constant, Held, Use, Scope, declaration_of, hold, hold_inner, hold_here, use_of, left_scope, left_part, entered, left, after, after_all, declared_as, after_declarator, after_entries, with_params, inside_params, after_external}
+use Rattle.c_units.specs.Binding.{Declaration, Inner, External, Constant, Held, Use, Scope, declaration_of, hold, hold_inner, use_of, left_part, entered, left, after, after_all, declared_as, after_declarator, after_entries, inside_params, after_external}
 use Rattle.c_units.specs.FileBindings.{named, entries_declared, declared_by}
 use Rattle.c_units.proofs.BoundTrees.{IsName, IsOther, name_parts}
 

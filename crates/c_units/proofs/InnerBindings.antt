@@ -9,7 +9,7 @@ use Rattle.c_tree.specs.Places as p
 use Rattle.c_tree.specs.Tree.{Tree, Trees, Leaf, At, Node, none, ◌▹◌, count}
 use Rattle.c_tree.specs.Grammar.{shape}
 use Rattle.c_tree.specs.Scopes.{name_of, name_among, params_of, has_typedef, is_scope, places}
-use Rattle.c_units.specs.Binding.{Declaration, Inner, External, Constant, Held, Use, Scope, declaration_of, hold, hold_inner, hold_here, use_of, left_scope, left_part, entered, left, after, after_all, declared_as, after_declarator, after_entries, with_params, inside_params, after_external}
+use Rattle.c_units.specs.Binding.{Declaration, Inner, Constant, Held, Use, Scope, declaration_of, hold, hold_inner, hold_here, use_of, left_part, entered, left, after, after_all, declared_as, after_declarator, after_entries, inside_params, after_external}
 use Rattle.c_units.specs.MergedBindings.{inner_of, inner_use}
 use Rattle.c_units.proofs.BoundTrees.{Same, IsName, IsOther, name_parts, use_same}
 

@@ -1,12 +1,12 @@
 -- In the merge of several units a name is bound to a declaration in an inner scope exactly where it is in its unit.
-use Rattle.std.proofs.Common.{◌≡◌, ◌+◌, ℕ, suc, Bool, true, false, not, if◌then◌else◌, map, filter, All, List, [], ◌∷◌, ◌++◌, Option, Some, None, Result, Ok, Err, append_assoc, refl, ap, ap₂, sym, subst, ◌∙◌, arith}
+use Rattle.std.proofs.Common.{◌≡◌, ◌+◌, ℕ, suc, Bool, true, false, not, if◌then◌else◌, map, All, List, [], ◌∷◌, ◌++◌, Option, Some, None, Result, Ok, Err, refl, ap, ap₂, sym, ◌∙◌, arith}
 use Rattle.std.proofs.lemmas.List.{map-append}
 use Rattle.c_tree.specs.Tree.{Tree, Trees, none, ◌▹◌}
 use Rattle.c_tree.specs.StatementView.{unit_view}
 use Rattle.c_tree.specs.declared.statement.Unit.{Unit as Code}
 use Rattle.c_units.specs.Mentions.{Mention, all_noted, first_taken, with_mentions}
 use Rattle.c_units.specs.Externals.{Said, unit_said}
-use Rattle.c_units.specs.Merge.{Conflict, Program, no_program, is_again, kept, spellings_of, mentions_of, trees_of, unless, followed, with_unit, with_units, merged}
+use Rattle.c_units.specs.Merge.{Conflict, Program, no_program, is_again, kept, spellings_of, mentions_of, trees_of, unless, followed, with_units}
 use Rattle.c_units.specs.Turns.{joined}
 use Rattle.c_units.specs.Binding.{Use, Scope, after_external, each_uses, no_scope, uses_of}
 use Rattle.c_units.specs.KeptBindings.{HaveNoDots}

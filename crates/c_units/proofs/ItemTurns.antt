@@ -21,6 +21,10 @@ module _ {A : Type 0} (view : A → Tree) where
       (joined (trees view done) (each_renamed (trees view (drop i xs)) s) ≡ each_renamed (trees view xs) first)
       × (in_turn (trees view (drop i xs)) s ≡ in_turn (trees view xs) first)
 
+  -- those that are left lead to what is known behind all
+  abbrev pub Goes : List A → ℕ → Names → Names → Type 0
+  Goes xs i s first = in_turn (trees view (drop i xs)) s ≡ in_turn (trees view xs) first
+
   one_on : (xs : List A) (i : ℕ) (x : A) → i < length xs → x ≡ get_or xs i x → drop i xs ≡ x ∷ drop (i + 1) xs
   one_on xs i x h is =
       let more : suc i ≡ i + 1 = omega arith in

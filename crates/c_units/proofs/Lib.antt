@@ -4,7 +4,7 @@ pub mod ListTurns
 pub mod TreeParts
 pub mod ScopeEnds
 pub mod ItemTurns
-pub mod Copied
+pub mod KeptSuffix
 pub mod BoundNames
 pub mod BoundTrees
 pub mod BoundDeclarators
@@ -28,6 +28,8 @@ pub mod UsedNames
 pub mod FileBindings
 pub mod WordTexts
 pub mod WordSorts
+pub mod SharedTrees
+pub mod SharedTurns
 pub mod SoundTrees
 pub mod SpecSorts
 pub mod DeclaredSorts

@@ -4,7 +4,7 @@ use Rattle.std.specs.Prelude.{replicate}
 use Rattle.c_tree.specs.Forms as f
 use Rattle.c_tree.specs.Places.{Place, Expression}
 use Rattle.c_tree.specs.Places as p
-use Rattle.c_tree.specs.Tree.{Tree, Trees, At, Node, none, ◌▹◌, count}
+use Rattle.c_tree.specs.Tree.{Trees, At, Node, none, ◌▹◌, count}
 use Rattle.c_tree.specs.Grammar.{shape, rows, commas, behind_commas, some_commas, some}
 use Rattle.c_tree.specs.Scopes.{places, is_scope}
 use Rattle.c_units.specs.Names.{Names, behind, all_behind, renamed, all_renamed, left, left_part, entered, made}

@@ -1,6 +1,6 @@
 -- Declarations as the code keeps them, and what each name is bound to.
-use Rattle.std.proofs.Common.{◌≡◌, ℕ, zero, suc, ◌+◌, ◌-◌, ◌<◌, ◌≤◌, Bool, true, false, if◌then◌else◌, bytes_eq, unwrap_or, List, [], ◌∷◌, ◌++◌, reverse, length, drop, get_or, Option, Some, None, Bor, refl, ap, sym, subst, ◌∙◌, arith}
-use Rattle.std.specs.HashMap.{HashMap, get_by}
+use Rattle.std.proofs.Common.{◌≡◌, ℕ, suc, ◌-◌, ◌<◌, ◌≤◌, Bool, true, false, if◌then◌else◌, bytes_eq, unwrap_or, List, [], ◌∷◌, ◌++◌, reverse, length, drop, get_or, Option, Some, Bor, refl, ap, sym, subst, ◌∙◌, arith}
+use Rattle.std.specs.HashMap.{HashMap}
 use Rattle.std.specs.Map.{lookup}
 use Rattle.std.specs.List.{slice_get}
 use Rattle.std.specs.Option.{option_to_list}

@@ -1,5 +1,5 @@
 -- A unit as it stands in the program differs from the unit in names alone, some of which have the suffix there.
-use Rattle.std.proofs.Common.{◌≡◌, ◌≤◌, ◌<◌, ◌+◌, ◌^◌, ℕ, suc, Bool, true, false, not, if◌then◌else◌, map, filter, length, decimal, List, [], ◌∷◌, ◌++◌, Option, Some, None, Result, Ok, Err, IfOk, ◌⊎◌, inl, inr, refl, ap, sym, subst, ◌∙◌, arith}
+use Rattle.std.proofs.Common.{◌≡◌, ◌≤◌, ◌+◌, ℕ, Bool, true, false, not, if◌then◌else◌, map, length, List, [], ◌∷◌, Option, Some, None, Result, Ok, Err, IfOk, ◌⊎◌, inl, inr, refl, sym, subst, arith}
 use Rattle.std.specs.Prelude.{⊤}
 use Rattle.std.proofs.lemmas.List.{append-nil}
 use Rattle.c_tree.specs.declared.tree.Declarator.{Declarator}
@@ -15,12 +15,11 @@ use Rattle.c_tree.specs.Words as w
 use Rattle.c_tree.specs.Forms.{Form}
 use Rattle.c_tree.specs.Forms as f
 use Rattle.c_tree.specs.Places.{Place}
-use Rattle.c_tree.specs.Places as p
 use Rattle.c_tree.specs.Tree.{Tree, Trees, Leaf, At, Node, none, ◌▹◌, count}
 use Rattle.c_tree.specs.Grammar.{shape}
-use Rattle.c_tree.specs.Scopes.{word_name, first_name, name_of, name_among, params_of, has_typedef, leads_to_name, is_scope, places}
+use Rattle.c_tree.specs.Scopes.{first_name, name_of, name_among, params_of, has_typedef, leads_to_name, is_scope, places}
 use Rattle.c_tree.specs.View.{declarator_tree, base_tree, suffix_trees, spec_tree}
-use Rattle.c_tree.specs.StatementView.{trees, maybe, init_view, entry_view, decl_view, specs_view, body_view, unit_view}
+use Rattle.c_tree.specs.StatementView.{trees, init_view, entry_view, decl_view, specs_view, body_view, unit_view}
 use Rattle.c_tree.specs.Renaming.{IsSuffixed, IsRenamed, Renames, RenamesAll, RenamesSome}
 use Rattle.c_units.specs.declared.error.MergeError.{MergeError}
 use Rattle.c_units.specs.declared.names.Binding.{Binding}
@@ -28,10 +27,10 @@ use Rattle.c_units.specs.declared.names.Binding.TheVariants.{Inner, Own, Shared}
 use Rattle.c_units.specs.declared.mention.Role.{Role}
 use Rattle.c_units.specs.declared.mention.Role.TheVariants.{Defined}
 use Rattle.c_units.specs.Mentions.{Mention, first_taken, all_noted, with_mentions}
-use Rattle.c_units.specs.Names.{Names, name_by, binding_of, mention, declare, behind, all_behind, renamed, all_renamed, named, made, entered, left_part, left_scope}
-use Rattle.c_units.specs.Externals.{with_name, all_with_name, before_declarator, declared_as, behind_declarator, binding_as, named_as, renamed_declarator, role_of, behind_entries, renamed_entries, with_params, inside_params, behind_external, renamed_external, Said, each_said, suffix_of, unit_names, unit_said}
+use Rattle.c_units.specs.Names.{Names, name_by, binding_of, mention, behind, renamed, all_renamed, named, made, entered, left_part}
+use Rattle.c_units.specs.Externals.{with_name, all_with_name, before_declarator, behind_declarator, binding_as, named_as, renamed_declarator, role_of, behind_entries, renamed_entries, inside_params, behind_external, renamed_external, Said, each_said, unit_names, unit_said}
 use Rattle.c_units.specs.Turns.{joined}
-use Rattle.c_units.specs.Merge.{Conflict, Program, no_program, is_again, kept, spellings_of, mentions_of, trees_of, unless, followed, with_unit, with_units, merged, Merges}
+use Rattle.c_units.specs.Merge.{Program, no_program, is_again, kept, spellings_of, mentions_of, trees_of, unless, followed, with_units, Merges}
 use Rattle.c_units.specs.MergedNames.{joined_all, MergesRename}
 use Rattle.c_units.proofs.ItemTurns.{joined_none}
 use Rattle.c_units.proofs.BoundTrees.{IsName, IsOther, name_parts}

@@ -1,8 +1,8 @@
 -- Units that are added in turn, and the external declarations that are left of them.
-use Rattle.std.proofs.Common.{◌≡◌, ◌≢◌, ◌<◌, ◌≤◌, ◌+◌, ℕ, Bool, true, false, not, ◌&&◌, if◌then◌else◌, List, [], ◌∷◌, ◌++◌, drop, length, get_or, map, filter, Option, Some, None, Result, Ok, Err, append_assoc, append-nil, refl, ap, ap₂, sym, ◌∙◌, arith}
-use Rattle.std.proofs.lemmas.List.{map-append}
+use Rattle.std.proofs.Common.{◌≡◌, ◌≢◌, ◌<◌, ◌≤◌, ◌+◌, ℕ, Bool, true, false, not, ◌&&◌, if◌then◌else◌, List, [], ◌∷◌, ◌++◌, drop, length, get_or, map, reverse, option_to_list, Option, Some, None, Result, Ok, Err, append_assoc, append-nil, refl, ap, ap₂, sym, ◌∙◌, arith}
+use Rattle.std.proofs.lemmas.List.{map-append, length-append, reverse-append}
 use Rattle.std.proofs.lemmas.List.Elements.{filter-append}
-use Rattle.c_tree.specs.Tree.{Tree, Trees, none, ◌▹◌}
+use Rattle.c_tree.specs.Tree.{Trees, none, ◌▹◌}
 use Rattle.c_tree.specs.declared.statement.Decl.{Decl}
 use Rattle.c_tree.specs.declared.statement.Unit.{Unit as Code}
 use Rattle.c_tree.specs.StatementView.{trees, decl_view, unit_view}
@@ -165,41 +165,54 @@ module _ (number : ℕ) (unit : Trees) (before : Program) (left : List Said) whe
       ∙ ap₂ (λ (n : List ℕ) (l : ℕ). Err (record { name = n; line = l })) (sym same.0) (sym same.1)
   refused mention new e.NoMemory is found same = tt
 
-module _ (xs : List Code) (i number : ℕ) (x : Code) (before : Program) where
-  at_unit : i < length xs → x ≡ get_or xs i x →
-      with_units number (map unit_view (drop i xs)) before ≡
-      followed (with_unit number (unit_view x) before) (λ next. with_units (number + 1) (map unit_view (drop (i + 1) xs)) next)
-  at_unit h is = ap (λ (l : List Code). with_units number (map unit_view l) before) (drop_next xs i x h is)
-
-  pub unit_next : (new : Program) → i < length xs → x ≡ get_or xs i x → with_unit number (unit_view x) before ≡ Ok new →
-      with_units (number + 1) (map unit_view (drop (i + 1) xs)) new ≡ with_units number (map unit_view (drop i xs)) before
-  unit_next new h is one =
-      sym (at_unit h is ∙ ap (λ (r : Result Program Conflict). followed r (λ next. with_units (number + 1) (map unit_view (drop (i + 1) xs)) next)) one)
-
-  unit_stops : (conflict : Conflict) → i < length xs → x ≡ get_or xs i x → with_unit number (unit_view x) before ≡ Err conflict →
-      with_units number (map unit_view (drop i xs)) before ≡ Err conflict
-  unit_stops conflict h is one =
-      at_unit h is ∙ ap (λ (r : Result Program Conflict). followed r (λ next. with_units (number + 1) (map unit_view (drop (i + 1) xs)) next)) one
-
-pub unit_end : (xs : List Code) (i number : ℕ) (before : Program) → length xs ≤ i → with_units number (map unit_view (drop i xs)) before ≡ Ok before.trees
-unit_end xs i number before h = ap (λ (l : List Code). with_units number (map unit_view l) before) (drop_end xs i h)
-
-pub one_merged : (xs : List Code) (x : Code) → length xs ≡ 1 → x ≡ get_or xs 0 x → merged (map unit_view xs) ≡ Ok (unit_view x)
-one_merged [] x h is = absurd (omega (arith, h))
-one_merged (y ∷ []) x h is = ap (λ (z : Code). Ok (unit_view z)) (sym is)
-one_merged (y ∷ z ∷ xs) x h is = absurd (omega (arith, h))
-
 pub several_merged : (xs : List Code) → length xs ≢ 1 → merged (map unit_view xs) ≡ with_units 1 (map unit_view xs) no_program
 several_merged [] h = refl
 several_merged (x ∷ []) h = absurd (h refl)
 several_merged (x ∷ y ∷ xs) h = refl
 
-pub merge_refused : (xs : List Code) (i number : ℕ) (x : Code) (before new : Program) (error : MergeError) → length xs ≢ 1 → i < length xs → x ≡ get_or xs i x →
-    with_units number (map unit_view (drop i xs)) before ≡ with_units 1 (map unit_view xs) no_program →
-    Adds {U = Unit {0}} (with_unit number (unit_view x) before) new (Err error) → Merges (map unit_view xs) (Err error)
-merge_refused xs i number x before new (e.Conflict name line) several h is whole refused =
-    several_merged xs several ∙ sym whole ∙ unit_stops xs i number x before (record { name = name; line = line }) h is refused
-merge_refused xs i number x before new e.NoMemory several h is whole refused = tt
+-- the units that are left lie the other way round: the last is the next
+module _ (xs left : List Code) (number : ℕ) (popped : Option Code) (x : Code) (before : Program)
+    (is : xs ≡ left ++ option_to_list popped) (found : popped ≡ Some x) where
+  at_unit : with_units number (map unit_view (reverse xs)) before ≡
+      followed (with_unit number (unit_view x) before) (λ next. with_units (number + 1) (map unit_view (reverse left)) next)
+  at_unit =
+      ap (λ (l : List Code). with_units number (map unit_view (reverse l)) before) (is ∙ ap (λ (p : Option Code). left ++ option_to_list p) found)
+      ∙ ap (λ (l : List Code). with_units number (map unit_view l) before) (reverse-append left (x ∷ []))
+
+  pub unit_next : (new : Program) → with_unit number (unit_view x) before ≡ Ok new →
+      with_units (number + 1) (map unit_view (reverse left)) new ≡ with_units number (map unit_view (reverse xs)) before
+  unit_next new one =
+      sym (at_unit ∙ ap (λ (r : Result Program Conflict). followed r (λ next. with_units (number + 1) (map unit_view (reverse left)) next)) one)
+
+  unit_stops : (conflict : Conflict) → with_unit number (unit_view x) before ≡ Err conflict →
+      with_units number (map unit_view (reverse xs)) before ≡ Err conflict
+  unit_stops conflict one =
+      at_unit ∙ ap (λ (r : Result Program Conflict). followed r (λ next. with_units (number + 1) (map unit_view (reverse left)) next)) one
+
+  pub unit_counts : length xs ≡ length left + 1
+  unit_counts = ap length (is ∙ ap (λ (p : Option Code). left ++ option_to_list p) found) ∙ length-append left (x ∷ [])
+
+  pub merge_refused : (all : List Code) (new : Program) (error : MergeError) → length all ≢ 1 →
+      with_units number (map unit_view (reverse xs)) before ≡ with_units 1 (map unit_view all) no_program →
+      Adds {U = Unit {0}} (with_unit number (unit_view x) before) new (Err error) → Merges (map unit_view all) (Err error)
+  merge_refused all new (e.Conflict name line) several whole refused =
+      several_merged all several ∙ sym whole ∙ unit_stops (record { name = name; line = line }) refused
+  merge_refused all new e.NoMemory several whole refused = tt
+
+pub unit_end : (xs left : List Code) (number : ℕ) (popped : Option Code) (before : Program) → xs ≡ left ++ option_to_list popped → popped ≡ None →
+    length left ≡ 0 → with_units number (map unit_view (reverse xs)) before ≡ Ok before.trees
+unit_end xs [] number popped before is gone empty =
+    ap (λ (l : List Code). with_units number (map unit_view (reverse l)) before) (is ∙ ap (λ (p : Option Code). [] ++ option_to_list p) gone)
+unit_end xs (one ∷ left) number popped before is gone empty = cc
+
+-- one that leaves the list
+pub one_popped : (xs left : List Code) (popped : Option Code) (x : Code) → length xs ≡ 1 → xs ≡ left ++ option_to_list popped → popped ≡ Some x →
+    merged (map unit_view xs) ≡ Ok (unit_view x)
+one_popped xs left popped x one is found = by left (is ∙ ap (λ (p : Option Code). left ++ option_to_list p) found)
+  where
+    by : (left : List Code) → xs ≡ left ++ x ∷ [] → merged (map unit_view xs) ≡ Ok (unit_view x)
+    by [] h = ap (λ (l : List Code). merged (map unit_view l)) h
+    by (first ∷ rest) h = absurd (omega (arith, one, ap length h, length-append rest (x ∷ [])))
 
 -- the same, each alone
 pub kept_next : (spellings : List (List ℕ)) (seen : List Kept) (one : Kept) →

@@ -1,5 +1,5 @@
 -- External declarations without bodies and initializers that are spelled alike declare the same names.
-use Rattle.std.proofs.Common.{◌≡◌, ℕ, zero, suc, ◌<◌, ◌≤◌, Bool, true, false, if◌then◌else◌, length, map, All, List, [], ◌∷◌, ◌++◌, Option, Some, None, IsSome, refl, ap, ap₂, sym, subst, ◌∙◌, arith}
+use Rattle.std.proofs.Common.{◌≡◌, ℕ, zero, suc, Bool, true, false, if◌then◌else◌, length, map, All, List, [], ◌∷◌, Option, Some, None, IsSome, refl, ap, sym, subst, ◌∙◌}
 use Rattle.std.specs.Prelude.{⊤}
 use Rattle.std.proofs.lemmas.Bool.{and_parts}
 use Rattle.std.proofs.lemmas.List.{append-nil}
@@ -20,21 +20,21 @@ use Rattle.c_tree.specs.Places.{Place}
 use Rattle.c_tree.specs.Places as p
 use Rattle.c_tree.specs.Tree.{Tree, Trees, Leaf, At, Node, none, ◌▹◌, count}
 use Rattle.c_tree.specs.Grammar.{rows, behind_commas, commas, shape, form_home}
-use Rattle.c_tree.specs.Spelling.{Piece, filled, spell, spell_all, words}
+use Rattle.c_tree.specs.Spelling.{Piece, spell, spell_all, words}
 use Rattle.c_tree.specs.Canonical.{words_text, tree_text}
 use Rattle.c_tree.specs.Scopes.{Scope, name_of, name_among, first_name, leads_to_name, has_typedef, places, after}
 use Rattle.c_tree.specs.Allowed.{Takes, Allowed, AllAllowed, obeys, tally, are_specs, is_one_type, IsExternal, AreExternals}
 use Rattle.c_tree.specs.Reread.{IsFormed, unit_words, word_spellings}
 use Rattle.c_tree.specs.View.{declarator_tree, spec_tree}
-use Rattle.c_tree.specs.StatementView.{trees, maybe, init_view, entry_view, decl_view, specs_view}
+use Rattle.c_tree.specs.StatementView.{trees, init_view, entry_view, decl_view, specs_view}
 use Rattle.c_units.specs.declared.mention.Role.{Role}
 use Rattle.c_units.specs.Names.{Names, name_by, mention, behind, renamed}
-use Rattle.c_units.specs.Externals.{with_name, before_declarator, behind_declarator, binding_as, named_as, renamed_declarator, role_of, behind_entries, renamed_entries, behind_external, renamed_external, Said, each_said}
+use Rattle.c_units.specs.Externals.{before_declarator, behind_declarator, binding_as, named_as, renamed_declarator, role_of, renamed_entries, behind_external, renamed_external, Said, each_said}
 use Rattle.c_units.specs.Merge.{is_plain, spelling}
 use Rattle.c_units.specs.FileBindings.{declared_by}
-use Rattle.c_units.proofs.Copied.{mention_suffix, behind_suffix}
+use Rattle.c_units.proofs.KeptSuffix.{mention_suffix, behind_suffix}
 use Rattle.c_units.proofs.DeclaredNames.{declarator_suffix, external_suffix}
-use Rattle.c_units.proofs.WordTexts.{Begins, AllBegin, words_back}
+use Rattle.c_units.proofs.WordTexts.{AllBegin, words_back}
 use Rattle.c_units.proofs.WordSorts.{Sort, sort, sorts, tree_sorts, Before, run, names_in, IsSound, AreSound, sound_begins}
 use Rattle.c_units.proofs.SoundTrees.{IsText, AreText, AllFormed, EachFormed, items_formed, allowed_text, IsSuffix, name_begins, renamed_sound, with_name_sound}
 use Rattle.c_units.proofs.DeclaredSorts.{HaveNames, HasName, declaration_read}

@@ -9,7 +9,6 @@ use Rattle.c_tree.specs.Tree.{Tree, Trees, Node, none, ◌▹◌}
 use Rattle.c_tree.specs.StatementView.{trees, maybe, init_view, entry_view, decl_view}
 use Rattle.c_tree.specs.View.{declarator_tree}
 use Rattle.c_units.specs.declared.said.Said.{Said as Kept}
-use Rattle.c_units.specs.declared.mention.Role.{Role}
 use Rattle.c_units.specs.Names.{Names, behind, renamed}
 use Rattle.c_units.specs.Mentions.{Mention}
 use Rattle.c_units.specs.Externals.{Said, role_of, behind_declarator, renamed_declarator, behind_entries, renamed_entries, behind_external, renamed_external, each_said}
@@ -172,19 +171,6 @@ pub said_end : (xs : List Decl) (i : ℕ) (done : List Kept) (s : Names) → len
 unfolding each_said
 said_end xs i done s h =
     ap (λ (l : List Decl). map said_view done ++ each_said (trees decl_view l) s) (drop_end xs i h) ∙ append-nil (map said_view done)
-
--- copies
-pub copy_next : (xs : List Decl) (i : ℕ) (x r : Decl) (done : List Decl) → i < length xs → x ≡ get_or xs i x → decl_view r ≡ decl_view x →
-    joined (trees decl_view (done ++ r ∷ [])) (trees decl_view (drop (i + 1) xs)) ≡ joined (trees decl_view done) (trees decl_view (drop i xs))
-copy_next xs i x r done h is same =
-    joined_more decl_view done r (trees decl_view (drop (i + 1) xs))
-    ∙ ap (λ (t : Tree). joined (trees decl_view done) (t ▹ trees decl_view (drop (i + 1) xs))) same
-    ∙ sym (ap (λ (l : List Decl). joined (trees decl_view done) (trees decl_view l)) (drop_next xs i x h is))
-
-pub copy_end : (xs : List Decl) (i : ℕ) (done : List Decl) → length xs ≤ i →
-    joined (trees decl_view done) (trees decl_view (drop i xs)) ≡ trees decl_view done
-copy_end xs i done h =
-    ap (λ (l : List Decl). joined (trees decl_view done) (trees decl_view l)) (drop_end xs i h) ∙ joined_none (trees decl_view done)
 
 -- a declaration that is alone in a list leaves it
 pub alone_leaves : (list rest : List Decl) (one : Decl) (popped : Option Decl) → list ≡ [] ++ one ∷ [] → list ≡ rest ++ option_to_list popped →

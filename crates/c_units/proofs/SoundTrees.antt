@@ -1,5 +1,5 @@
 -- The trees of a text have as many parts as their forms have places, and words that can be told apart; so have they in the program.
-use Rattle.std.proofs.Common.{◌≡◌, ℕ, zero, suc, ◌+◌, ◌<◌, ◌≤◌, Bool, true, false, not, ◌||◌, ◌&&◌, if◌then◌else◌, length, map, List, [], ◌∷◌, ◌++◌, Option, Some, None, ◌⊎◌, inl, inr, decimal, refl, ap, ap₂, sym, subst, ◌∙◌, arith}
+use Rattle.std.proofs.Common.{◌≡◌, ℕ, suc, ◌+◌, ◌<◌, ◌≤◌, Bool, true, false, not, ◌||◌, ◌&&◌, if◌then◌else◌, length, map, List, [], ◌∷◌, ◌++◌, Option, Some, None, ◌⊎◌, inl, inr, decimal, refl, ap, ap₂, sym, subst, ◌∙◌, arith}
 use Rattle.std.specs.Prelude.{⊤}
 use Rattle.std.specs.List.{list_all}
 use Rattle.std.specs.Int.Digits.{digits_of}
@@ -17,8 +17,8 @@ use Rattle.c_tree.specs.Places.{Place}
 use Rattle.c_tree.specs.Places as p
 use Rattle.c_tree.specs.Tree.{Tree, Trees, Leaf, At, Node, none, ◌▹◌, count}
 use Rattle.c_tree.specs.Grammar.{Item, Says, Here, Part, shape}
-use Rattle.c_tree.specs.Spelling.{Piece, filled, spell, spell_all, words}
-use Rattle.c_tree.specs.Scopes.{Scope, leads_to_name, is_scope, places, after}
+use Rattle.c_tree.specs.Spelling.{filled, spell, spell_all, words}
+use Rattle.c_tree.specs.Scopes.{Scope, leads_to_name, is_scope, places}
 use Rattle.c_tree.specs.Allowed.{Takes, Allowed, AllAllowed}
 use Rattle.c_tree.specs.Reread.{IsFormed}
 use Rattle.c_units.specs.declared.names.Binding.{Binding}
@@ -26,7 +26,7 @@ use Rattle.c_units.specs.declared.names.Binding.TheVariants as b
 use Rattle.c_units.specs.Names.{Names, name_by, binding_of, behind, renamed, all_renamed, named, made, entered, left_part}
 use Rattle.c_units.specs.Externals.{word_as, with_name, all_with_name, suffix_of}
 use Rattle.c_units.proofs.BoundTrees.{IsName, IsOther, name_places, stays_other, count_same}
-use Rattle.c_units.proofs.Copied.{entered_suffix, part_suffix, behind_suffix}
+use Rattle.c_units.proofs.KeptSuffix.{entered_suffix, part_suffix, behind_suffix}
 use Rattle.c_units.proofs.WordTexts.{clean, Begins}
 use Rattle.c_units.proofs.WordSorts.{words_append, level, is_some, even, word_begins, place_some, one_fewer, IsLeaf, IsSound, AreSound, key_begins}
 

@@ -1,5 +1,5 @@
 -- The words of specs in the walk over the sorts of words: behind them a type was read.
-use Rattle.std.proofs.Common.{◌≡◌, ℕ, zero, suc, ◌+◌, ◌≤◌, Bool, true, false, ◌||◌, ◌&&◌, if◌then◌else◌, length, List, [], ◌∷◌, ◌++◌, Option, Some, None, ◌⊎◌, inl, inr, refl, ap, sym, subst, ◌∙◌, arith}
+use Rattle.std.proofs.Common.{◌≡◌, ℕ, suc, ◌+◌, ◌≤◌, Bool, true, false, ◌||◌, ◌&&◌, if◌then◌else◌, List, [], ◌∷◌, ◌++◌, Option, Some, None, ◌⊎◌, inl, inr, refl, ap, sym, subst, ◌∙◌, arith}
 use Rattle.std.specs.Prelude.{⊤, ◌==◌, nat_le}
 use Rattle.std.proofs.lemmas.Bool.{and_parts, eqb-true, leb-true}
 use Rattle.c_tree.specs.declared.operator.RecordSort.{RecordSort}
@@ -21,8 +21,8 @@ use Rattle.c_tree.specs.Scopes.{has_typedef, is_scope, places}
 use Rattle.c_tree.specs.Allowed.{Tally, tally, with_keyword, is_one_type, is_integer_type}
 use Rattle.c_tree.specs.View.{spec_tree, tag_tree, member_trees, enumerator_trees, maybe_name}
 use Rattle.c_tree.specs.StatementView.{trees}
-use Rattle.c_units.specs.Names.{Names, behind, renamed, all_renamed, made, entered, left_part}
-use Rattle.c_units.proofs.WordSorts.{Sort, Open, Brace, Close, Comma, Plain, tree_sorts, State, Before, Within, Gone, run, run_append, run_gone, item_sorts, node_sorts, IsSound, AreSound, sound_neutral}
+use Rattle.c_units.specs.Names.{Names, behind, renamed, all_renamed, made, entered}
+use Rattle.c_units.proofs.WordSorts.{Sort, Close, Comma, tree_sorts, State, Before, Within, Gone, run, run_append, run_gone, item_sorts, node_sorts, IsSound, AreSound, sound_neutral}
 
 -- the sorts of some trees in turn
 abbrev pub each_sorts : Trees → List Sort

@@ -1,14 +1,12 @@
 -- What a unit declares `static`, declaration by declaration.
-use Rattle.std.proofs.Common.{◌≡◌, ◌<◌, ◌≤◌, ◌+◌, ℕ, Bool, true, if◌then◌else◌, List, [], ◌∷◌, ◌++◌, drop, length, get_or, Option, Some, None, refl, ap, sym, ◌∙◌}
+use Rattle.std.proofs.Common.{◌≡◌, ◌<◌, ◌≤◌, ◌+◌, ℕ, Bool, true, if◌then◌else◌, List, [], ◌∷◌, ◌++◌, drop, length, get_or, Option, Some, None, refl, ap, ◌∙◌}
 use Rattle.c_tree.specs.declared.tree.Declarator.{Declarator}
 use Rattle.c_tree.specs.declared.statement.Init.{Init}
 use Rattle.c_tree.specs.declared.statement.Decl.{Decl}
 use Rattle.c_tree.specs.declared.statement.Decl.TheVariants as d
 use Rattle.c_tree.specs.declared.tree.Specs.{Specs}
-use Rattle.c_tree.specs.Forms as f
-use Rattle.c_tree.specs.Tree.{Tree, Node, none, ◌▹◌}
 use Rattle.c_tree.specs.Scopes.{first_name, name_of, name_among, leads_to_name}
-use Rattle.c_tree.specs.StatementView.{trees, maybe, init_view, entry_view, decl_view}
+use Rattle.c_tree.specs.StatementView.{trees, entry_view, decl_view}
 use Rattle.c_tree.specs.View.{declarator_tree, spec_tree}
 use Rattle.c_units.specs.Mentions.{noted, all_noted}
 use Rattle.c_units.specs.Externals.{has_static, but_main, entry_names, static_names, own_names}

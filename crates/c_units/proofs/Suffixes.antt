@@ -1,7 +1,6 @@
 -- What is known at a place of a unit: its suffix is short and begins with a dot, and `main` gets none.
-use Rattle.std.proofs.Common.{◌≡◌, ◌≤◌, ◌<◌, ◌+◌, ◌^◌, ◌||◌, ℕ, Bool, true, false, if◌then◌else◌, bytes_eq, codes, decimal, length, List, [], ◌∷◌, ◌++◌, Option, Some, None, refl, ap, ap₂, sym, subst, ◌∙◌, arith}
+use Rattle.std.proofs.Common.{◌≡◌, ◌≤◌, ◌||◌, ℕ, Bool, true, false, if◌then◌else◌, bytes_eq, codes, length, List, [], ◌∷◌, ◌++◌, Option, Some, None, refl, sym, subst, ◌∙◌, arith}
 use Rattle.std.specs.Prelude.{⊤}
-use Rattle.std.specs.List.{list_any}
 use Rattle.std.proofs.lemmas.Slice.Eq.{bytes_eq-Decides}
 use Rattle.std.proofs.lemmas.List.Folds.{list_any-append}
 use Rattle.std.proofs.lemmas.Fmt.{length-decimal-le}
@@ -24,7 +23,7 @@ use Rattle.c_units.specs.declared.names.Binding.TheVariants.{Inner, Own, Shared}
 use Rattle.c_units.specs.declared.mention.Role.{Role}
 use Rattle.c_units.specs.declared.mention.Role.TheVariants.{Typedef, Defined, Declared, Used, Tagged}
 use Rattle.c_units.specs.Mentions.{is_among, noted, all_noted}
-use Rattle.c_units.specs.Names.{Known, Names, binding_of, binding_at, mention, mention_any, used, declare, tag_name, line_in, behind, all_behind, entered, left, left_part, left_scope}
+use Rattle.c_units.specs.Names.{Names, binding_of, binding_at, mention, mention_any, used, declare, tag_name, line_in, behind, all_behind, entered, left, left_part, left_scope}
 use Rattle.c_units.specs.Externals.{has_static, but_main, entry_names, static_names, own_names, before_declarator, declared_as, behind_declarator, binding_as, role_of, behind_entries, inside_params, behind_external, suffix_of, unit_names}
 
 abbrev pub main : List ℕ

@@ -1,5 +1,5 @@
 -- Mentions that are gone through in turn.
-use Rattle.std.proofs.Common.{◌≡◌, ◌<◌, ◌≤◌, ◌+◌, ℕ, Bool, true, false, if◌then◌else◌, List, [], ◌∷◌, ◌++◌, drop, length, get_or, Option, Some, None, refl, ap, sym, ◌∙◌}
+use Rattle.std.proofs.Common.{◌≡◌, ◌<◌, ◌≤◌, ◌+◌, ℕ, Bool, true, false, if◌then◌else◌, List, drop, length, get_or, Some, None, refl, ap, sym, ◌∙◌}
 use Rattle.c_units.specs.Mentions.{Mention, Taken, is_taken, first_taken, with_role, with_mentions}
 use Rattle.c_units.proofs.Steps.{drop_next, drop_end, next_is, end_is}
 

@@ -1,5 +1,5 @@
 -- External declarations that are spelled alike have words of the same kinds and spellings, where names may have a suffix.
-use Rattle.std.proofs.Common.{◌≡◌, ℕ, zero, suc, ◌+◌, ◌-◌, ◌<◌, ◌≤◌, Bool, true, false, not, cond, ◌&&◌, List, [], ◌∷◌, ◌++◌, length, take, map, Option, Some, None, ◌⊎◌, inl, inr, refl, ap, ap₂, subst, sym, ◌∙◌, arith}
+use Rattle.std.proofs.Common.{◌≡◌, ℕ, zero, suc, ◌+◌, ◌-◌, ◌<◌, ◌≤◌, Bool, true, false, not, cond, ◌&&◌, List, [], ◌∷◌, ◌++◌, length, take, Option, Some, None, refl, ap, ap₂, subst, sym, ◌∙◌, arith}
 use Rattle.std.specs.Prelude.{⊤, ◌==◌}
 use Rattle.std.specs.List.{list_all}
 use Rattle.std.proofs.lemmas.Bool.{cond-false, and_right, and_parts}
@@ -12,7 +12,7 @@ use Rattle.c_lexer.specs.Signs.{is_sign}
 use Rattle.c_lexer.specs.Gaps.{is_on_line, comment_end}
 use Rattle.c_lexer.specs.Pieces.{is_empty, literal_end, ends_at, literal_kind, number_kind, number_kind_by, quote_kind, block_kind, slash_kind, kind_by, kind_of, Longest, IsToken}
 use Rattle.c_lexer.specs.Readers.{piece}
-use Rattle.c_lexer.specs.Written.{is_separator, written_text}
+use Rattle.c_lexer.specs.Written.{is_separator}
 use Rattle.c_lexer.specs.declared.bytes.ByteClass.{ByteClass}
 use Rattle.c_lexer.specs.declared.bytes.ByteClass.TheVariants.{Space, Letter, Digit, Quote, Hash, Slash, Mark, Other}
 use Rattle.c_lexer.specs.declared.number.Suffix.{Suffix}
@@ -28,7 +28,7 @@ use Rattle.c_tree.specs.declared.word.Sign.{Sign}
 use Rattle.c_tree.specs.declared.word.Sign.TheVariants as s
 use Rattle.c_tree.specs.Words.{Word, word_kind, word_bytes}
 use Rattle.c_tree.specs.Words as w
-use Rattle.c_tree.specs.Canonical.{separator, written, words_text}
+use Rattle.c_tree.specs.Canonical.{separator, words_text}
 use Rattle.c_tree.specs.Reread.{word_spellings}
 
 -- no space and no end of line

@@ -1,6 +1,5 @@
 -- What the names in the expressions of a unit are bound to: the latest declaration that holds where they stand (C99 6.2.1).
-use Rattle.std.specs.Prelude.{◌≡◌, ⊤, ℕ, suc, Bool, true, false, if◌then◌else◌, bytes_eq, nat_eq, map, List, [], ◌∷◌, ◌++◌, Option, Some, None}
-use Rattle.std.specs.List.{list_any}
+use Rattle.std.specs.Prelude.{ℕ, suc, Bool, true, false, if◌then◌else◌, bytes_eq, List, [], ◌∷◌, ◌++◌, Option, Some, None}
 use Rattle.c_tree.specs.Words as w
 use Rattle.c_tree.specs.Forms.{Form}
 use Rattle.c_tree.specs.Forms as f
@@ -8,7 +7,7 @@ use Rattle.c_tree.specs.Places.{Place}
 use Rattle.c_tree.specs.Places as p
 use Rattle.c_tree.specs.Tree.{Tree, Trees, Leaf, At, Node, none, ◌▹◌, count}
 use Rattle.c_tree.specs.Grammar.{shape}
-use Rattle.c_tree.specs.Scopes.{word_name, name_of, name_among, params_of, has_typedef, is_scope, places}
+use Rattle.c_tree.specs.Scopes.{name_of, name_among, params_of, has_typedef, is_scope, places}
 
 -- a declaration: in an inner scope, by its number among those of its external declaration; of an object or a function by an
 -- external declaration; of a typedef name or an enumerator at file scope

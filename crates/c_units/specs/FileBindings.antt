@@ -1,5 +1,5 @@
 -- In the merge of several units a name that is bound at file scope is bound to what it is bound to in its unit (C99 6.2.1, 6.2.2).
-use Rattle.std.specs.Prelude.{◌≡◌, ◌≤◌, ⊤, ◌⊎◌, ℕ, ◌+◌, Bool, false, if◌then◌else◌, length, map, All, List, [], ◌∷◌, ◌++◌, Option, Some, None, IfSome, IsSome, Ok}
+use Rattle.std.specs.Prelude.{◌≡◌, ◌≤◌, ⊤, ◌⊎◌, ℕ, ◌+◌, false, if◌then◌else◌, length, map, All, List, [], ◌∷◌, ◌++◌, Option, Some, None, IfSome, IsSome, Ok}
 use Rattle.c_tree.specs.Forms as f
 use Rattle.c_tree.specs.Tree.{Tree, Trees, Node, none, ◌▹◌}
 use Rattle.c_tree.specs.Scopes.{name_of, has_typedef, first_scope}

@@ -1,5 +1,5 @@
 -- In the program each name of a unit is bound to what it is bound to in the unit.
-use Rattle.std.specs.Prelude.{◌≡◌, ⊤, ℕ, Bool, false, if◌then◌else◌, nat_eq, codes, map, List, [], ◌++◌, Option, Some, None}
+use Rattle.std.specs.Prelude.{◌≡◌, ⊤, ℕ, Bool, false, if◌then◌else◌, nat_eq, map, List, [], ◌++◌, Option, Some, None}
 use Rattle.std.specs.List.{list_any}
 use Rattle.c_tree.specs.Tree.{Tree, Trees, Leaf, At, Node, none, ◌▹◌}
 use Rattle.c_tree.specs.Scopes.{word_name}

@@ -2,7 +2,7 @@
 use Rattle.std.specs.Prelude.{◌≡◌, ⊤, ℕ, ◌+◌, Bool, true, false, not, ◌&&◌, if◌then◌else◌, List, [], ◌∷◌, ◌++◌, Option, Some, None, Result, Ok, Err}
 use Rattle.std.specs.List.{filter}
 use Rattle.c_tree.specs.Forms as f
-use Rattle.c_tree.specs.Tree.{Tree, Trees, Leaf, At, Node, none, ◌▹◌}
+use Rattle.c_tree.specs.Tree.{Tree, Trees, Node, none, ◌▹◌}
 use Rattle.c_tree.specs.Canonical.{canonical}
 use Rattle.c_tree.specs.StatementView.{unit_view}
 use Rattle.c_tree.specs.declared.statement.Unit.{Unit as Code}

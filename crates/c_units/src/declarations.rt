@@ -88,10 +88,7 @@ impl<'a> Walk<'a> {
     {
         match kind {
             SuffixKind::Array(_) | SuffixKind::Void => Ok(()),
-            SuffixKind::Params(list) => {
-                self.params(list)?;
-                Ok(())
-            }
+            SuffixKind::Params(list) => self.past_params(list),
         }
     }
 

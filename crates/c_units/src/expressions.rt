@@ -67,10 +67,7 @@ impl<'a> Walk<'a> {
             ExprKind::Int(bytes) => Ok(Expr::int(line, self.copy(bytes.as_slice())?)),
             ExprKind::Char(bytes) => Ok(Expr::char(line, self.copy(bytes.as_slice())?)),
             ExprKind::Str(parts) => Ok(Expr::str(line, self.strings(parts.as_slice())?)),
-            ExprKind::Paren(inner) => {
-                let inner = self.expr(inner)?;
-                Expr::paren(self.alloc, line, inner)
-            }
+            ExprKind::Paren(inner) => Expr::paren(self.alloc, line, self.expr(inner)?),
             ExprKind::Index(array, index) => {
                 let array = self.expr(array)?;
                 let index = self.expr(index)?;
@@ -89,30 +86,16 @@ impl<'a> Walk<'a> {
                 let (pointer, name) = self.member_of(pointer, name.as_slice())?;
                 Expr::arrow(self.alloc, line, pointer, name)
             }
-            ExprKind::PostInc(operand) => {
-                let operand = self.expr(operand)?;
-                Expr::post_inc(self.alloc, line, operand)
-            }
-            ExprKind::PostDec(operand) => {
-                let operand = self.expr(operand)?;
-                Expr::post_dec(self.alloc, line, operand)
-            }
-            ExprKind::PreInc(operand) => {
-                let operand = self.expr(operand)?;
-                Expr::pre_inc(self.alloc, line, operand)
-            }
-            ExprKind::PreDec(operand) => {
-                let operand = self.expr(operand)?;
-                Expr::pre_dec(self.alloc, line, operand)
-            }
-            ExprKind::Unary(op, operand) => {
-                let operand = self.expr(operand)?;
-                Expr::unary(self.alloc, line, *op, operand)
-            }
-            ExprKind::SizeofExpr(operand) => {
-                let operand = self.expr(operand)?;
-                Expr::sizeof_expr(self.alloc, line, operand)
-            }
+            ExprKind::PostInc(operand) => Expr::post_inc(self.alloc, line, self.expr(operand)?),
+            ExprKind::PostDec(operand) => Expr::post_dec(self.alloc, line, self.expr(operand)?),
+            ExprKind::PreInc(operand) => Expr::pre_inc(self.alloc, line, self.expr(operand)?),
+            ExprKind::PreDec(operand) => Expr::pre_dec(self.alloc, line, self.expr(operand)?),
+            ExprKind::Unary(op, operand) => Expr::unary(self.alloc, line, *op, self.expr(operand)?),
+            ExprKind::SizeofExpr(operand) => Expr::sizeof_expr(
+                self.alloc,
+                line,
+                self.expr(operand)?,
+            ),
             ExprKind::SizeofType(typename) => {
                 let typename = self.typename(typename)?;
                 Expr::sizeof_type(self.alloc, line, typename)
@@ -253,7 +236,7 @@ impl<'a> Walk<'a> {
     }
 
     /// A tag with braces is mentioned at file scope, where it has a name.
-    fn tagged(&mut self, name: &'a Option<Items<u8>>, line: Line) -> Result<(), NoMemory>
+    pub(crate) fn tagged(&mut self, name: &'a Option<Items<u8>>, line: Line) -> Result<(), NoMemory>
         ensures { IfOk result (λ _.
             self.new ≡ mention_any name.now (binding_at self.old) Tagged line self.old) }
     {

@@ -17,7 +17,7 @@ use c_tree::{Decl, Declarator, Init, Stmt};
 use hs_base::{Items, Line, NoMemory};
 
 /// What a declaration without a body says of a name.
-fn role_of(typedef: bool, init: &Option<Init>) -> Role
+pub(crate) fn role_of(typedef: bool, init: &Option<Init>) -> Role
     ensures { result ≡ role_of typedef (inits_of init.now) }
 {
     if typedef {
@@ -96,7 +96,7 @@ impl<'a> Walk<'a> {
     }
 
     /// The parameters are declared where the body begins, and mention nothing a second time.
-    fn inside_params(&mut self, declarator: &'a Declarator) -> Result<(), NoMemory>
+    pub(crate) fn inside_params(&mut self, declarator: &'a Declarator) -> Result<(), NoMemory>
         ensures { IfOk result (λ _.
             self.new ≡ inside_params (params_of (declarator_tree declarator.now)) self.old) }
     {
@@ -153,34 +153,6 @@ impl<'a> Walk<'a> {
                 let typedef = has_typedef(&specs.words);
                 let specs = self.specs(specs)?;
                 let names = self.file_entries(*line, typedef, names.as_slice())?;
-                Ok(Decl::names(*line, specs, names))
-            }
-        }
-    }
-
-    /// An external declaration as it is, where no name gets a suffix.
-    #[tactic(auto, using(crate::proofs::Copied::renamed_same, crate::proofs::Copied::each_same, crate::proofs::Copied::behind_suffix, crate::proofs::Copied::turns_suffix))]
-    pub(crate) fn copied(&mut self, decl: &'a Decl) -> Result<Decl, NoMemory>
-        requires { self.old.suffix ≡ [] }
-        ensures tree { IfOk result (λ r. decl_view r ≡ decl_view decl.now) }
-        ensures suffix { IfOk result (λ _. self.new.suffix ≡ []) }
-    {
-        match decl {
-            Decl::Function {
-                line,
-                specs,
-                declarator,
-                body,
-                end,
-            } => {
-                let specs = self.specs(specs)?;
-                let declarator = self.declarator(declarator)?;
-                let body = self.body(body.as_slice())?;
-                Ok(Decl::function(*line, specs, declarator, body, *end))
-            }
-            Decl::Names { line, specs, names } => {
-                let specs = self.specs(specs)?;
-                let names = self.entries(names.as_slice())?;
                 Ok(Decl::names(*line, specs, names))
             }
         }

@@ -1,6 +1,6 @@
 //! What units say of the names that they share.
 
-use hs_base::Line;
+use hs_base::{Items, Line};
 use std::marker::Model;
 
 /// What a name is at the file scope of a unit.
@@ -20,16 +20,16 @@ pub(crate) enum Role {
 
 /// A name in its role, at a line.
 #[derive(Drop)]
-pub(crate) struct Mention<'a> {
+pub(crate) struct Mention {
     pub(crate) role: Role,
-    pub(crate) name: &'a [u8],
+    pub(crate) name: Items<u8>,
     pub(crate) line: Line,
 }
 
-impl<'a> Model for Mention<'a> {
+impl Model for Mention {
     ghost use Rattle.c_units.specs.Mentions.{Mention as PlainMention};
 
     ghost Value = { PlainMention };
 
-    ghost view = { λ m. record { role = m.role; name = m.name.now; line = m.line } };
+    ghost view = { λ m. record { role = m.role; name = m.name; line = m.line } };
 }

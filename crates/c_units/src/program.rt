@@ -12,7 +12,7 @@ ghost use Rattle.c_units.specs.Turns.{joined};
 use crate::error::MergeError;
 use crate::mention::Mention;
 use crate::name_set::NameSet;
-use crate::said::{Said, copied, is_plain, spelled, unit_said};
+use crate::said::{Said, is_plain, spelled, unit_said};
 use crate::taken::Taken;
 use c_tree::{Decl, Unit};
 use hs_base::{Items, NoMemory};
@@ -31,10 +31,10 @@ struct Program {
 }
 
 /// The conflict at a mention.
-fn conflict(alloc: Global, mention: &Mention<'_>) -> MergeError
+fn conflict(alloc: Global, mention: &Mention) -> MergeError
     ensures { IsConflict mention.now result }
 {
-    match Vec::from_slice(alloc, mention.name) {
+    match Vec::from_slice(alloc, mention.name.as_slice()) {
         Ok(name) => MergeError::Conflict {
             name: Items::from(name),
             line: mention.line,
@@ -45,8 +45,8 @@ fn conflict(alloc: Global, mention: &Mention<'_>) -> MergeError
 
 /// What is left of a unit, and how those of its external declarations are spelled that may be left out elsewhere.
 #[derive(Drop)]
-struct Left<'a> {
-    said: Vec<Said<'a>>,
+struct Left {
+    said: Vec<Said>,
     spellings: Vec<Items<u8>>,
 }
 
@@ -65,12 +65,12 @@ impl Program {
 
     /// What is left of a unit: a declaration that an earlier one has in the same words is left out.
     #[tactic(auto, using(crate::proofs::ProgramTurns::kept_next, crate::proofs::ProgramTurns::spellings_next))]
-    fn left<'a>(&self, all: Vec<Said<'a>>) -> Result<Left<'a>, NoMemory>
+    fn left(&self, all: Vec<Said>) -> Result<Left, NoMemory>
         ensures said { IfOk result (λ left.
             map said_view left.said.items ≡
-            kept self.now.spellings (map said_view all.entry.items)) }
+            kept self.now.spellings (map said_view all.items)) }
         ensures spellings { IfOk result (λ left.
-            left.spellings.items ≡ spellings_of (map said_view all.entry.items)) }
+            left.spellings.items ≡ spellings_of (map said_view all.items)) }
     {
         let mut left = Left {
             said: Vec::new(self.alloc),
@@ -84,12 +84,12 @@ impl Program {
 
     /// The same of one external declaration.
     #[tactic(auto, using(crate::proofs::ProgramTurns::whole_kept, crate::proofs::ProgramTurns::new_kept, crate::proofs::ProgramTurns::again_kept, crate::proofs::ProgramTurns::whole_spelled, crate::proofs::ProgramTurns::plain_spelled))]
-    fn sort<'a>(&self, left: &mut Left<'a>, one: Said<'a>) -> Result<(), NoMemory>
+    fn sort(&self, left: &mut Left, one: Said) -> Result<(), NoMemory>
         ensures said { IfOk result (λ _.
             map said_view left.new.said.items ≡
-            map said_view left.old.said.items ++ kept self.now.spellings (said_view one.entry ∷ [])) }
+            map said_view left.old.said.items ++ kept self.now.spellings (said_view one ∷ [])) }
         ensures spellings { IfOk result (λ _.
-            left.new.spellings.items ≡ left.old.spellings.items ++ spellings_of (said_view one.entry ∷ [])) }
+            left.new.spellings.items ≡ left.old.spellings.items ++ spellings_of (said_view one ∷ [])) }
     {
         if !is_plain(&one.decl) {
             left.said.push(one)?;
@@ -106,7 +106,7 @@ impl Program {
 
     /// The first mention of what is left of a unit that is taken.
     #[tactic(auto, using(crate::proofs::ProgramTurns::free_next, crate::proofs::ProgramTurns::taken_here, crate::proofs::ProgramTurns::free_end))]
-    fn first_taken<'b, 'a>(&self, said: &'b [Said<'a>]) -> Option<&'b Mention<'a>>
+    fn first_taken<'a>(&self, said: &'a [Said]) -> Option<&'a Mention>
         ensures { option_copied result ≡
             first_taken self.now.taken (mentions_of (map said_view said.now)) }
     {
@@ -120,11 +120,11 @@ impl Program {
 
     /// Takes in what is left of a unit, and answers what it says of the names that units share.
     #[tactic(auto, using(crate::proofs::ProgramTurns::mentions_next, crate::proofs::ProgramTurns::trees_next, crate::proofs::ProgramTurns::trees_start))]
-    fn take_in<'a>(&mut self, said: Vec<Said<'a>>) -> Result<Vec<Mention<'a>>, NoMemory>
+    fn take_in(&mut self, said: Vec<Said>) -> Result<Vec<Mention>, NoMemory>
         ensures mentions { IfOk result (λ mentions.
-            mentions.items ≡ mentions_of (map said_view said.entry.items)) }
+            mentions.items ≡ mentions_of (map said_view said.items)) }
         ensures program { IfOk result (λ _.
-            let more = trees_of (map said_view said.entry.items) in
+            let more = trees_of (map said_view said.items) in
             program_view self.new ≡ record (program_view self.old) {
               trees = joined (program_view self.old).trees more;
             }) }
@@ -143,8 +143,8 @@ impl Program {
 
     /// Adds a unit with its number.
     #[tactic(auto, using(crate::proofs::ProgramTurns::added, crate::proofs::ProgramTurns::refused))]
-    fn add(&mut self, number: usize, unit: &Unit) -> Result<(), MergeError>
-        ensures { let wanted = with_unit number (unit_view unit.now) (program_view self.old) in
+    fn add(&mut self, number: usize, unit: Unit) -> Result<(), MergeError>
+        ensures { let wanted = with_unit number (unit_view unit) (program_view self.old) in
             Adds wanted (program_view self.new) result }
     {
         let all = unit_said(self.alloc, number, unit)?;
@@ -160,14 +160,16 @@ impl Program {
 }
 
 /// The merge of several units, or of none.
-#[tactic(auto, using(crate::proofs::ProgramTurns::unit_next, crate::proofs::ProgramTurns::unit_end, crate::proofs::ProgramTurns::several_merged, crate::proofs::ProgramTurns::merge_refused))]
-fn several(alloc: Global, units: &[Unit]) -> Result<Unit, MergeError>
-    requires { length units.now ≢ 1 }
-    ensures { Merges (map unit_view units.now) result }
+#[tactic(auto, using(crate::proofs::ProgramTurns::unit_next, crate::proofs::ProgramTurns::unit_counts, crate::proofs::ProgramTurns::unit_end, crate::proofs::ProgramTurns::several_merged, crate::proofs::ProgramTurns::merge_refused))]
+fn several(alloc: Global, mut units: Vec<Unit>) -> Result<Unit, MergeError>
+    requires several { length units.items ≢ 1 }
+    requires few { length units.items ≤ 64 }
+    ensures { Merges (map unit_view units.items) result }
 {
     let mut program = Program::new(alloc);
     let mut number = 0;
-    for unit in units {
+    units.reverse();
+    'units: while let Some(unit) = units.pop() {
         number += 1;
         program.add(number, unit)?;
     }
@@ -176,14 +178,17 @@ fn several(alloc: Global, units: &[Unit]) -> Result<Unit, MergeError>
 }
 
 /// The merge of units, however many there are: one is its own.
-#[tactic(auto, using(crate::proofs::ProgramTurns::one_merged))]
-fn merge_all(alloc: Global, units: &[Unit]) -> Result<Unit, MergeError>
-    ensures { Merges (map unit_view units.now) result }
+#[tactic(auto, using(crate::proofs::ProgramTurns::one_popped))]
+fn merge_all(alloc: Global, mut units: Vec<Unit>) -> Result<Unit, MergeError>
+    requires { length units.items ≤ 64 }
+    ensures { Merges (map unit_view units.items) result }
 {
-    if units.len() != 1 {
-        return several(alloc, units);
+    if units.len() == 1
+        && let Some(unit) = units.pop()
+    {
+        return Ok(unit);
     }
-    Ok(copied(alloc, &units[0])?)
+    several(alloc, units)
 }
 
 /// The merge of at most 64 units, the suffixes of which have at most three bytes.
@@ -192,12 +197,12 @@ fn merge_all(alloc: Global, units: &[Unit]) -> Result<Unit, MergeError>
 ///
 /// [`MergeError::Conflict`] exactly where two units say what may not be said of one name twice, with the first such name and
 /// the line of its later place; [`MergeError::NoMemory`] only for want of memory.
-pub fn merge(alloc: Global, units: &Items<Unit>) -> Result<Unit, MergeError>
-    requires some { 0 < length units.now }
-    requires few { length units.now ≤ 64 }
-    ensures merged { Merges (map unit_view units.now) result }
+pub fn merge(alloc: Global, units: Items<Unit>) -> Result<Unit, MergeError>
+    requires some { 0 < length units }
+    requires few { length units ≤ 64 }
+    ensures merged { Merges (map unit_view units) result }
     ensures renamed { IfOk result (λ unit.
-        RenamesSome (joined_all (map unit_view units.now)) (unit_view unit)) }
+        RenamesSome (joined_all (map unit_view units)) (unit_view unit)) }
 {
-    merge_all(alloc, units.as_slice())
+    merge_all(alloc, units.into_vec())
 }

@@ -12,7 +12,7 @@ use c_tree::{Declarator, Expr, ForStart, Init, InitKind, Stmt, StmtKind};
 use hs_base::{Items, Line, NoMemory};
 
 /// Whether a statement of that kind is a scope (C99 6.8.2 to 6.8.5).
-fn is_scope(kind: &StmtKind) -> bool
+pub(crate) fn is_scope(kind: &StmtKind) -> bool
     ensures { result ≡ is_scope_kind kind.now }
 {
     match kind {

@@ -57,11 +57,11 @@ impl Taken {
 
     /// The first of some mentions that is taken.
     #[tactic(auto, using(crate::proofs::TakenNames::taken_next, crate::proofs::TakenNames::taken_found, crate::proofs::TakenNames::taken_end))]
-    pub(crate) fn first<'b, 'a>(&self, mentions: &'b [Mention<'a>]) -> Option<&'b Mention<'a>>
+    pub(crate) fn first<'a>(&self, mentions: &'a [Mention]) -> Option<&'a Mention>
         ensures { option_copied result ≡ first_taken self.now mentions.now }
     {
         for mention in mentions {
-            if self.is_taken(mention.role, mention.name) {
+            if self.is_taken(mention.role, mention.name.as_slice()) {
                 return Some(mention);
             }
         }
@@ -82,15 +82,11 @@ impl Taken {
 
     /// A unit has some names.
     #[tactic(auto, using(crate::proofs::TakenNames::noted_next, crate::proofs::TakenNames::noted_end))]
-    pub(crate) fn note_all(
-        &mut self,
-        alloc: Global,
-        mentions: &[Mention<'_>],
-    ) -> Result<(), NoMemory>
+    pub(crate) fn note_all(&mut self, alloc: Global, mentions: &[Mention]) -> Result<(), NoMemory>
         ensures { IfOk result (λ _. self.new ≡ with_mentions mentions.now self.old) }
     {
         for mention in mentions {
-            self.note(alloc, mention.role, mention.name)?;
+            self.note(alloc, mention.role, mention.name.as_slice())?;
         }
         Ok(())
     }

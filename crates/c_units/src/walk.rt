@@ -27,7 +27,7 @@ pub(crate) struct Walk<'a> {
     /// Whether an inner scope is open.
     inside: bool,
     /// What was said so far of the names that all units share.
-    mentions: Vec<Mention<'a>>,
+    mentions: Vec<Mention>,
 }
 
 /// How many declarations hold outside of a scope, and whether that is an inner scope itself.
@@ -62,7 +62,7 @@ impl<'a> Walk<'a> {
     }
 
     /// What was said so far of the names that all units share, which is forgotten.
-    pub(crate) fn take_mentions(&mut self) -> Vec<Mention<'a>>
+    pub(crate) fn take_mentions(&mut self) -> Vec<Mention>
         ensures result { result.items ≡ self.old.mentions }
         ensures rest { self.new ≡ record self.old { mentions = [] } }
     {
@@ -70,8 +70,8 @@ impl<'a> Walk<'a> {
     }
 
     /// These were the mentions so far.
-    pub(crate) fn put_mentions(&mut self, mentions: Vec<Mention<'a>>)
-        ensures { self.new ≡ record self.old { mentions = mentions.entry.items } }
+    pub(crate) fn put_mentions(&mut self, mentions: Vec<Mention>)
+        ensures { self.new ≡ record self.old { mentions = mentions.items } }
     {
         self.mentions = mentions;
     }
@@ -87,10 +87,13 @@ impl<'a> Walk<'a> {
     pub(crate) fn name_by(&self, binding: Binding, name: &[u8]) -> Result<Items<u8>, NoMemory>
         ensures { IfOk result (λ new. new ≡ name_by binding self.now.suffix name.now) }
     {
-        let mut bytes = Vec::from_slice(self.alloc, name)?;
-        if let Binding::Own = binding {
-            bytes.extend_from_slice(self.suffix.as_slice())?;
-        }
+        let Binding::Own = binding else {
+            return self.copy(name);
+        };
+        let suffix = self.suffix.as_slice();
+        let mut bytes = Vec::with_capacity(self.alloc, name.len().saturating_add(suffix.len()))?;
+        bytes.extend_from_slice(name)?;
+        bytes.extend_from_slice(suffix)?;
         Ok(Items::from(bytes))
     }
 
@@ -133,12 +136,13 @@ impl<'a> Walk<'a> {
         &mut self,
         binding: Binding,
         role: Role,
-        name: &'a [u8],
+        name: &[u8],
         line: Line,
     ) -> Result<(), NoMemory>
-        ensures { IfOk result (λ _. self.new ≡ mention binding role name.entry.now line self.old) }
+        ensures { IfOk result (λ _. self.new ≡ mention binding role name.now line self.old) }
     {
         if let Binding::Shared = binding {
+            let name = self.copy(name)?;
             self.mentions.push(Mention { role, name, line })?;
         }
         Ok(())

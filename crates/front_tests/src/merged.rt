@@ -30,7 +30,7 @@ fn units(alloc: Global, texts: &[&str]) -> Result<Items<Unit>, Fail> {
 }
 
 /// The spelling of the merge of some units, or the conflict with its line.
-fn merged(alloc: Global, units: &Items<Unit>) -> Result<Vec<u8>, AllocError> {
+fn merged(alloc: Global, units: Items<Unit>) -> Result<Vec<u8>, AllocError> {
     let mut out = Vec::new(alloc);
     if units.is_empty() || units.len() > 64 {
         return Ok(out);
@@ -55,7 +55,7 @@ fn agree(rt: &impl Abort, alloc: Global, rows: &[(&[&str], &str)]) -> Result<(),
         let units = units(alloc, texts)?;
         let count = units.len();
         assert_eq!(rt; count, texts.len());
-        let found = merged(alloc, &units)?;
+        let found = merged(alloc, units)?;
         assert_eq!(rt; found.as_slice(), expected.as_bytes());
     }
     Ok(())

@@ -77,19 +77,13 @@ impl From<PreError> for ProgramError {
     }
 }
 
-/// The merge of units. One is its own, and is not copied.
+/// The merge of units.
 fn merged(alloc: Global, units: Items<Unit>) -> Result<Unit, MergeError>
     requires some { 0 < length units }
     requires few { length units ≤ 64 }
     ensures { Merges (map unit_view units) result }
 {
-    let mut units = units.into_vec();
-    if units.len() == 1
-        && let Some(unit) = units.pop()
-    {
-        return Ok(unit);
-    }
-    merge(alloc, &Items::from(units))
+    merge(alloc, units)
 }
 
 impl Reading {

@@ -7,5 +7,5 @@ use Rattle.c_units.proofs.program.merge.Goals as goal
 
 pub returns-clause-renamed : goal.returns-clause-renamed
 returns-clause-renamed c =
-    merge_renames c.args.units.now c.merge_all.result c.requires.few
-    (subst (λ (units : List Code). Merges (map unit_view units) c.merge_all.result) c.as_slice.ensures c.merge_all.ensures)
+    merge_renames c.args.units c.merge_all.result c.requires.few
+    (subst (λ (units : List Code). Merges (map unit_view units) c.merge_all.result) c.into_vec.ensures c.merge_all.ensures)

@@ -1,6 +1,6 @@
 use Rattle.std.proofs.Common.{◌∙◌, ap, arith}
 use Rattle.c_units.specs.Sets.{oldest}
-use Rattle.c_units.proofs.Logs.{oldest_behind, oldest_all}
+use Rattle.c_units.proofs.Logs.{oldest_behind}
 use Rattle.c_units.proofs.names.Scope.cut.Goals as goal
 
 pub cut-preserved : goal.cut-preserved
