@@ -1,4 +1,0 @@
-pub mod Examples
-pub mod NumberedNames
-pub mod SameTypes
-pub mod ScopeLemmas

@@ -1,6 +1,0 @@
-pub mod Length
-pub mod Item
-pub mod Format
-pub mod Print
-pub mod Filled
-pub mod Pieces

@@ -1,4 +1,0 @@
-mod Counting
-pub mod Paths
-mod Joining
-pub mod TypeLayouts

@@ -1,5 +1,0 @@
-use Rattle.core_tree.proofs.TypeLayouts as layouts
-use Rattle.core_tree.proofs.laws.layouts_of_types.Goals as goal
-
-pub returns : goal.returns
-returns c = record { sound = layouts.type_layout_sound; small = layouts.type_layout_small }

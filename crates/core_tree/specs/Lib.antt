@@ -1,7 +1,0 @@
-pub mod Statements
-pub mod Lives
-pub mod Sorts
-pub mod LayoutsOfTypes
-pub mod Sound
-pub mod Listing
-pub mod Parts

@@ -1,5 +1,0 @@
-pub mod Queue
-pub mod Freed
-pub mod Pointers
-pub mod Check
-pub mod Walks

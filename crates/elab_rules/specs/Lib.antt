@@ -1,4 +1,0 @@
-pub mod Behind
-pub mod Negated
-pub mod PlainWorking
-pub mod PlainArguments

@@ -1,4 +1,0 @@
-pub mod Table
-pub mod Lives
-pub mod Sites
-pub mod WellFormed

@@ -1,2 +1,0 @@
-pub mod sound
-pub mod complete

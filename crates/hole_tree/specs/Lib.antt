@@ -1,3 +1,0 @@
-pub mod Granules
-pub mod Runs
-pub mod Tree

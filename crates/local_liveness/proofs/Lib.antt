@@ -1,5 +1,0 @@
-mod Bits
-mod Joins
-mod Following
-mod Filling
-mod Answering

@@ -1,5 +1,0 @@
-pub mod Names
-pub mod Gives
-pub mod Signs
-pub mod Held
-pub mod Tallies
