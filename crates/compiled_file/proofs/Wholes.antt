@@ -8,8 +8,8 @@ use Rattle.hs_base.specs.Cut.{cut, fits, refused_ending}
 use Rattle.hs_base.specs.Runs.{Next, Goes, Stops, Ran, after, fresh, led, moved}
 use Rattle.hs_base.proofs.Running.{after_grows, after_more, after_stays, one_end}
 use Rattle.flat_code.specs.declared.program.Code.{Code}
-use Rattle.code_meaning.specs.CodeState.{CodeState}
-use Rattle.code_meaning.specs.CodeMeaning.{enough, meaning, start, step}
+use Rattle.object_meaning.specs.code.CodeState.{CodeState}
+use Rattle.object_meaning.specs.code.CodeMeaning.{enough, meaning, start, step}
 use Rattle.flat_machine.specs.Lasting.{EndsIn, cut_next}
 use Rattle.compiled_file.proofs.Cuts.{refused_at}
 

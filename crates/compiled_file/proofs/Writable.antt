@@ -13,8 +13,8 @@ use Rattle.core_tree.specs.declared.program.Static.{Static}
 use Rattle.flat_code.specs.declared.program.Code.{Code}
 use Rattle.flat_code.specs.declared.program.Entry.{Entry}
 use Rattle.flat_code.specs.declared.program.StaticInit.{StaticInit}
-use Rattle.counted_meaning.specs.Pinning.{Pins}
-use Rattle.compiled_code.specs.Compiled.{IsCompiled, IsEntry}
+use Rattle.object_meaning.specs.counted.Pinning.{Pins}
+use Rattle.object_meaning.specs.compiled.Compiled.{IsCompiled, IsEntry}
 use Rattle.code_file.specs.CodeFile.{AgreesWith, EndsOtherwise, IsBareFunction, IsBareMemory, IsBareStatic, IsShortCode, IsShortNames, IsWritable}
 use Rattle.code_file.specs.Names.{bare, bare_function, bare_memory, bare_static}
 

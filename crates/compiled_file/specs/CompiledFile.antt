@@ -3,9 +3,9 @@ use Rattle.std.specs.Prelude.{◌≡◌, ◌≤◌, ◌+◌, ◌*◌, length}
 use Rattle.std.specs.List.{sum_by}
 use Rattle.core_tree.specs.declared.program.Core.{Core}
 use Rattle.core_tree.specs.Sound.{code_size}
-use Rattle.counted_meaning.specs.Pinning.{AreExact, Pins}
-use Rattle.compiled_code.specs.Compiled.{IsCompiled}
-use Rattle.compiled_code.specs.Sites.{AreAscending}
+use Rattle.object_meaning.specs.counted.Pinning.{AreExact, Pins}
+use Rattle.object_meaning.specs.compiled.Compiled.{IsCompiled}
+use Rattle.object_meaning.specs.compiled.Sites.{AreAscending}
 use Rattle.flat_code.specs.WellFormed.{IsWellFormed}
 use Rattle.code_file.specs.declared.file.CodeFile.{CodeFile}
 use Rattle.code_file.specs.CodeFile.{IsWritable}

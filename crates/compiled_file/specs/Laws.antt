@@ -4,10 +4,10 @@ use Rattle.hs_base.specs.declared.ends.Limits.{Limits}
 use Rattle.hs_base.specs.Trace.{Ending}
 use Rattle.core_tree.specs.declared.program.Core.{Core}
 use Rattle.core_tree.specs.Sound.{IsSound}
-use Rattle.object_meaning.specs.Meaning.{meaning as core_meaning}
+use Rattle.object_meaning.specs.objects.Meaning.{meaning as core_meaning}
 use Rattle.flat_code.specs.declared.program.Code.{Code}
-use Rattle.code_meaning.specs.CodeState.{CodeState}
-use Rattle.code_meaning.specs.CodeMeaning.{meaning as code_meaning}
+use Rattle.object_meaning.specs.code.CodeState.{CodeState}
+use Rattle.object_meaning.specs.code.CodeMeaning.{meaning as code_meaning}
 use Rattle.flat_machine.specs.Lasting.{EndsIn}
 use Rattle.flat_machine.specs.Running.{cut_of}
 use Rattle.code_file.specs.declared.file.CodeFile.{CodeFile}

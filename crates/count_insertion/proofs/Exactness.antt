@@ -15,8 +15,8 @@ use Rattle.core_tree.specs.declared.statements.Stm.{Stm}
 use Rattle.core_tree.specs.declared.statements.StmKind.{StmKind}
 use Rattle.core_tree.specs.declared.statements.StmKind.TheVariants as stm
 use Rattle.core_tree.specs.Lives.{is_live}
-use Rattle.counted_meaning.specs.declared.pins.Pin.{Pin}
-use Rattle.counted_meaning.specs.Pinning.{Pins, pins_in, pins_of, holds_pointer, holds_on, counts_at, AreThose, AreExact}
+use Rattle.object_meaning.specs.declared.pins.Pin.{Pin}
+use Rattle.object_meaning.specs.counted.Pinning.{Pins, pins_in, pins_of, holds_pointer, holds_on, counts_at, AreThose, AreExact}
 use Rattle.count_insertion.specs.Inserted.{pin_of, pins_at, func_pins}
 
 -- Pins of a point

@@ -13,8 +13,8 @@ use Rattle.core_tree.specs.declared.statements.StmKind.{StmKind}
 use Rattle.core_tree.specs.declared.statements.StmKind.TheVariants.{Call, Realloc, Free, Leave}
 use Rattle.core_tree.specs.Lives.{IsLive, is_live}
 use Rattle.core_tree.proofs.Paths.{live_by_paths}
-use Rattle.counted_meaning.specs.declared.pins.Pin.{Pin}
-use Rattle.counted_meaning.specs.Pinning.{holds_pointer, holds_on, counts_at}
+use Rattle.object_meaning.specs.declared.pins.Pin.{Pin}
+use Rattle.object_meaning.specs.counted.Pinning.{holds_pointer, holds_on, counts_at}
 use Rattle.local_liveness.specs.Tables.{IsTableOf}
 use Rattle.count_insertion.specs.Inserted.{AreTables, may_count, pin_of, pins_below, pins_at, pins_before}
 

@@ -5,8 +5,8 @@ use Rattle.core_tree.specs.declared.program.Func.{Func}
 use Rattle.core_tree.specs.declared.statements.Stm.{Stm}
 use Rattle.core_tree.specs.declared.statements.StmKind.{StmKind}
 use Rattle.core_tree.specs.declared.statements.StmKind.TheVariants.{Call, Realloc, Free, Leave}
-use Rattle.counted_meaning.specs.declared.pins.Pin.{Pin}
-use Rattle.counted_meaning.specs.Pinning.{counts_at}
+use Rattle.object_meaning.specs.declared.pins.Pin.{Pin}
+use Rattle.object_meaning.specs.counted.Pinning.{counts_at}
 use Rattle.local_liveness.specs.Tables.{IsTableOf}
 
 -- there is a table of each function

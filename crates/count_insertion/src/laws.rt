@@ -2,7 +2,7 @@
 
 ghost use Rattle.std.specs.Prelude.{◌≡◌, ◌<◌, ℕ, AllPairs, map};
 ghost use Rattle.core_tree.specs.declared.program.Core.{Core};
-ghost use Rattle.counted_meaning.specs.Pinning.{AreExact, Pins, pins_of};
+ghost use Rattle.object_meaning.specs.counted.Pinning.{AreExact, Pins, pins_of};
 ghost use Rattle.count_insertion.specs.Inserted.{func_pins};
 
 /// The pins that [`crate::insert`] lists for a core are exact, and those of each point ascend.

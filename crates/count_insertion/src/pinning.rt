@@ -1,13 +1,13 @@
 //! Which registers are pinned at which points.
 
 ghost use Rattle.std.specs.Prelude.{◌≡◌, ◌<◌, ◌++◌, Some, IfOk, length, map, slice_get};
-ghost use Rattle.counted_meaning.specs.Pinning.{AreExact, counts_at, holds_on};
+ghost use Rattle.object_meaning.specs.counted.Pinning.{AreExact, counts_at, holds_on};
 ghost use Rattle.local_liveness.specs.Tables.{IsTableOf};
 ghost use Rattle.count_insertion.specs.Inserted.{AreTables, may_count, pins_below, func_pins};
 
 use crate::copies::core_copy;
 use core_tree::{Core, Func, Stm, StmKind};
-use counted_meaning::Pin;
+use object_meaning::Pin;
 use hs_base::{Items, NoMemory};
 use local_liveness::{LiveTable, live_at};
 use std::alloc::Global;

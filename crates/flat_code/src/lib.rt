@@ -7,7 +7,7 @@
 //!
 //! `specs/Table.antt` is the table of the operations: what each takes and gives, and where the run goes on behind it.
 //! `specs/WellFormed.antt` says which code is well formed. What an instruction does is said by the meaning of code, in
-//! `code_meaning`.
+//! `object_meaning`.
 #![tactic(auto)]
 
 mod instructions;

@@ -7,8 +7,8 @@ use Rattle.hs_base.specs.Cut.{Cut, cut, ending_of}
 use Rattle.hs_base.specs.Trace.{bytes_out, bytes_in}
 use Rattle.core_tree.specs.declared.program.Core.{Core}
 use Rattle.flat_code.specs.declared.program.Code.{Code}
-use Rattle.object_meaning.specs.Meaning.{meaning as core_meaning}
-use Rattle.code_meaning.specs.CodeMeaning.{meaning as code_meaning}
+use Rattle.object_meaning.specs.objects.Meaning.{meaning as core_meaning}
+use Rattle.object_meaning.specs.code.CodeMeaning.{meaning as code_meaning}
 use Rattle.meaning_run.specs.Meant.{end_in, StopsAtIn, Stopped}
 use Rattle.flat_machine.specs.Running as machine
 use Rattle.flat_codegen.specs.Running as core_runs

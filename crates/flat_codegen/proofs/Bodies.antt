@@ -13,12 +13,12 @@ use Rattle.core_tree.specs.declared.statements.Stm.{Stm}
 use Rattle.core_tree.specs.Sound.{element_layouts}
 use Rattle.flat_code.specs.declared.instructions.Instr.{Instr}
 use Rattle.flat_code.specs.declared.program.Code.{Code}
-use Rattle.compiled_code.specs.Handing.{code_length}
-use Rattle.counted_meaning.specs.Pinning.{Pins, pins_in, pins_of}
+use Rattle.object_meaning.specs.compiled.Handing.{code_length}
+use Rattle.object_meaning.specs.counted.Pinning.{Pins, pins_in, pins_of}
 use Rattle.count_insertion.specs.Inserted.{func_pins}
-use Rattle.compiled_code.specs.Places.{body_length, first_of, place_of}
-use Rattle.compiled_code.specs.Compiled.{IsStatement, IsLayoutIn, IsFormatIn, format_of}
-use Rattle.compiled_code.specs.Sites.{site_at, statement_sites}
+use Rattle.object_meaning.specs.compiled.Places.{body_length, first_of, place_of}
+use Rattle.object_meaning.specs.compiled.Compiled.{IsStatement, IsLayoutIn, IsFormatIn, format_of}
+use Rattle.object_meaning.specs.compiled.Sites.{site_at, statement_sites}
 use Rattle.flat_codegen.specs.Emitting.{block, with_statement, with_point}
 use Rattle.flat_codegen.proofs.Gets.{get_left, any_at, contains_at, all_at, sum_one_more, same_get}
 use Rattle.flat_codegen.proofs.Kept.{Extends, HasFormat, extends_same, extends_twice, keeps_statement}

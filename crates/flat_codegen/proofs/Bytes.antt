@@ -5,8 +5,8 @@ use Rattle.std.specs.List.{enumerate_from}
 use Rattle.std.proofs.lemmas.List.Elements.{All-nil, All-cons, All-append}
 use Rattle.core_tree.specs.declared.program.Func.{Func}
 use Rattle.core_tree.specs.declared.statements.Stm.{Stm}
-use Rattle.code_soundness.specs.Objects.{IsByte}
-use Rattle.code_soundness.specs.Laws.{HoldsBytes}
+use Rattle.meaning_laws.specs.code.Objects.{IsByte}
+use Rattle.meaning_laws.specs.code.Laws.{HoldsBytes}
 use Rattle.flat_code.specs.declared.program.Code.{Code}
 use Rattle.flat_code.specs.declared.program.StaticInit.{StaticInit}
 use Rattle.flat_codegen.specs.Emitting.{with_entry, with_function, with_point}

@@ -17,17 +17,17 @@ use Rattle.core_tree.specs.declared.statements.StmKind.{StmKind}
 use Rattle.core_tree.specs.declared.statements.StmKind.TheVariants as stm
 use Rattle.core_tree.specs.Sorts.{IsTyped, TakesFormat}
 use Rattle.core_tree.specs.Sound.{IsSound, EachStatement, HasNumbers, first_main, is_main, main_of}
-use Rattle.object_meaning.specs.Meaning.{line_of}
+use Rattle.object_meaning.specs.objects.Meaning.{line_of}
 use Rattle.flat_code.specs.declared.instructions.Op.TheVariants as op
 use Rattle.flat_code.specs.declared.program.Code.{Code}
 use Rattle.flat_code.specs.declared.program.Entry.{Entry}
 use Rattle.flat_code.specs.declared.program.StaticInit.{StaticInit}
 use Rattle.flat_code.specs.WellFormed.{IsShort, AreShort}
-use Rattle.compiled_code.specs.Handing.{instr}
-use Rattle.counted_meaning.specs.Pinning.{Pins}
+use Rattle.object_meaning.specs.compiled.Handing.{instr}
+use Rattle.object_meaning.specs.counted.Pinning.{Pins}
 use Rattle.count_insertion.specs.Inserted.{func_pins}
-use Rattle.compiled_code.specs.Compiled.{IsCompiled, IsFormatIn, format_of}
-use Rattle.compiled_code.specs.Sites.{func_sites}
+use Rattle.object_meaning.specs.compiled.Compiled.{IsCompiled, IsFormatIn, format_of}
+use Rattle.object_meaning.specs.compiled.Sites.{func_sites}
 use Rattle.flat_codegen.specs.Emitting.{before_functions, with_instrs, with_function}
 use Rattle.flat_codegen.specs.Statics.{AreInits}
 use Rattle.flat_codegen.proofs.Gets.{get_within, all_at, same_get}

@@ -10,11 +10,11 @@ use Rattle.hs_base.specs.Runs.{led, moved, after}
 use Rattle.hs_base.proofs.Running.{moved_stays, one_end}
 use Rattle.core_tree.specs.declared.program.Core.{Core}
 use Rattle.core_tree.specs.Sound.{IsSound}
-use Rattle.object_meaning.specs.Going.{Next}
-use Rattle.object_meaning.specs.Meaning.{Run, first_call, begun, step, enough, meaning}
-use Rattle.object_meaning.proofs.Falls.{ends}
-use Rattle.object_meaning.proofs.Forward.{all_forward}
-use Rattle.compiled_meaning.proofs.Testing.{tested_ends}
+use Rattle.object_meaning.specs.objects.Going.{Next}
+use Rattle.object_meaning.specs.objects.Meaning.{Run, first_call, begun, step, enough, meaning}
+use Rattle.meaning_laws.proofs.dangling.Falls.{ends}
+use Rattle.meaning_laws.proofs.dangling.Forward.{all_forward}
+use Rattle.meaning_laws.proofs.agreement.Testing.{tested_ends}
 use Rattle.flat_codegen.specs.Lasting.{no_room, cut_next, cut_run}
 use Rattle.flat_codegen.specs.Laws.{IsCutRun}
 use Rattle.flat_codegen.proofs.FirstEvents.{NeedsNoRoom, NeedNoRoom, FirstNeeds, step_first, main_first}

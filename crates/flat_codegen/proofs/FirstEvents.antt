@@ -18,15 +18,15 @@ use Rattle.core_tree.specs.declared.statements.LibName.TheVariants as lib
 use Rattle.core_tree.specs.declared.statements.Stm.{Stm}
 use Rattle.core_tree.specs.declared.statements.StmKind.{StmKind}
 use Rattle.core_tree.specs.declared.statements.StmKind.TheVariants as stm
-use Rattle.object_meaning.specs.Going.{Next, with_step, with_objects, answers, changes, if_done}
-use Rattle.object_meaning.specs.Making.{with_new}
-use Rattle.object_meaning.specs.Holding.{statement_at}
-use Rattle.object_meaning.specs.Scoping.{is_held, decided, leave, in_scope}
-use Rattle.object_meaning.specs.Heap.{birth_of, made, enqueue, free_named, free, grown, grow_old, grow_named, grow}
-use Rattle.object_meaning.specs.Printing.{print}
-use Rattle.object_meaning.specs.Builtins.{get_byte, put_line, filled, call_lib}
-use Rattle.object_meaning.specs.Calls.{go_back, end_locals, escapes, running_locals}
-use Rattle.object_meaning.specs.Meaning.{branch, returned, act, unless_reads_stale, act_at, first_call, step}
+use Rattle.object_meaning.specs.objects.Going.{Next, with_step, with_objects, answers, changes, if_done}
+use Rattle.object_meaning.specs.objects.Making.{with_new}
+use Rattle.object_meaning.specs.objects.Holding.{statement_at}
+use Rattle.object_meaning.specs.objects.Scoping.{is_held, decided, leave, in_scope}
+use Rattle.object_meaning.specs.objects.Heap.{birth_of, made, enqueue, free_named, free, grown, grow_old, grow_named, grow}
+use Rattle.object_meaning.specs.objects.Printing.{print}
+use Rattle.object_meaning.specs.objects.Builtins.{get_byte, put_line, filled, call_lib}
+use Rattle.object_meaning.specs.objects.Calls.{go_back, end_locals, escapes, running_locals}
+use Rattle.object_meaning.specs.objects.Meaning.{branch, returned, act, unless_reads_stale, act_at, first_call, step}
 
 -- an event that has room behind every trace
 abbrev pub NeedsNoRoom : Event → Type 0

@@ -10,8 +10,8 @@ use Rattle.core_tree.specs.declared.statements.StmKind.TheVariants as stm
 use Rattle.flat_code.specs.declared.instructions.Instr.{Instr}
 use Rattle.flat_code.specs.declared.program.Code.{Code}
 use Rattle.flat_code.specs.declared.program.Entry.{Entry}
-use Rattle.compiled_code.specs.Doing.{Does}
-use Rattle.compiled_code.specs.Compiled.{IsStatement, IsEntry}
+use Rattle.object_meaning.specs.compiled.Doing.{Does}
+use Rattle.object_meaning.specs.compiled.Compiled.{IsStatement, IsEntry}
 
 -- each element stays where it is
 abbrev pub Grows : {X : Type 0} → List X → List X → Type 0

@@ -16,18 +16,18 @@ use Rattle.hs_base.proofs.Running.{after_zero, after_more, one_end}
 use Rattle.core_tree.specs.declared.program.Core.{Core}
 use Rattle.core_tree.specs.Sound.{IsSound}
 use Rattle.flat_code.specs.declared.program.Code.{Code}
-use Rattle.object_meaning.specs.Meaning as object
-use Rattle.counted_meaning.specs.Pinning.{Pins, AreExact}
-use Rattle.counted_meaning.specs.CountedMeaning as counted
-use Rattle.counts_are_holders.specs.Laws.{testing, TestedRunsAreCounted}
-use Rattle.code_meaning.specs.CodeState.{CodeState}
-use Rattle.code_meaning.specs.CodeMeaning as code_meaning
-use Rattle.compiled_code.specs.Compiled.{IsCompiled}
-use Rattle.compiled_code.specs.Sites.{AreAscending}
-use Rattle.compiled_meaning.specs.SameRun.{SameFrame, SameFrames, SameState}
-use Rattle.counts_are_holders.specs.Counts.{inside_living, in_pins}
-use Rattle.compiled_meaning.specs.Testing.{tested_core, tested_code}
-use Rattle.compiled_meaning.specs.Laws.{TestedCodeMeansCore}
+use Rattle.object_meaning.specs.objects.Meaning as object
+use Rattle.object_meaning.specs.counted.Pinning.{Pins, AreExact}
+use Rattle.object_meaning.specs.counted.CountedMeaning as counted
+use Rattle.meaning_laws.specs.counted.Laws.{testing, TestedRunsAreCounted}
+use Rattle.object_meaning.specs.code.CodeState.{CodeState}
+use Rattle.object_meaning.specs.code.CodeMeaning as code_meaning
+use Rattle.object_meaning.specs.compiled.Compiled.{IsCompiled}
+use Rattle.object_meaning.specs.compiled.Sites.{AreAscending}
+use Rattle.meaning_laws.specs.compiled.SameRun.{SameFrame, SameFrames, SameState}
+use Rattle.meaning_laws.specs.counted.Counts.{inside_living, in_pins}
+use Rattle.meaning_laws.specs.compiled.Testing.{tested_core, tested_code}
+use Rattle.meaning_laws.specs.compiled.Laws.{TestedCodeMeansCore}
 use Rattle.flat_objects.specs.Keeping.{Keeps}
 use Rattle.flat_objects.specs.Counting.{Frees, HasScopes, Tracks, living_pointers}
 use Rattle.flat_machine.specs.Kept.{Kept, Frame as Call}

@@ -9,8 +9,8 @@ use Rattle.std.proofs.lemmas.List.Prefix.{front_rest}
 use Rattle.std.proofs.lemmas.Option.{slice_get_within}
 use Rattle.core_tree.specs.declared.program.Func.{Func}
 use Rattle.core_tree.specs.declared.statements.Stm.{Stm}
-use Rattle.counted_meaning.specs.declared.pins.Pin.{Pin}
-use Rattle.counted_meaning.specs.Pinning.{pins_in, counts_at}
+use Rattle.object_meaning.specs.declared.pins.Pin.{Pin}
+use Rattle.object_meaning.specs.counted.Pinning.{pins_in, counts_at}
 use Rattle.count_insertion.specs.Inserted.{pin_of, pins_at, pins_below, func_pins}
 use Rattle.count_insertion.proofs.Exactness.{registers_are}
 

@@ -14,10 +14,10 @@ use Rattle.flat_code.specs.declared.instructions.Instr.{Instr}
 use Rattle.flat_code.specs.declared.instructions.Op.{Op}
 use Rattle.flat_code.specs.declared.instructions.Op.TheVariants as op
 use Rattle.flat_code.specs.declared.program.Code.{Code}
-use Rattle.compiled_code.specs.Handing.{instr, hand_of, handed_atoms, code_length}
-use Rattle.compiled_code.specs.Places.{place_of}
-use Rattle.compiled_code.specs.Doing.{Does}
-use Rattle.compiled_code.specs.Compiled.{IsStatement, format_of}
+use Rattle.object_meaning.specs.compiled.Handing.{instr, hand_of, handed_atoms, code_length}
+use Rattle.object_meaning.specs.compiled.Places.{place_of}
+use Rattle.object_meaning.specs.compiled.Doing.{Does}
+use Rattle.object_meaning.specs.compiled.Compiled.{IsStatement, format_of}
 use Rattle.flat_codegen.specs.Emitting.{doing, block, with_statement}
 use Rattle.flat_codegen.proofs.Gets.{get_next, get_part}
 use Rattle.flat_codegen.proofs.Kept.{HasFormat}

@@ -9,10 +9,10 @@ use Rattle.core_tree.specs.declared.statements.StmKind.{StmKind}
 use Rattle.core_tree.specs.declared.statements.StmKind.TheVariants.{Off, Copy, Clear, Case}
 use Rattle.core_tree.specs.Statements.{operands}
 use Rattle.core_tree.specs.Sound.{own_numbers}
-use Rattle.compiled_code.specs.Handing.{hand_of, handed_atoms}
-use Rattle.compiled_code.specs.Places.{body_length}
+use Rattle.object_meaning.specs.compiled.Handing.{hand_of, handed_atoms}
+use Rattle.object_meaning.specs.compiled.Places.{body_length}
 use Rattle.flat_code.specs.declared.program.Code.{Code}
-use Rattle.counted_meaning.specs.Pinning.{pins_in}
+use Rattle.object_meaning.specs.counted.Pinning.{pins_in}
 use Rattle.count_insertion.specs.Inserted.{func_pins}
 use Rattle.flat_codegen.specs.Emitting.{with_instrs, with_statement, with_point, place_from}
 use Rattle.flat_codegen.specs.Placing.{place_at}

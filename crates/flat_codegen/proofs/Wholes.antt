@@ -16,12 +16,12 @@ use Rattle.core_tree.specs.declared.program.Static.{Static}
 use Rattle.core_tree.specs.declared.statements.Stm.{Stm}
 use Rattle.flat_code.specs.declared.program.Code.{Code}
 use Rattle.flat_code.specs.declared.program.Entry.{Entry}
-use Rattle.counted_meaning.specs.Pinning.{Pins, pins_in, pins_of}
+use Rattle.object_meaning.specs.counted.Pinning.{Pins, pins_in, pins_of}
 use Rattle.count_insertion.specs.Inserted.{func_pins}
 use Rattle.count_insertion.proofs.Exactness.{at_map}
-use Rattle.compiled_code.specs.Places.{body_length, first_of, place_of}
-use Rattle.compiled_code.specs.Compiled.{IsStatement, IsEntry, IsLayoutIn, IsFormatIn}
-use Rattle.compiled_code.specs.Sites.{statement_sites, func_sites}
+use Rattle.object_meaning.specs.compiled.Places.{body_length, first_of, place_of}
+use Rattle.object_meaning.specs.compiled.Compiled.{IsStatement, IsEntry, IsLayoutIn, IsFormatIn}
+use Rattle.object_meaning.specs.compiled.Sites.{statement_sites, func_sites}
 use Rattle.flat_codegen.specs.Emitting.{place_from, entry_of, with_entry, with_function}
 use Rattle.flat_codegen.proofs.Gets.{get_left, get_next, get_within, any_at, all_at, sum_one_more, same_get}
 use Rattle.flat_codegen.proofs.Kept.{Extends, HasFormat, extends_twice, keeps_statement, keeps_entry}

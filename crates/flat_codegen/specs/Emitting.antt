@@ -18,12 +18,12 @@ use Rattle.flat_code.specs.declared.program.Code.{Code}
 use Rattle.flat_code.specs.declared.program.Entry.{Entry}
 use Rattle.flat_code.specs.declared.program.Site.{Site}
 use Rattle.flat_code.specs.declared.program.StaticInit.{StaticInit}
-use Rattle.counted_meaning.specs.Pinning.{pins_in}
+use Rattle.object_meaning.specs.counted.Pinning.{pins_in}
 use Rattle.count_insertion.specs.Inserted.{func_pins}
-use Rattle.compiled_code.specs.Handing.{hand_of, handed_atoms}
-use Rattle.compiled_code.specs.Places.{body_length}
-use Rattle.compiled_code.specs.Compiled.{format_of}
-use Rattle.compiled_code.specs.Sites.{may_free, site_at}
+use Rattle.object_meaning.specs.compiled.Handing.{hand_of, handed_atoms}
+use Rattle.object_meaning.specs.compiled.Places.{body_length}
+use Rattle.object_meaning.specs.compiled.Compiled.{format_of}
+use Rattle.object_meaning.specs.compiled.Sites.{may_free, site_at}
 
 -- the code with its statics and their layouts alone
 abbrev pub before_functions : List StaticInit → List Layout → Code

@@ -10,10 +10,10 @@ use Rattle.hs_base.specs.declared.ends.Limits.{Limits}
 use Rattle.hs_base.specs.Cut.{fits, refused_ending}
 use Rattle.hs_base.specs.Runs.{led, after, tested}
 use Rattle.core_tree.specs.declared.program.Core.{Core}
-use Rattle.object_meaning.specs.Going.{Next}
-use Rattle.object_meaning.specs.Meaning.{Run, first_call, step, enough}
-use Rattle.counted_meaning.specs.Pinning.{Pins}
-use Rattle.counts_are_holders.specs.Counts.{inside_living, in_pins}
+use Rattle.object_meaning.specs.objects.Going.{Next}
+use Rattle.object_meaning.specs.objects.Meaning.{Run, first_call, step, enough}
+use Rattle.object_meaning.specs.counted.Pinning.{Pins}
+use Rattle.meaning_laws.specs.counted.Counts.{inside_living, in_pins}
 use Rattle.flat_objects.specs.Counting.{Tracks, living_pointers}
 use Rattle.flat_machine.specs.Kept.{Kept}
 use Rattle.flat_machine.specs.Image.{Agrees}

@@ -4,7 +4,7 @@ use Rattle.hs_base.specs.declared.ends.Limits.{Limits}
 use Rattle.hs_base.specs.Cut.{ending_of}
 use Rattle.core_tree.specs.declared.program.Core.{Core}
 use Rattle.core_tree.specs.Sound.{IsSound}
-use Rattle.object_meaning.specs.Meaning.{meaning}
+use Rattle.object_meaning.specs.objects.Meaning.{meaning}
 use Rattle.flat_codegen.specs.Running.{cut_of}
 use Rattle.flat_codegen.specs.Lasting.{cut_run}
 

@@ -6,7 +6,7 @@ use Rattle.hs_base.specs.Trace.{bytes_out, bytes_in}
 use Rattle.hs_base.specs.declared.ends.Limits.{Limits}
 use Rattle.hs_base.specs.Cut.{Cut, cut, ending_of}
 use Rattle.core_tree.specs.declared.program.Core.{Core}
-use Rattle.object_meaning.specs.Meaning.{meaning}
+use Rattle.object_meaning.specs.objects.Meaning.{meaning}
 use Rattle.meaning_run.specs.Meant.{end_in, StopsAtIn, Stopped}
 
 -- the meaning's trace in the heap, cut at the first call that the stack has no room for

@@ -3,7 +3,7 @@ use Rattle.std.specs.Prelude.{◌≡◌, ℕ, List, Some, length, slice_get, IsP
 use Rattle.std.specs.Ordering.{nat_cmp}
 use Rattle.core_tree.specs.declared.program.Static.{Static}
 use Rattle.flat_code.specs.declared.program.StaticInit.{StaticInit}
-use Rattle.compiled_code.specs.Compiled.{IsTrimmed}
+use Rattle.object_meaning.specs.compiled.Compiled.{IsTrimmed}
 
 -- what a static holds first, where its layout has this number
 pub record IsInit (layout : ℕ) (static : Static) (init : StaticInit) : Type 0 where

@@ -4,7 +4,7 @@ ghost use Rattle.std.specs.Prelude.{◌≡◌, ◌∷◌, [], IfOk, All, flat_ma
 ghost use Rattle.std.specs.Option.{option_to_list};
 ghost use Rattle.core_tree.specs.Statements.{operands};
 ghost use Rattle.core_tree.specs.Sound.{IsNumber, HasNumbers, atom_numbers, own_numbers};
-ghost use Rattle.compiled_code.specs.Handing.{hand_integer, hand_of, handed_atoms, code_length, instr};
+ghost use Rattle.object_meaning.specs.compiled.Handing.{hand_integer, hand_of, handed_atoms, code_length, instr};
 ghost use Rattle.flat_codegen.specs.Emitting.{with_instrs};
 
 use crate::emitter::{Emitter, fit};

@@ -1,12 +1,12 @@
 //! Running the code of a core.
 
 ghost use Rattle.std.specs.Prelude.{◌≡◌, ◌+◌, ◌<◌, ◌≤◌, ◌^◌, ℕ, List, IfSome, None, Some};
-ghost use Rattle.code_soundness.specs.Laws.{HoldsBytes};
-ghost use Rattle.compiled_code.specs.Compiled.{IsCompiled};
-ghost use Rattle.compiled_code.specs.Sites.{AreAscending};
+ghost use Rattle.meaning_laws.specs.code.Laws.{HoldsBytes};
+ghost use Rattle.object_meaning.specs.compiled.Compiled.{IsCompiled};
+ghost use Rattle.object_meaning.specs.compiled.Sites.{AreAscending};
 ghost use Rattle.core_tree.specs.Sound.{IsSound};
 ghost use Rattle.core_tree.specs.declared.program.Core.{Core};
-ghost use Rattle.counted_meaning.specs.Pinning.{AreExact, Pins};
+ghost use Rattle.object_meaning.specs.counted.Pinning.{AreExact, Pins};
 ghost use Rattle.flat_code.specs.WellFormed.{IsWellFormed};
 ghost use Rattle.flat_codegen.specs.Lasting.{LeavesImage, MakesSteps};
 ghost use Rattle.flat_codegen.specs.Running.{RunAnswers};
@@ -14,8 +14,8 @@ ghost use Rattle.flat_objects.specs.Leaks.{KeepsSome};
 ghost use Rattle.flat_machine.specs.Machined.{IsOf, steps_made};
 ghost use Rattle.flat_machine.specs.Running.{RunCounts};
 
-use compiled_meaning::code_means_core;
-use counts_are_holders::counted_means_core;
+use meaning_laws::code_means_core;
+use meaning_laws::counted_means_core;
 use flat_code::Code;
 use flat_machine::Machine;
 use hs_base::{End, Sink, Source};

@@ -2,13 +2,13 @@
 
 ghost use Rattle.std.specs.Prelude.{◌≡◌, IfOk, map, nat_eq};
 ghost use Rattle.std.specs.List.{prefix_len};
-ghost use Rattle.counted_meaning.specs.declared.pins.Pin.{Pin as ListedPin};
-ghost use Rattle.compiled_code.specs.Sites.{may_free};
+ghost use Rattle.object_meaning.specs.declared.pins.Pin.{Pin as ListedPin};
+ghost use Rattle.object_meaning.specs.compiled.Sites.{may_free};
 ghost use Rattle.flat_codegen.specs.Emitting.{next_site, with_sites};
 
 use crate::emitter::{Emitter, fit};
 use core_tree::StmKind;
-use counted_meaning::Pin;
+use object_meaning::Pin;
 use flat_code::Site;
 use hs_base::{Items, NoMemory};
 use std::alloc::Global;

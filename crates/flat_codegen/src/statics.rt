@@ -2,9 +2,9 @@
 
 ghost use Rattle.std.specs.Prelude.{◌≡◌, ℕ, All, IfOk, IsPermutation, IsSortedByKey, map, take};
 ghost use Rattle.std.specs.Ordering.{nat_cmp};
-ghost use Rattle.code_soundness.specs.Objects.{IsByte};
+ghost use Rattle.meaning_laws.specs.code.Objects.{IsByte};
 ghost use Rattle.core_tree.specs.declared.program.Static.{Static as CoreStatic};
-ghost use Rattle.compiled_code.specs.Compiled.{IsTrimmed};
+ghost use Rattle.object_meaning.specs.compiled.Compiled.{IsTrimmed};
 ghost use Rattle.flat_code.specs.declared.program.StaticInit.{StaticInit as Init};
 ghost use Rattle.flat_codegen.specs.Statics.{IsInit, AreInits};
 

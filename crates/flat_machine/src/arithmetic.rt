@@ -1,10 +1,10 @@
 //! Instructions that work on integers and registers (C99 6.3.1.3, 6.5.3.3, 6.5.5 to 6.5.14).
 
 ghost use Rattle.std.specs.Prelude.{◌≡◌, ◌+◌, ◌<◌, ◌^◌, ℕ, Bool, IfErr, not, nat_eq};
-ghost use Rattle.object_meaning.specs.Arithmetic.{on_two, is_zero};
+ghost use Rattle.object_meaning.specs.objects.Arithmetic.{on_two, is_zero};
 ghost use Rattle.flat_code.specs.declared.program.Code.{Code as Program};
-ghost use Rattle.code_meaning.specs.CodeState.{CodeState};
-ghost use Rattle.code_meaning.specs.CodeMeaning.{act};
+ghost use Rattle.object_meaning.specs.code.CodeState.{CodeState};
+ghost use Rattle.object_meaning.specs.code.CodeMeaning.{act};
 ghost use Rattle.flat_machine.specs.Words.{truth_word};
 ghost use Rattle.flat_machine.specs.Standing.{Stands};
 ghost use Rattle.flat_machine.specs.Groups.{IsValues};

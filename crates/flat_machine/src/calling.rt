@@ -2,13 +2,13 @@
 
 ghost use Rattle.std.specs.Prelude.{◌≡◌, ◌+◌, ◌<◌, ◌^◌, ℕ, Bool, All, IfErr, IsSome, Some, slice_get};
 ghost use Rattle.hs_base.specs.declared.values.Value.{Value};
-ghost use Rattle.object_meaning.specs.Builtins.{byte_in};
+ghost use Rattle.object_meaning.specs.objects.Builtins.{byte_in};
 ghost use Rattle.flat_code.specs.Table.{chosen};
 ghost use Rattle.flat_objects.specs.Standing.{StandsFor};
-ghost use Rattle.code_meaning.specs.CodeState.{CodeState};
-ghost use Rattle.code_meaning.specs.CodeMeaning.{act};
-ghost use Rattle.code_meaning.specs.Entering.{cost_of};
-ghost use Rattle.code_meaning.specs.Returning.{give_back};
+ghost use Rattle.object_meaning.specs.code.CodeState.{CodeState};
+ghost use Rattle.object_meaning.specs.code.CodeMeaning.{act};
+ghost use Rattle.object_meaning.specs.code.Entering.{cost_of};
+ghost use Rattle.object_meaning.specs.code.Returning.{give_back};
 ghost use Rattle.flat_machine.specs.Standing.{Stands};
 ghost use Rattle.flat_machine.specs.Pinning.{CountsWell, IsReturning, IsStanding};
 ghost use Rattle.flat_machine.specs.Leading.{Alone, HasAllLocals, MayCall, WaitsAtCall};

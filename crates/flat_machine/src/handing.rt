@@ -3,8 +3,8 @@
 ghost use Rattle.std.specs.Prelude.{◌≡◌, ◌+◌, ◌<◌, ◌^◌, ℕ, Bool, length};
 ghost use Rattle.flat_code.specs.declared.program.Code.{Code as Program};
 ghost use Rattle.flat_code.specs.declared.instructions.Op.TheVariants as ops;
-ghost use Rattle.code_meaning.specs.CodeState.{CodeState};
-ghost use Rattle.code_meaning.specs.CodeMeaning.{hand_or_act, handed_value, unsigned};
+ghost use Rattle.object_meaning.specs.code.CodeState.{CodeState};
+ghost use Rattle.object_meaning.specs.code.CodeMeaning.{hand_or_act, handed_value, unsigned};
 ghost use Rattle.flat_machine.specs.Standing.{Stands};
 ghost use Rattle.flat_machine.specs.Groups.{IsHanding};
 ghost use Rattle.flat_machine.specs.Leading.{Alone, HandsFresh};

@@ -5,9 +5,9 @@ ghost use Rattle.std.specs.List.{flat_map};
 ghost use Rattle.hs_base.specs.Freeing.{is_pointer_to};
 ghost use Rattle.hs_base.specs.Object.{Object};
 ghost use Rattle.hs_base.specs.State.{Frame as Situation};
-ghost use Rattle.object_meaning.specs.Holding.{first_of};
-ghost use Rattle.counted_meaning.specs.Pinning.{pointer_of_register};
-ghost use Rattle.code_meaning.specs.CodeState.{CodeState};
+ghost use Rattle.object_meaning.specs.objects.Holding.{first_of};
+ghost use Rattle.object_meaning.specs.counted.Pinning.{pointer_of_register};
+ghost use Rattle.object_meaning.specs.code.CodeState.{CodeState};
 ghost use Rattle.flat_objects.specs.Standing.{IsThere};
 ghost use Rattle.flat_objects.specs.Keeping.{KeepsAt, IsKept};
 ghost use Rattle.flat_machine.specs.Kept.{call_number};
@@ -16,7 +16,7 @@ ghost use Rattle.flat_machine.specs.Pinning.{HasSorts, IsNamed, IsNoOwn, IsOwner
 ghost use Rattle.flat_machine.specs.Holding.{HoldsIn, IsHolding, in_frame};
 ghost use Rattle.flat_machine.specs.Loaded.{HasPins};
 ghost use Rattle.flat_code.specs.declared.program.Code.{Code as Program};
-ghost use Rattle.code_meaning.specs.Checking.{holders};
+ghost use Rattle.object_meaning.specs.code.Checking.{holders};
 
 use crate::calls::Calls;
 use crate::state::State;

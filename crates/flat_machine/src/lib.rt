@@ -2,7 +2,7 @@
 //!
 //! [`Machine::run`] makes the instructions of a code one after another, over objects that are kept in bytes with addresses
 //! (`flat_objects`), on a stack and with a heap of so many bytes. Its contract says what the meaning of code says
-//! (`code_meaning/specs/CodeMeaning.antt`) in a heap of that size, cut at the first call that does not fit the stack
+//! (`object_meaning/specs/code/CodeMeaning.antt`) in a heap of that size, cut at the first call that does not fit the stack
 //! (`hs_base/specs/Cut.antt`): the bytes written and read, and the end.
 //!
 //! [`Machine::load`] makes one before its first instruction: with the statics of the code in its memory, and with all memory that

@@ -1,8 +1,8 @@
 //! The memory locals of a call that begins (C99 6.2.4).
 
 ghost use Rattle.std.specs.Prelude.{◌≡◌, ℕ, All, IsSome, length, slice_get};
-ghost use Rattle.code_meaning.specs.CodeState.{CodeState};
-ghost use Rattle.code_meaning.specs.Entering.{layout_in};
+ghost use Rattle.object_meaning.specs.code.CodeState.{CodeState};
+ghost use Rattle.object_meaning.specs.code.Entering.{layout_in};
 ghost use Rattle.flat_machine.specs.Locals.{HasMade, MayMakeLocals, StandsForSome};
 ghost use Rattle.flat_machine.specs.Standing.{Stands};
 

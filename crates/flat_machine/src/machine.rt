@@ -2,7 +2,7 @@
 
 ghost use Rattle.std.specs.Prelude.{◌≡◌, ◌+◌, ◌<◌, ◌≤◌, ◌^◌, ℕ, List, IfSome, None, Some};
 ghost use Rattle.flat_code.specs.WellFormed.{IsWellFormed};
-ghost use Rattle.code_soundness.specs.Laws.{HoldsBytes};
+ghost use Rattle.meaning_laws.specs.code.Laws.{HoldsBytes};
 ghost use Rattle.flat_machine.specs.Machined.{IsOf, steps_made};
 ghost use Rattle.flat_machine.specs.Running.{RunAnswers, RunCounts};
 ghost use Rattle.flat_machine.specs.Lasting.{LeavesImage, MakesSteps};

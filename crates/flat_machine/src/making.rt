@@ -4,11 +4,11 @@ ghost use Rattle.std.specs.Prelude.{◌≡◌, ◌+◌, ◌<◌, ◌^◌, ℕ, O
 ghost use Rattle.c_types.specs.declared.layouts.Layout.{Layout};
 ghost use Rattle.adjusters.specs.ObjectSlots.{element_of};
 ghost use Rattle.flat_code.specs.declared.program.Code.{Code as Program};
-ghost use Rattle.object_meaning.specs.Values.{size_in};
-ghost use Rattle.object_meaning.specs.Heap.{make};
-ghost use Rattle.code_meaning.specs.CodeState.{CodeState, same_numbers};
-ghost use Rattle.code_meaning.specs.Entering.{layout_in};
-ghost use Rattle.code_meaning.specs.CodeMeaning.{act};
+ghost use Rattle.object_meaning.specs.objects.Values.{size_in};
+ghost use Rattle.object_meaning.specs.objects.Heap.{make};
+ghost use Rattle.object_meaning.specs.code.CodeState.{CodeState, same_numbers};
+ghost use Rattle.object_meaning.specs.code.Entering.{layout_in};
+ghost use Rattle.object_meaning.specs.code.CodeMeaning.{act};
 ghost use Rattle.flat_machine.specs.Standing.{Stands, fits_now};
 ghost use Rattle.flat_machine.specs.Groups.{IsMaking};
 ghost use Rattle.flat_machine.specs.Leading.{Alone};

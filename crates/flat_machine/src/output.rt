@@ -3,16 +3,16 @@
 ghost use Rattle.std.specs.Prelude.{◌≡◌, ◌+◌, ◌++◌, ◌<◌, ◌^◌, [], ℕ, List, All, IfErr, Some};
 ghost use Rattle.hs_base.specs.declared.ends.End.TheVariants as end;
 ghost use Rattle.core_tree.specs.declared.statements.LibName.TheVariants as libs;
-ghost use Rattle.object_meaning.specs.Builtins.{byte_in, call_lib, get_byte, put_byte};
+ghost use Rattle.object_meaning.specs.objects.Builtins.{byte_in, call_lib, get_byte, put_byte};
 ghost use Rattle.meaning_run.specs.Leading.{with_input};
-ghost use Rattle.code_meaning.specs.CodeState.{CodeState, same_numbers};
+ghost use Rattle.object_meaning.specs.code.CodeState.{CodeState, same_numbers};
 ghost use Rattle.flat_objects.specs.Keeping.{IsKept};
 ghost use Rattle.flat_machine.specs.Words.{address_at};
 ghost use Rattle.flat_machine.specs.Standing.{Stands};
 ghost use Rattle.flat_machine.specs.Groups.{IsPlainLib};
 ghost use Rattle.flat_machine.specs.Noting.{left_behind};
 ghost use Rattle.flat_machine.specs.Leading.{Counted, Moves, Seen};
-ghost use Rattle.code_soundness.specs.Objects.{IsByte};
+ghost use Rattle.meaning_laws.specs.code.Objects.{IsByte};
 
 use crate::calling::byte_in;
 use crate::console::{Console, Lent};

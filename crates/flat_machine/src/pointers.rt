@@ -4,8 +4,8 @@ ghost use Rattle.std.specs.Prelude.{◌≡◌, ◌+◌, ◌<◌, ◌<ℤ◌, ◌
 ghost use Rattle.flat_code.specs.declared.instructions.Op.TheVariants as ops;
 ghost use Rattle.flat_code.specs.declared.program.Code.{Code as Program};
 ghost use Rattle.flat_objects.specs.Keeping.{IsKept};
-ghost use Rattle.code_meaning.specs.CodeState.{CodeState};
-ghost use Rattle.code_meaning.specs.CodeMeaning.{act};
+ghost use Rattle.object_meaning.specs.code.CodeState.{CodeState};
+ghost use Rattle.object_meaning.specs.code.CodeMeaning.{act};
 ghost use Rattle.flat_machine.specs.Words.{address_at};
 ghost use Rattle.flat_machine.specs.Standing.{Stands};
 ghost use Rattle.flat_machine.specs.Groups.{IsPointers};

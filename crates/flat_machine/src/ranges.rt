@@ -6,12 +6,12 @@ ghost use Rattle.core_tree.specs.declared.statements.LibName.TheVariants as libs
 ghost use Rattle.flat_code.specs.declared.program.Code.{Code as Program};
 ghost use Rattle.flat_code.specs.declared.instructions.Instr.{Instr};
 ghost use Rattle.flat_code.specs.declared.instructions.Op.TheVariants as ops;
-ghost use Rattle.object_meaning.specs.Builtins.{call_lib};
-ghost use Rattle.object_meaning.specs.Values.{bytes_in};
+ghost use Rattle.object_meaning.specs.objects.Builtins.{call_lib};
+ghost use Rattle.object_meaning.specs.objects.Values.{bytes_in};
 ghost use Rattle.meaning_run.specs.Leading.{with_input};
-ghost use Rattle.code_meaning.specs.CodeState.{CodeState, other_numbers};
-ghost use Rattle.code_meaning.specs.CodeMeaning.{act, behind_lib};
-ghost use Rattle.code_soundness.specs.Objects.{IsByte};
+ghost use Rattle.object_meaning.specs.code.CodeState.{CodeState, other_numbers};
+ghost use Rattle.object_meaning.specs.code.CodeMeaning.{act, behind_lib};
+ghost use Rattle.meaning_laws.specs.code.Objects.{IsByte};
 ghost use Rattle.flat_objects.specs.Keeping.{IsKept};
 ghost use Rattle.flat_objects.specs.Counting.{IsStorable};
 ghost use Rattle.flat_objects.specs.Ranges.{IsSettable};

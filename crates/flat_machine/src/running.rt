@@ -4,7 +4,7 @@ ghost use Rattle.std.specs.Prelude.{◌≡◌, ◌+◌, ◌++◌, ◌-◌, ◌<�
 ghost use Rattle.hs_base.specs.declared.ends.End.TheVariants as end;
 ghost use Rattle.hs_base.specs.declared.ends.Limits.{Limits};
 ghost use Rattle.flat_code.specs.WellFormed.{IsWellFormed};
-ghost use Rattle.code_soundness.specs.Laws.{HoldsBytes};
+ghost use Rattle.meaning_laws.specs.code.Laws.{HoldsBytes};
 ghost use Rattle.flat_machine.specs.Loaded.{IsLoaded};
 ghost use Rattle.flat_machine.specs.Well.{IsWell};
 ghost use Rattle.flat_machine.specs.First.{IsFirst};
@@ -18,7 +18,7 @@ use crate::loaded::Loaded;
 use crate::state::State;
 use crate::steps::one_step;
 use byte_memory::{CountRight, Steps};
-use code_soundness::{run_begins_well, step_leaves_less, step_stays_good};
+use meaning_laws::{run_begins_well, step_leaves_less, step_stays_good};
 use flat_code::Code;
 use hs_base::{End, Sink, Source};
 use std::marker::Brand;

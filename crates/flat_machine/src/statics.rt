@@ -7,7 +7,7 @@ ghost use Rattle.flat_code.specs.WellFormed.{IsWellFormed};
 ghost use Rattle.flat_objects.specs.Memory.{SameFrame, pin_room};
 ghost use Rattle.flat_objects.specs.Keeping.{Keeps};
 ghost use Rattle.flat_objects.specs.Counting.{Tracks};
-ghost use Rattle.code_meaning.specs.Entering.{layout_in};
+ghost use Rattle.object_meaning.specs.code.Entering.{layout_in};
 ghost use Rattle.flat_machine.specs.Loading.{HasPlaced, HasRoom, HasStarted, blocks_length, no_frees};
 
 use byte_memory::{CountRight, Steps};

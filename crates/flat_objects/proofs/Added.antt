@@ -21,7 +21,7 @@ use Rattle.heap_blocks.specs.Heads.{header_at}
 use Rattle.heap_blocks.specs.Held.{HeapModel, HasBounds, Holds, IsBlock, AreApart}
 use Rattle.byte_marks.specs.Marks as byte_marks
 use Rattle.byte_marks.specs.Marks.{HasMarks}
-use Rattle.object_meaning.specs.Making.{blank}
+use Rattle.object_meaning.specs.objects.Making.{blank}
 use Rattle.flat_objects.specs.Memory.{Memory, Range, Statics, Locals, Heap, IsMemory, heap_of, is_of, range_of}
 use Rattle.flat_objects.specs.Standing.{IsThere, IsAddressOf}
 use Rattle.flat_objects.specs.Keeping.{Keeps, StandsAt, IsHeaderOf, HasSlots, block_of, blocks_of, stands_in}

@@ -8,7 +8,7 @@ use Rattle.byte_memory.specs.Bytes.{word}
 use Rattle.hs_base.specs.Object.{Object, object_at}
 use Rattle.byte_memory.proofs.Words.{word_1}
 use Rattle.adjusters.specs.ObjectSlots.{Element, object_slots}
-use Rattle.object_meaning.specs.Strings.{behind, byte_behind, room_at}
+use Rattle.object_meaning.specs.objects.Strings.{behind, byte_behind, room_at}
 use Rattle.flat_objects.specs.declared.finding.Found.{Found}
 use Rattle.flat_objects.specs.Memory.{Memory, IsMemory}
 use Rattle.flat_objects.specs.Standing.{IsAddressOf}

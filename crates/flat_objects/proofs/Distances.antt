@@ -10,8 +10,8 @@ use Rattle.hs_base.specs.declared.values.Pointer.{Pointer}
 use Rattle.hs_base.specs.declared.values.Pointer.TheVariants as pointer
 use Rattle.hs_base.specs.Access.{Trapped}
 use Rattle.hs_base.specs.Object.{Object, object_at}
-use Rattle.object_meaning.specs.Arithmetic.{within_object, moved_by}
-use Rattle.object_meaning.specs.Values.{address}
+use Rattle.object_meaning.specs.objects.Arithmetic.{within_object, moved_by}
+use Rattle.object_meaning.specs.objects.Values.{address}
 use Rattle.flat_objects.specs.declared.finding.Found.{Found}
 use Rattle.flat_objects.specs.Memory.{Memory, IsMemory}
 use Rattle.flat_objects.specs.Standing.{IsAt}

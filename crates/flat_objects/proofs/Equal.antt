@@ -7,7 +7,7 @@ use Rattle.hs_base.specs.declared.values.Pointer.{Pointer}
 use Rattle.hs_base.specs.declared.values.Pointer.TheVariants as pointer
 use Rattle.hs_base.specs.Access.{Trapped}
 use Rattle.hs_base.specs.Object.{Object, object_at}
-use Rattle.object_meaning.specs.Arithmetic.{same_pointer, offsets}
+use Rattle.object_meaning.specs.objects.Arithmetic.{same_pointer, offsets}
 use Rattle.flat_objects.specs.declared.finding.Found.{Found}
 use Rattle.flat_objects.specs.Memory.{Memory, IsMemory}
 use Rattle.flat_objects.specs.Standing.{IsThere, IsAt, IsAddressOf}

@@ -12,8 +12,8 @@ use Rattle.hs_base.specs.Access.{Place, Refusal, ReadsDead, and_then, access_int
 use Rattle.byte_memory.specs.Bytes.{word, part}
 use Rattle.hs_base.specs.Numbers.{width, wrapped}
 use Rattle.hs_base.specs.Object.{Object, object_at}
-use Rattle.object_meaning.specs.Values.{number, address, is_stale}
-use Rattle.object_meaning.specs.Memory.{loaded, loaded_pointer, unless_stale}
+use Rattle.object_meaning.specs.objects.Values.{number, address, is_stale}
+use Rattle.object_meaning.specs.objects.Memory.{loaded, loaded_pointer, unless_stale}
 use Rattle.flat_objects.specs.Memory.{Memory, IsMemory}
 use Rattle.flat_objects.specs.Standing.{IsAt, IsAddressOf}
 use Rattle.flat_objects.specs.Keeping.{KeepsAt, StandsAt}

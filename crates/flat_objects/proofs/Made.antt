@@ -17,7 +17,7 @@ use Rattle.byte_marks.specs.Marks.{ChangesOnly, HasMarks}
 use Rattle.count_table.specs.Table.{Table}
 use Rattle.delay_scopes.specs.Check.{no_scopes}
 use Rattle.delay_scopes.specs.Queue.{HasQueue, IsQueued, ScopesModel}
-use Rattle.object_meaning.specs.Making.{blank, heap_object}
+use Rattle.object_meaning.specs.objects.Making.{blank, heap_object}
 use Rattle.flat_objects.specs.Memory.{Memory, Range, Statics, Locals, Heap, IsMemory, IsForm, heap_of, pin_room}
 use Rattle.flat_objects.specs.Keeping.{Keeps, blocks_of}
 use Rattle.flat_objects.specs.Counting.{LeadsSomewhere, Tracks}

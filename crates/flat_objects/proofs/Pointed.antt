@@ -9,7 +9,7 @@ use Rattle.hs_base.specs.declared.values.Pointer.TheVariants as pointer
 use Rattle.hs_base.specs.Access.{with_object, with_pointer, slots_below}
 use Rattle.byte_memory.specs.Bytes.{word, put_word}
 use Rattle.hs_base.specs.Object.{Object, Standing, is_dead, no_object, object_at}
-use Rattle.object_meaning.specs.Making.{first_pointer}
+use Rattle.object_meaning.specs.objects.Making.{first_pointer}
 use Rattle.flat_objects.specs.Memory.{Memory, IsMemory}
 use Rattle.flat_objects.specs.Standing.{IsAddressOf}
 use Rattle.flat_objects.specs.Answering.{IsChanged}

@@ -6,7 +6,7 @@ use Rattle.hs_base.specs.declared.values.Pointer.{Pointer}
 use Rattle.hs_base.specs.declared.values.Pointer.TheVariants as pointer
 use Rattle.hs_base.specs.Access.{Refusal, copy, set_bytes}
 use Rattle.hs_base.specs.Object.{Object, object_at}
-use Rattle.object_meaning.specs.Memory.{copied}
+use Rattle.object_meaning.specs.objects.Memory.{copied}
 use Rattle.count_table.specs.Table.{Table}
 use Rattle.typed_copies.specs.declared.Ranged.{Ranged}
 use Rattle.typed_copies.specs.Copying.{Answers, HasRoom, IsCleared, IsCopied, IsRangeIn, bytes_after, slots_of, words_of}

@@ -10,8 +10,8 @@ use Rattle.hs_base.specs.declared.values.Pointer.TheVariants as pointer
 use Rattle.hs_base.specs.Access as access
 use Rattle.hs_base.specs.Access.{Place, ReadsDead, Refusal, Trapped, and_then, copy, copy_between, filled, if_so, may_set, overlaid, range_at, set_bytes, slots_below, slots_within, with_object}
 use Rattle.hs_base.specs.Object.{Object, no_object, object_at}
-use Rattle.object_meaning.specs.Memory.{copied, pointers_in_range}
-use Rattle.object_meaning.specs.Values.{is_stale}
+use Rattle.object_meaning.specs.objects.Memory.{copied, pointers_in_range}
+use Rattle.object_meaning.specs.objects.Values.{is_stale}
 use Rattle.adjusters.specs.ObjectSlots.{Element}
 use Rattle.typed_copies.specs.declared.Ranged.{Ranged}
 use Rattle.typed_copies.specs.Copying.{IsRangeIn, slots_of}

@@ -5,7 +5,7 @@ use Rattle.std.proofs.lemmas.Bool.{ne_eqb, cases_eq, lt-ltb, le-ltb}
 use Rattle.hs_base.specs.declared.values.Pointer.{Pointer}
 use Rattle.hs_base.specs.Access.{Refusal, and_then}
 use Rattle.hs_base.specs.Object.{Object}
-use Rattle.object_meaning.specs.Strings.{byte_behind, with_byte, string_from, byte_order, order_from}
+use Rattle.object_meaning.specs.objects.Strings.{byte_behind, with_byte, string_from, byte_order, order_from}
 
 -- how many bytes, after so many
 abbrev pub counted : ℕ → Result (List ℕ) Refusal → Result ℕ Refusal

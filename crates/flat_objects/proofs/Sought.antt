@@ -16,7 +16,7 @@ use Rattle.adjusters.specs.ObjectSlots.{Element, object_slots}
 use Rattle.heap_blocks.specs.declared.headers.Header.{Header}
 use Rattle.heap_blocks.specs.Heads.{header_at}
 use Rattle.heap_blocks.specs.Held.{HeapModel, Holds, address_of, has_address, owner_of}
-use Rattle.object_meaning.specs.Holding.{counted_inside, first_of, inside, inside_objects, inside_one, is_among}
+use Rattle.object_meaning.specs.objects.Holding.{counted_inside, first_of, inside, inside_objects, inside_one, is_among}
 use Rattle.flat_objects.specs.declared.holders.Holding.{Holding}
 use Rattle.flat_objects.specs.declared.holders.Storage.{Storage}
 use Rattle.flat_objects.specs.Memory.{Memory, Range, Statics, Locals, Heap, IsMemory, end_of, heap_of, range_of}

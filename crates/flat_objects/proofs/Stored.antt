@@ -14,7 +14,7 @@ use Rattle.hs_base.specs.Object.{Object, object_at}
 use Rattle.hs_base.proofs.NumberBytes.{length-bytes_of}
 use Rattle.byte_memory.proofs.Words.{word_1, word_same, word_before, word_past, part_before, part_past, part_inside, length-put_word}
 use Rattle.heap_blocks.specs.Bytes.{ChangesOnly}
-use Rattle.object_meaning.specs.Memory.{stored, stored_pointer}
+use Rattle.object_meaning.specs.objects.Memory.{stored, stored_pointer}
 use Rattle.flat_objects.specs.Memory.{Memory, IsMemory}
 use Rattle.flat_objects.specs.Standing.{IsThere, IsAddressOf}
 use Rattle.flat_objects.specs.Keeping.{Keeps, KeepsAt}

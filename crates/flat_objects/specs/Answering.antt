@@ -5,7 +5,7 @@ use Rattle.hs_base.specs.declared.values.Pointer.{Pointer}
 use Rattle.hs_base.specs.declared.values.Value.{Value}
 use Rattle.hs_base.specs.Access.{Refusal, Trapped, Place}
 use Rattle.hs_base.specs.Object.{Object}
-use Rattle.object_meaning.specs.Values.{number, address}
+use Rattle.object_meaning.specs.objects.Values.{number, address}
 use Rattle.flat_objects.specs.Memory.{Memory, Range}
 use Rattle.flat_objects.specs.Standing.{IsAddressOf}
 use Rattle.flat_objects.specs.Keeping.{Keeps, blocks_of}

@@ -3,7 +3,7 @@ use Rattle.std.specs.Prelude.{◌≡◌, ℕ, cond, nat_lt, List, Option, Some, 
 use Rattle.hs_base.specs.declared.ends.Holder.{Holder}
 use Rattle.hs_base.specs.Object as object
 use Rattle.hs_base.specs.Object.{Object, Sort, object_at}
-use Rattle.object_meaning.specs.Holding.{inside}
+use Rattle.object_meaning.specs.objects.Holding.{inside}
 use Rattle.flat_objects.specs.declared.holders.Holding.{Holding}
 use Rattle.flat_objects.specs.declared.holders.Storage.{Storage}
 use Rattle.flat_objects.specs.declared.holders.Storage.TheVariants as storage

@@ -5,7 +5,7 @@ use Rattle.hs_base.specs.declared.values.Pointer.{Pointer}
 use Rattle.hs_base.specs.declared.values.Pointer.TheVariants as pointer
 use Rattle.hs_base.specs.Access.{Refusal, range_at}
 use Rattle.hs_base.specs.Object.{Object, object_at}
-use Rattle.object_meaning.specs.Memory.{copied}
+use Rattle.object_meaning.specs.objects.Memory.{copied}
 use Rattle.typed_copies.specs.declared.Ranged.{Ranged}
 use Rattle.typed_copies.specs.Copying.{IsRangeIn}
 use Rattle.flat_objects.specs.Memory.{Memory}

@@ -4,7 +4,7 @@ use Rattle.hs_base.specs.declared.values.Pointer.TheVariants as pointer
 use Rattle.hs_base.specs.Access.{overlaid}
 use Rattle.hs_base.specs.Object.{Object, object_at}
 use Rattle.heap_blocks.specs.Bytes.{ChangesOnly}
-use Rattle.object_meaning.specs.Making.{first_pointer}
+use Rattle.object_meaning.specs.objects.Making.{first_pointer}
 use Rattle.flat_objects.specs.Memory.{Memory}
 use Rattle.flat_objects.specs.Standing.{IsThere}
 use Rattle.flat_objects.specs.Keeping.{Keeps}

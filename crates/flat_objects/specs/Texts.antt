@@ -3,7 +3,7 @@ use Rattle.std.specs.Prelude.{◌≡◌, ◌<◌, ◌≤◌, ℕ, List, length, 
 use Rattle.hs_base.specs.declared.values.Pointer.{Pointer}
 use Rattle.hs_base.specs.declared.values.Pointer.TheVariants as pointer
 use Rattle.hs_base.specs.Object.{Object, object_at}
-use Rattle.object_meaning.specs.Strings.{string_at}
+use Rattle.object_meaning.specs.objects.Strings.{string_at}
 use Rattle.flat_objects.specs.declared.finding.Found.{Found}
 use Rattle.flat_objects.specs.Memory.{Memory}
 use Rattle.flat_objects.specs.Standing.{IsThere}

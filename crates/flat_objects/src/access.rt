@@ -5,7 +5,7 @@ ghost use Rattle.hs_base.specs.Object.{Object};
 ghost use Rattle.hs_base.specs.Access.{access_integer, access_pointer};
 ghost use Rattle.hs_base.specs.Numbers.{low_bits, width};
 ghost use Rattle.byte_marks.specs.Marks.{AreBytes, IsSlotAt};
-ghost use Rattle.object_meaning.specs.Memory.{loaded, loaded_pointer, stored, stored_pointer};
+ghost use Rattle.object_meaning.specs.objects.Memory.{loaded, loaded_pointer, stored, stored_pointer};
 ghost use Rattle.flat_objects.specs.Memory.{SameFrame};
 ghost use Rattle.flat_objects.specs.Standing.{IsAddressOf};
 ghost use Rattle.flat_objects.specs.Keeping.{KeepsAt, IsKept};

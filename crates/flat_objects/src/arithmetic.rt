@@ -3,8 +3,8 @@
 ghost use Rattle.std.specs.Prelude.{◌≡◌, ◌+◌, ◌^◌, ◌<◌, ◌<ℤ◌, ◌*ℤ◌, ◌-ℤ◌, ℕ, ℤ, List, pos, neg_ℤ, int_div, IfSome};
 ghost use Rattle.hs_base.specs.Numbers.{wrapped};
 ghost use Rattle.hs_base.specs.Object.{Object};
-ghost use Rattle.object_meaning.specs.Arithmetic.{compared, difference, moved_by, offsets, ordered, pointers_compared, truth};
-ghost use Rattle.object_meaning.specs.Values.{number};
+ghost use Rattle.object_meaning.specs.objects.Arithmetic.{compared, difference, moved_by, offsets, ordered, pointers_compared, truth};
+ghost use Rattle.object_meaning.specs.objects.Values.{number};
 ghost use Rattle.flat_objects.specs.Standing.{IsAddressOf};
 ghost use Rattle.flat_objects.specs.Keeping.{KeepsAt, IsKept};
 ghost use Rattle.flat_objects.specs.Answering.{Answers, AnswersAddress, AnswersNumber};

@@ -3,7 +3,7 @@
 
 ghost use Rattle.std.specs.Prelude.{◌≡◌, ◌+◌, ◌<◌, ◌≤◌, ℕ, List, option_map, IfSome};
 ghost use Rattle.hs_base.specs.Object.{Object, object_at};
-ghost use Rattle.object_meaning.specs.Holding.{first_of, inside_objects};
+ghost use Rattle.object_meaning.specs.objects.Holding.{first_of, inside_objects};
 ghost use Rattle.flat_objects.specs.Counting.{AreQueued};
 ghost use Rattle.flat_objects.specs.Holders.{IsIn, IsKeptObject, IsSomeObject, holder_of, older, storage_of};
 ghost use Rattle.flat_objects.specs.Searching.{IsFirstSlot, IsHoldingAt, IsKeptSlots, IsSomeSlots};

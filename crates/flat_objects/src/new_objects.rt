@@ -5,7 +5,7 @@ ghost use Rattle.hs_base.specs.Object.{Object, Local};
 ghost use Rattle.c_types.specs.declared.layouts.Layout.{Layout};
 ghost use Rattle.adjusters.specs.ObjectSlots.{element_of};
 ghost use Rattle.heap_blocks.specs.Held.{address_of, fit_of};
-ghost use Rattle.object_meaning.specs.Making.{blank, heap_object};
+ghost use Rattle.object_meaning.specs.objects.Making.{blank, heap_object};
 ghost use Rattle.flat_objects.specs.Memory as memory;
 ghost use Rattle.flat_objects.specs.Memory.{SameFrame};
 ghost use Rattle.flat_objects.specs.Keeping.{Keeps, blocks_of};

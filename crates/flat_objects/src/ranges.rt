@@ -3,7 +3,7 @@
 ghost use Rattle.std.specs.Prelude.{◌≡◌, ◌+◌, ◌*◌, ◌<◌, ◌≤◌, ℕ, List, IfErr, IfOk};
 ghost use Rattle.hs_base.specs.Access.{set_bytes};
 ghost use Rattle.hs_base.specs.Object.{Object};
-ghost use Rattle.object_meaning.specs.Memory.{copied};
+ghost use Rattle.object_meaning.specs.objects.Memory.{copied};
 ghost use Rattle.typed_copies.specs.Copying.{IsInside};
 ghost use Rattle.flat_objects.specs.Memory.{SameFrame};
 ghost use Rattle.flat_objects.specs.Standing.{IsAddressOf};

@@ -6,7 +6,7 @@ ghost use Rattle.hs_base.specs.Access.{with_object, with_pointer};
 ghost use Rattle.c_types.specs.declared.layouts.Layout as layouts;
 ghost use Rattle.adjusters.specs.ObjectSlots.{element_of};
 ghost use Rattle.heap_blocks.specs.Held.{HasBounds, address_of, fit_of};
-ghost use Rattle.object_meaning.specs.Making.{blank};
+ghost use Rattle.object_meaning.specs.objects.Making.{blank};
 ghost use Rattle.flat_objects.specs.Memory as memory;
 ghost use Rattle.flat_objects.specs.Memory.{IsForm, SameFrame, pin_room};
 ghost use Rattle.flat_objects.specs.Keeping.{Keeps, blocks_of};

@@ -2,7 +2,7 @@
 
 ghost use Rattle.std.specs.Prelude.{◌≡◌, ◌+◌, ◌^◌, ◌≤◌, ℕ, List, slice_index};
 ghost use Rattle.hs_base.specs.Object.{Object};
-ghost use Rattle.object_meaning.specs.Strings.{byte_behind, order_of, room_at, string_at};
+ghost use Rattle.object_meaning.specs.objects.Strings.{byte_behind, order_of, room_at, string_at};
 ghost use Rattle.flat_objects.specs.Memory.{Memory};
 ghost use Rattle.flat_objects.specs.Standing.{IsAddressOf};
 ghost use Rattle.flat_objects.specs.Keeping.{KeepsAt, IsKept};

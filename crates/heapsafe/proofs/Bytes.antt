@@ -3,7 +3,7 @@ use Rattle.std.proofs.Common.{◌≡◌, ◌⊎◌, ◌≤◌, ◌<◌, ℕ, Lis
 use Rattle.std.specs.Prelude.{MatchBool}
 use Rattle.std.proofs.lemmas.Bool.{le-ltb, lt-ltb}
 use Rattle.flat_code.specs.WellFormed.{IsWellFormed}
-use Rattle.code_soundness.specs.Laws.{HoldsBytes}
+use Rattle.meaning_laws.specs.code.Laws.{HoldsBytes}
 use Rattle.code_file.specs.declared.file.CodeFile.{CodeFile}
 use Rattle.code_file.specs.CodeFile.{HasBytes, IsFileOf, IsRanged, IsRangedStatic}
 use Rattle.heapsafe.specs.declared.executing.Asked.{Asked}

@@ -11,7 +11,7 @@ use Rattle.hs_base.specs.Trace.{Event, Out, In, New, Gone, Enter, Leave, Ending,
 use Rattle.c_pre.specs.declared.answer.Opened.{Opened}
 use Rattle.core_tree.specs.declared.program.Core.{Core}
 use Rattle.flat_code.specs.declared.program.Code.{Code}
-use Rattle.code_meaning.specs.CodeMeaning.{meaning}
+use Rattle.object_meaning.specs.code.CodeMeaning.{meaning}
 use Rattle.meaning_run.specs.Meant.{StopsAtIn, Stopped, end_in}
 use Rattle.flat_machine.specs.Running.{RunAnswers, RunCounts, Whole, cut_of}
 use Rattle.heapsafe.specs.Shown.{Shown}

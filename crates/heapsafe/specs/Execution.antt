@@ -7,7 +7,7 @@ use Rattle.c_pre.specs.declared.answer.Opened.{Opened}
 use Rattle.core_tree.specs.declared.program.Core.{Core}
 use Rattle.flat_code.specs.declared.program.Code.{Code}
 use Rattle.flat_code.specs.WellFormed.{IsWellFormed}
-use Rattle.code_meaning.specs.CodeMeaning.{meaning}
+use Rattle.object_meaning.specs.code.CodeMeaning.{meaning}
 use Rattle.code_file.specs.declared.file.CodeFile.{CodeFile}
 use Rattle.code_file.specs.CodeFile.{HasBytes}
 use Rattle.compiled_file.specs.CompiledFile.{IsFileOfCore}

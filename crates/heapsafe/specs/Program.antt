@@ -9,7 +9,7 @@ use Rattle.hs_base.specs.Trace.{Event, In, bytes_in, bytes_out}
 use Rattle.hs_base.specs.Cut.{cut, ending_of}
 use Rattle.bad_free_report.specs.Report.{complaint}
 use Rattle.core_tree.specs.declared.program.Core.{Core}
-use Rattle.object_meaning.specs.Meaning.{meaning}
+use Rattle.object_meaning.specs.objects.Meaning.{meaning}
 use Rattle.meaning_run.specs.Meant.{end_in}
 use Rattle.flat_codegen.specs.Lasting.{cut_run}
 use Rattle.heapsafe.specs.declared.program.Way.{Way}

@@ -2,7 +2,7 @@
 
 ghost use Rattle.std.specs.Prelude.{◌≡◌, ◌⊎◌, ◌+◌, ◌<◌, ◌≤◌, ◌^◌, ⊤, ℕ, List, [], ◌∷◌, Some, None, IfOk};
 ghost use Rattle.code_file.specs.CodeFile.{HasBytes, IsFileOf, IsRanged};
-ghost use Rattle.code_soundness.specs.Laws.{HoldsBytes};
+ghost use Rattle.meaning_laws.specs.code.Laws.{HoldsBytes};
 ghost use Rattle.flat_code.specs.WellFormed.{IsWellFormed};
 ghost use Rattle.command_words.specs.Commands.{Execute};
 ghost use Rattle.heapsafe.specs.Execution.{AnswersBytes, AnswersCode, AnswersExecution, AnswersVerified, IsWithin, code_text};

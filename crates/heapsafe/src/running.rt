@@ -4,12 +4,12 @@
 //! it is known for every output.
 
 ghost use Rattle.std.specs.Prelude.{◌≡◌, ◌+◌, ◌<◌, ◌≤◌, ◌^◌, ℕ, List, [], None, Some, IfOk, OnErr};
-ghost use Rattle.code_soundness.specs.Laws.{HoldsBytes};
-ghost use Rattle.compiled_code.specs.Compiled.{IsCompiled};
-ghost use Rattle.compiled_code.specs.Sites.{AreAscending};
+ghost use Rattle.meaning_laws.specs.code.Laws.{HoldsBytes};
+ghost use Rattle.object_meaning.specs.compiled.Compiled.{IsCompiled};
+ghost use Rattle.object_meaning.specs.compiled.Sites.{AreAscending};
 ghost use Rattle.core_tree.specs.Sound.{IsSound};
 ghost use Rattle.core_tree.specs.declared.program.Core.{Core};
-ghost use Rattle.counted_meaning.specs.Pinning.{AreExact, Pins};
+ghost use Rattle.object_meaning.specs.counted.Pinning.{AreExact, Pins};
 ghost use Rattle.flat_code.specs.WellFormed.{IsWellFormed};
 ghost use Rattle.flat_codegen.specs.Lasting.{LeavesImage, MakesSteps};
 ghost use Rattle.flat_codegen.specs.Running.{RunAnswers};

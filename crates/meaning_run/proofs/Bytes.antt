@@ -4,12 +4,12 @@ use Rattle.std.proofs.lemmas.List.{append-nil, map-append}
 use Rattle.hs_base.specs.State.{State}
 use Rattle.hs_base.specs.Trace.{Out, bytes_out, bytes_in}
 use Rattle.hs_base.specs.Runs as runs
-use Rattle.object_meaning.specs.Going.{Next}
-use Rattle.object_meaning.specs.Builtins.{get_byte}
+use Rattle.object_meaning.specs.objects.Going.{Next}
+use Rattle.object_meaning.specs.objects.Builtins.{get_byte}
 use Rattle.meaning_run.specs.declared.halt.Halt.{Halt}
 use Rattle.meaning_run.specs.declared.halt.Halt.TheVariants as halt
 use Rattle.hs_base.specs.Access as access
-use Rattle.object_meaning.specs.Going.{stops_after, ended_by}
+use Rattle.object_meaning.specs.objects.Going.{stops_after, ended_by}
 use Rattle.meaning_state.specs.declared.refusal.Refusal.{Refusal}
 use Rattle.meaning_state.specs.declared.refusal.Refusal.TheVariants as refusal
 use Rattle.meaning_state.specs.Printing.{IsRefused}

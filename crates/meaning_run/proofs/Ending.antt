@@ -8,8 +8,8 @@ use Rattle.hs_base.specs.State.{State}
 use Rattle.hs_base.specs.Trace.{Escape}
 use Rattle.hs_base.specs.Freeing.{first_held, ended}
 use Rattle.core_tree.specs.declared.program.Core.{Core}
-use Rattle.object_meaning.specs.Going.{stops, with_objects}
-use Rattle.object_meaning.specs.Calls.{locals_of, running_locals, escapes, go_back, end_locals, give_back}
+use Rattle.object_meaning.specs.objects.Going.{stops, with_objects}
+use Rattle.object_meaning.specs.objects.Calls.{locals_of, running_locals, escapes, go_back, end_locals, give_back}
 use Rattle.meaning_run.specs.Leading.{with_input}
 
 pub within : (locals : List ℕ) (first count k : ℕ) → locals ≡ range_with_len first count → k < length locals → k < count

@@ -7,12 +7,12 @@ use Rattle.hs_base.specs.Access.{Refusal}
 use Rattle.hs_base.specs.Object.{Object, object_at}
 use Rattle.c_types.specs.declared.layouts.Layout.{Layout}
 use Rattle.core_tree.specs.declared.program.Core.{Core}
-use Rattle.object_meaning.specs.Values.{address, start_of}
-use Rattle.object_meaning.specs.Going.{onward, put, with_objects}
-use Rattle.object_meaning.specs.Making.{with_new}
-use Rattle.object_meaning.specs.Memory.{copied}
-use Rattle.object_meaning.specs.Scoping.{is_held, bury, decided, checked, in_scope}
-use Rattle.object_meaning.specs.Heap.{birth_of, enqueue, grown, grow_old}
+use Rattle.object_meaning.specs.objects.Values.{address, start_of}
+use Rattle.object_meaning.specs.objects.Going.{onward, put, with_objects}
+use Rattle.object_meaning.specs.objects.Making.{with_new}
+use Rattle.object_meaning.specs.objects.Memory.{copied}
+use Rattle.object_meaning.specs.objects.Scoping.{is_held, bury, decided, checked, in_scope}
+use Rattle.object_meaning.specs.objects.Heap.{birth_of, enqueue, grown, grow_old}
 use Rattle.meaning_state.specs.Fitting.{Held, held_after}
 use Rattle.meaning_run.specs.declared.halt.Halt.{Halt}
 use Rattle.meaning_run.specs.Leading.{with_input, IsSilent, AlonePlaced}

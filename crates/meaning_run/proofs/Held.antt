@@ -1,7 +1,7 @@
 -- Whether there is a holder.
 use Rattle.std.proofs.Common.{◌≡◌, List, [], ◌∷◌, ◌++◌, true, false, is_some, refl}
 use Rattle.hs_base.specs.declared.ends.Holder.{Holder}
-use Rattle.object_meaning.specs.Holding.{is_some_held, first_of}
+use Rattle.object_meaning.specs.objects.Holding.{is_some_held, first_of}
 
 pub held_is : (one : List Holder) → is_some_held one ≡ is_some (first_of one)
 held_is [] = refl

@@ -5,10 +5,10 @@ use Rattle.hs_base.specs.Access as access
 use Rattle.hs_base.specs.Numbers.{wrapped}
 use Rattle.hs_base.specs.State.{State}
 use Rattle.hs_base.specs.Trace.{Out}
-use Rattle.object_meaning.specs.Values.{number}
-use Rattle.object_meaning.specs.Going.{goes, stops_after, ended_by, write}
-use Rattle.object_meaning.specs.Printing as meant
-use Rattle.object_meaning.specs.Printing.{print}
+use Rattle.object_meaning.specs.objects.Values.{number}
+use Rattle.object_meaning.specs.objects.Going.{goes, stops_after, ended_by, write}
+use Rattle.object_meaning.specs.objects.Printing as meant
+use Rattle.object_meaning.specs.objects.Printing.{print}
 use Rattle.meaning_state.specs.declared.printing.Printed.{Printed}
 use Rattle.meaning_state.specs.declared.refusal.Refusal.{Refusal}
 use Rattle.meaning_state.specs.declared.refusal.Refusal.TheVariants as refusal

@@ -15,13 +15,13 @@ use Rattle.core_tree.specs.declared.statements.LibName.TheVariants as lib
 use Rattle.core_tree.specs.declared.statements.StmKind.{StmKind}
 use Rattle.core_tree.specs.declared.statements.StmKind.TheVariants as stm
 use Rattle.core_tree.specs.declared.program.Core.{Core}
-use Rattle.object_meaning.specs.Going.{Next, with_step, if_done, answers, changes, with_objects}
-use Rattle.object_meaning.specs.Values.{pointer_at}
-use Rattle.object_meaning.specs.Strings.{string_at}
-use Rattle.object_meaning.specs.Printing.{printed, print}
-use Rattle.object_meaning.specs.Builtins.{get_byte, put_line, filled, call_lib}
-use Rattle.object_meaning.specs.Calls.{running_locals, escapes, go_back, end_locals}
-use Rattle.object_meaning.specs.Meaning.{branch, returned, print_format, act}
+use Rattle.object_meaning.specs.objects.Going.{Next, with_step, if_done, answers, changes, with_objects}
+use Rattle.object_meaning.specs.objects.Values.{pointer_at}
+use Rattle.object_meaning.specs.objects.Strings.{string_at}
+use Rattle.object_meaning.specs.objects.Printing.{printed, print}
+use Rattle.object_meaning.specs.objects.Builtins.{get_byte, put_line, filled, call_lib}
+use Rattle.object_meaning.specs.objects.Calls.{running_locals, escapes, go_back, end_locals}
+use Rattle.object_meaning.specs.objects.Meaning.{branch, returned, print_format, act}
 use Rattle.meaning_state.specs.Fitting.{Held, held_after}
 use Rattle.meaning_run.specs.declared.halt.Halt.{Halt}
 use Rattle.meaning_run.specs.Leading.{IsValues, IsMemory, IsJump, events_of, Placed}

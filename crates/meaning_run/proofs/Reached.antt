@@ -11,10 +11,10 @@ use Rattle.hs_base.specs.Runs as runs
 use Rattle.hs_base.proofs.Running.{after_zero, after_more, after_stays}
 use Rattle.core_tree.specs.declared.program.Core.{Core}
 use Rattle.core_tree.specs.Sound.{IsSound}
-use Rattle.object_meaning.specs.Going.{Next}
-use Rattle.object_meaning.specs.Meaning.{Run, step, begun, meaning, enough, step_by}
-use Rattle.object_meaning.proofs.Falls.{meaning_is, ends}
-use Rattle.object_meaning.proofs.Forward.{all_forward}
+use Rattle.object_meaning.specs.objects.Going.{Next}
+use Rattle.object_meaning.specs.objects.Meaning.{Run, step, begun, meaning, enough, step_by}
+use Rattle.meaning_laws.proofs.dangling.Falls.{meaning_is, ends}
+use Rattle.meaning_laws.proofs.dangling.Forward.{all_forward}
 use Rattle.meaning_state.specs.Fitting.{Held, none_held, held_after, fits_in}
 use Rattle.meaning_run.specs.declared.halt.Halt.{Halt}
 use Rattle.meaning_run.specs.declared.halt.Halt.TheVariants as halt

@@ -19,17 +19,17 @@ use Rattle.core_tree.specs.declared.statements.Stm.{Stm}
 use Rattle.core_tree.specs.declared.program.Func.{Func}
 use Rattle.core_tree.specs.declared.program.Core.{Core}
 use Rattle.core_tree.specs.Sound.{IsSound, IsFunction, HasNumbers, element_layouts}
-use Rattle.object_meaning.specs.Going.{Next}
-use Rattle.object_meaning.specs.Holding.{statement_in, statement_at}
-use Rattle.object_meaning.specs.Meaning.{format_in, start, act, unless_reads_stale, act_at, enough, step_by}
-use Rattle.object_meaning.proofs.Falls.{Falls, step_by_falls}
-use Rattle.object_meaning.proofs.Forward.{all_forward}
-use Rattle.object_meaning.proofs.Frames.{Good}
-use Rattle.object_meaning.proofs.Operands.{operands_fresh}
-use Rattle.object_meaning.proofs.Standing.{Stays}
-use Rattle.object_meaning.proofs.Acting.{step_by_stays, found}
-use Rattle.object_meaning.proofs.Beginning.{begins}
-use Rattle.object_meaning.specs.Calls.{with_locals}
+use Rattle.object_meaning.specs.objects.Going.{Next}
+use Rattle.object_meaning.specs.objects.Holding.{statement_in, statement_at}
+use Rattle.object_meaning.specs.objects.Meaning.{format_in, start, act, unless_reads_stale, act_at, enough, step_by}
+use Rattle.meaning_laws.proofs.dangling.Falls.{Falls, step_by_falls}
+use Rattle.meaning_laws.proofs.dangling.Forward.{all_forward}
+use Rattle.meaning_laws.proofs.dangling.Frames.{Good}
+use Rattle.meaning_laws.proofs.dangling.Operands.{operands_fresh}
+use Rattle.meaning_laws.proofs.dangling.Standing.{Stays}
+use Rattle.meaning_laws.proofs.dangling.Acting.{step_by_stays, found}
+use Rattle.meaning_laws.proofs.dangling.Beginning.{begins}
+use Rattle.object_meaning.specs.objects.Calls.{with_locals}
 use Rattle.meaning_state.specs.Making.{IsElement}
 use Rattle.meaning_run.specs.declared.halt.Halt.{Halt}
 use Rattle.meaning_run.specs.declared.halt.Halt.TheVariants as halt

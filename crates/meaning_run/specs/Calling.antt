@@ -3,7 +3,7 @@ use Rattle.std.specs.Prelude.{◌∷◌, ℕ, List, length}
 use Rattle.hs_base.specs.declared.values.Value.{Value}
 use Rattle.hs_base.specs.State.{State}
 use Rattle.core_tree.specs.declared.program.Core.{Core}
-use Rattle.object_meaning.specs.Calls.{new_frame, with_locals}
+use Rattle.object_meaning.specs.objects.Calls.{new_frame, with_locals}
 
 -- the frame that calls waits, the new one runs, and its memory locals are made
 abbrev pub entered : Core → ℕ → List Value → State → State

@@ -3,7 +3,7 @@ use Rattle.std.specs.Prelude.{◌&&◌, not, ℕ, List, Option, slice_get}
 use Rattle.hs_base.specs.declared.ends.Holder.{Holder}
 use Rattle.hs_base.specs.declared.values.Value.{Value}
 use Rattle.core_tree.specs.declared.program.Core.{Core}
-use Rattle.object_meaning.specs.Holding.{is_live_in, takes_answer, in_registers}
+use Rattle.object_meaning.specs.objects.Holding.{is_live_in, takes_answer, in_registers}
 
 -- those that are live after a point of a function, but for the one that takes the answer of a call
 abbrev pub counted_registers : Core → ℕ → ℕ → Option ℕ → ℕ → List Value → List Holder

@@ -7,7 +7,7 @@ use Rattle.core_tree.specs.declared.statements.LibName.{LibName}
 use Rattle.core_tree.specs.declared.statements.LibName.TheVariants as lib
 use Rattle.core_tree.specs.declared.statements.StmKind.{StmKind}
 use Rattle.core_tree.specs.declared.statements.StmKind.TheVariants as stm
-use Rattle.object_meaning.specs.Going.{Next}
+use Rattle.object_meaning.specs.objects.Going.{Next}
 use Rattle.meaning_state.specs.Fitting.{Held, held_after}
 use Rattle.meaning_run.specs.declared.halt.Halt.{Halt}
 use Rattle.meaning_run.specs.declared.halt.Halt.TheVariants as halt

@@ -7,7 +7,7 @@ use Rattle.hs_base.specs.Place.{blocks_after}
 use Rattle.hs_base.specs.State.{State}
 use Rattle.hs_base.specs.Trace.{Event, In, Ending, bytes_out, bytes_in, end_of}
 use Rattle.core_tree.specs.declared.program.Core.{Core}
-use Rattle.object_meaning.specs.Meaning.{begun, meaning}
+use Rattle.object_meaning.specs.objects.Meaning.{begun, meaning}
 use Rattle.meaning_run.specs.declared.halt.Halt.{Halt}
 use Rattle.meaning_run.specs.declared.halt.Halt.TheVariants as halt
 use Rattle.meaning_run.specs.Leading.{with_input}

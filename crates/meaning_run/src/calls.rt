@@ -5,12 +5,12 @@ ghost use Rattle.std.specs.List.{range_with_len};
 ghost use Rattle.hs_base.specs.Freeing.{first_held, ended};
 ghost use Rattle.core_tree.specs.Sound.{main_of};
 ghost use Rattle.core_tree.specs.declared.program.Static.{Static};
-ghost use Rattle.object_meaning.specs.Values.{first_value};
-ghost use Rattle.object_meaning.specs.Going.{with_step, with_objects};
-ghost use Rattle.object_meaning.specs.Making.{local_objects};
-ghost use Rattle.object_meaning.specs.Builtins.{byte_in};
-ghost use Rattle.object_meaning.specs.Calls.{registers_of, locals_of, running_locals, new_frame, with_locals, call, escapes, go_back, give_back};
-ghost use Rattle.object_meaning.specs.Meaning.{act, returned, start, values_of};
+ghost use Rattle.object_meaning.specs.objects.Values.{first_value};
+ghost use Rattle.object_meaning.specs.objects.Going.{with_step, with_objects};
+ghost use Rattle.object_meaning.specs.objects.Making.{local_objects};
+ghost use Rattle.object_meaning.specs.objects.Builtins.{byte_in};
+ghost use Rattle.object_meaning.specs.objects.Calls.{registers_of, locals_of, running_locals, new_frame, with_locals, call, escapes, go_back, give_back};
+ghost use Rattle.object_meaning.specs.objects.Meaning.{act, returned, start, values_of};
 ghost use Rattle.meaning_run.specs.Leading.{Alone, IsJump, with_input};
 ghost use Rattle.meaning_run.specs.Calling.{entered};
 

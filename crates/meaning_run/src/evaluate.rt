@@ -2,8 +2,8 @@
 
 ghost use Rattle.std.specs.Prelude.{◌≡◌, ◌≢◌, ◌+◌, ◌<◌, ◌≤◌, ◌^◌, ℕ, List, [], All, IfOk, Some};
 ghost use Rattle.core_tree.specs.Sound.{IsSound, HasNumbers, element_layouts, is_main, main_of};
-ghost use Rattle.object_meaning.specs.Meaning.{act, step_by};
-ghost use Rattle.object_meaning.proofs.Frames.{Good};
+ghost use Rattle.object_meaning.specs.objects.Meaning.{act, step_by};
+ghost use Rattle.meaning_laws.proofs.dangling.Frames.{Good};
 ghost use Rattle.meaning_state.specs.Fitting.{fits_in};
 ghost use Rattle.meaning_state.specs.Making.{IsElement};
 ghost use Rattle.meaning_run.specs.Leading.{AlonePlaced, Placed, Moves, Seen, Counted, with_input};

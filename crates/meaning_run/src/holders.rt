@@ -2,9 +2,9 @@
 
 ghost use Rattle.std.specs.Prelude.{◌≡◌, ◌+◌, ◌<◌, ◌^◌, ◌&&◌, not, IfOk, length, slice_get};
 ghost use Rattle.hs_base.specs.Freeing.{is_pointer_to};
-ghost use Rattle.object_meaning.specs.Values.{pointer_in};
+ghost use Rattle.object_meaning.specs.objects.Values.{pointer_in};
 ghost use Rattle.meaning_run.specs.Holding.{counted_registers};
-ghost use Rattle.object_meaning.specs.Holding.{is_live_in, takes_answer, answer_register, statement_in, in_running, in_waiting, in_all_waiting, holders, first_of};
+ghost use Rattle.object_meaning.specs.objects.Holding.{is_live_in, takes_answer, answer_register, statement_in, in_running, in_waiting, in_all_waiting, holders, first_of};
 
 use crate::machine::{Frame, Machine, statement_in};
 use core_tree::Core;

@@ -4,12 +4,12 @@ ghost use Rattle.std.specs.Prelude.{◌≡◌, ◌+◌, ◌<◌, ◌^◌, ℕ, p
 ghost use Rattle.hs_base.specs.Access as access;
 ghost use Rattle.hs_base.specs.Access.{and_then, set_bytes};
 ghost use Rattle.hs_base.specs.Trace.{Out};
-ghost use Rattle.object_meaning.specs.Values.{number, number_at, pointer_at, size_in};
-ghost use Rattle.object_meaning.specs.Memory.{copied};
-ghost use Rattle.object_meaning.specs.Strings.{string_at, order_of};
-ghost use Rattle.object_meaning.specs.Builtins.{byte_in, call_lib, filled, get_byte, put_line};
-ghost use Rattle.object_meaning.specs.Going.{goes, stops_after, ended_by, if_done, answers, write};
-ghost use Rattle.object_meaning.specs.Meaning.{values_of};
+ghost use Rattle.object_meaning.specs.objects.Values.{number, number_at, pointer_at, size_in};
+ghost use Rattle.object_meaning.specs.objects.Memory.{copied};
+ghost use Rattle.object_meaning.specs.objects.Strings.{string_at, order_of};
+ghost use Rattle.object_meaning.specs.objects.Builtins.{byte_in, call_lib, filled, get_byte, put_line};
+ghost use Rattle.object_meaning.specs.objects.Going.{goes, stops_after, ended_by, if_done, answers, write};
+ghost use Rattle.object_meaning.specs.objects.Meaning.{values_of};
 ghost use Rattle.meaning_state.specs.Printing.{IsRefused};
 ghost use Rattle.meaning_state.specs.Refusing.{Answers};
 ghost use Rattle.meaning_run.specs.Leading.{Alone, IsAloneLib, Moves, Seen, Counted, with_input};

@@ -1,10 +1,10 @@
 //! The state of a run, but for its input.
 
 ghost use Rattle.std.specs.Prelude.{◌≡◌, ◌+◌, ◌<◌, ◌^◌, IfOk, IfSome, IsTrue, false, option_copied, slice_get};
-ghost use Rattle.object_meaning.specs.Values.{value_of, number_of, pointer_of};
-ghost use Rattle.object_meaning.specs.Going.{at_point, onward, put, write};
-ghost use Rattle.object_meaning.specs.Holding.{statement_in, statement_at};
-ghost use Rattle.object_meaning.specs.Meaning.{values_of};
+ghost use Rattle.object_meaning.specs.objects.Values.{value_of, number_of, pointer_of};
+ghost use Rattle.object_meaning.specs.objects.Going.{at_point, onward, put, write};
+ghost use Rattle.object_meaning.specs.objects.Holding.{statement_in, statement_at};
+ghost use Rattle.object_meaning.specs.objects.Meaning.{values_of};
 
 use core_tree::{Atom, Core, Stm};
 use hs_base::{NoMemory, Pointer, Value};

@@ -3,10 +3,10 @@
 ghost use Rattle.std.specs.Prelude.{◌≡◌, ◌+◌, ◌<◌, ◌^◌, ℕ, Bool, List};
 ghost use Rattle.core_tree.specs.declared.program.Core.{Core as Program};
 ghost use Rattle.hs_base.specs.Access.{set_bytes};
-ghost use Rattle.object_meaning.specs.Values.{number_of, pointer_of, bytes_in};
-ghost use Rattle.object_meaning.specs.Going.{answers, changes};
-ghost use Rattle.object_meaning.specs.Memory.{loaded, loaded_pointer, stored, stored_pointer, copied};
-ghost use Rattle.object_meaning.specs.Meaning.{act};
+ghost use Rattle.object_meaning.specs.objects.Values.{number_of, pointer_of, bytes_in};
+ghost use Rattle.object_meaning.specs.objects.Going.{answers, changes};
+ghost use Rattle.object_meaning.specs.objects.Memory.{loaded, loaded_pointer, stored, stored_pointer, copied};
+ghost use Rattle.object_meaning.specs.objects.Meaning.{act};
 ghost use Rattle.meaning_run.specs.Leading.{Alone, IsMemory, with_input};
 
 use crate::halt::{Halt, halt_of};

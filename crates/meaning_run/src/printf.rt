@@ -3,11 +3,11 @@
 ghost use Rattle.std.specs.Prelude.{◌≡◌, ◌+◌, ◌<◌, ◌^◌, ℕ, List, All, IfOk, Some, [], pos, length, slice_get, slice_index_or};
 ghost use Rattle.c_print.specs.Format.{IsFormat, IsGiven};
 ghost use Rattle.c_print.specs.Pieces.{pieces_of};
-ghost use Rattle.object_meaning.specs.Printing as meant;
+ghost use Rattle.object_meaning.specs.objects.Printing as meant;
 ghost use Rattle.hs_base.specs.Numbers.{wrapped};
-ghost use Rattle.object_meaning.specs.Values.{number};
-ghost use Rattle.object_meaning.specs.Printing.{print, printed};
-ghost use Rattle.object_meaning.specs.Meaning.{format_in, print_format, values_of};
+ghost use Rattle.object_meaning.specs.objects.Values.{number};
+ghost use Rattle.object_meaning.specs.objects.Printing.{print, printed};
+ghost use Rattle.object_meaning.specs.objects.Meaning.{format_in, print_format, values_of};
 ghost use Rattle.meaning_state.specs.Printing.{Prints};
 ghost use Rattle.meaning_run.specs.Leading.{Moves, Seen, Counted, with_input};
 

@@ -5,8 +5,8 @@ ghost use Rattle.hs_base.specs.Freeing.{first_held};
 ghost use Rattle.hs_base.specs.State as state;
 ghost use Rattle.hs_base.specs.Trace.{Event};
 ghost use Rattle.meaning_state.specs.Fitting.{Held, held_after};
-ghost use Rattle.object_meaning.specs.Holding.{holders, first_of};
-ghost use Rattle.object_meaning.specs.Scoping.{is_held, bury, checked, in_scope, enter, leave};
+ghost use Rattle.object_meaning.specs.objects.Holding.{holders, first_of};
+ghost use Rattle.object_meaning.specs.objects.Scoping.{is_held, bury, checked, in_scope, enter, leave};
 ghost use Rattle.meaning_run.specs.Leading.{Alone, AlonePlaced, IsSilent, with_input};
 
 use crate::halt::Halt;

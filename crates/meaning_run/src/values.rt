@@ -3,10 +3,10 @@
 ghost use Rattle.std.specs.Prelude.{◌≡◌, ◌+◌, ◌<◌, ◌^◌, ◌<ℤ◌, ◌*ℤ◌, pos, neg_ℤ, ℕ, Bool, List};
 ghost use Rattle.core_tree.specs.declared.program.Core.{Core as Program};
 ghost use Rattle.core_tree.specs.Sound.{HasNumbers};
-ghost use Rattle.object_meaning.specs.Values.{number_of, pointer_of};
-ghost use Rattle.object_meaning.specs.Going.{answers};
-ghost use Rattle.object_meaning.specs.Arithmetic.{on_two, moved_by, difference, pointers_compared};
-ghost use Rattle.object_meaning.specs.Meaning.{act, is_null};
+ghost use Rattle.object_meaning.specs.objects.Values.{number_of, pointer_of};
+ghost use Rattle.object_meaning.specs.objects.Going.{answers};
+ghost use Rattle.object_meaning.specs.objects.Arithmetic.{on_two, moved_by, difference, pointers_compared};
+ghost use Rattle.object_meaning.specs.objects.Meaning.{act, is_null};
 ghost use Rattle.meaning_run.specs.Leading.{Alone, IsValues, with_input};
 
 use crate::halt::{Halt, halt_of};

@@ -11,7 +11,7 @@ use Rattle.hs_base.specs.declared.values.Pointer.{Pointer}
 use Rattle.hs_base.specs.declared.values.Pointer.TheVariants as pointer
 use Rattle.hs_base.specs.Access.{Refusal, Trapped}
 use Rattle.hs_base.specs.Object.{Object, object_at}
-use Rattle.object_meaning.specs.Arithmetic.{is_zero, within_object, moved_by}
+use Rattle.object_meaning.specs.objects.Arithmetic.{is_zero, within_object, moved_by}
 use Rattle.meaning_state.specs.Reaching.{IsFar}
 
 -- a place below an object or behind it

@@ -3,7 +3,7 @@ use Rattle.std.proofs.Common.{◌≡◌, ℕ, suc, ◌+◌, ◌<◌, List, [], �
 use Rattle.std.specs.List.{enumerate_from, flat_map, filter}
 use Rattle.std.proofs.Math.Seq.{drop-cons}
 use Rattle.hs_base.specs.declared.ends.Holder.{Holder}
-use Rattle.object_meaning.specs.Holding.{first_of}
+use Rattle.object_meaning.specs.objects.Holding.{first_of}
 
 -- the rest from a place on
 from_at : {X : Type 0} (xs : List X) (i : ℕ) (x : X) → i < length xs → x ≡ get_or xs i x → enumerate_from i (drop i xs) ≡ (i, x) ∷ enumerate_from (i + 1) (drop (i + 1) xs)

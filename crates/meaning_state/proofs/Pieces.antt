@@ -7,8 +7,8 @@ use Rattle.hs_base.specs.Access.{Refusal}
 use Rattle.hs_base.specs.Object.{Object}
 use Rattle.c_print.specs.declared.piece.Piece.{Piece}
 use Rattle.c_print.specs.declared.piece.Piece.TheVariants.{Plain, Item}
-use Rattle.object_meaning.specs.Values.{number}
-use Rattle.object_meaning.specs.Printing.{Printed, item_text, arguments_behind, in_front, printed}
+use Rattle.object_meaning.specs.objects.Values.{number}
+use Rattle.object_meaning.specs.objects.Printing.{Printed, item_text, arguments_behind, in_front, printed}
 use Rattle.meaning_state.specs.declared.printing.Printed as code
 use Rattle.meaning_state.specs.declared.refusal.Refusal as declared
 use Rattle.meaning_state.specs.Printing.{IsRefused, Prints}

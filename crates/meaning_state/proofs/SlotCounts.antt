@@ -6,7 +6,7 @@ use Rattle.std.proofs.lemmas.Bool.{and_parts}
 use Rattle.hs_base.specs.declared.values.Pointer.{Pointer}
 use Rattle.hs_base.specs.declared.values.Pointer.TheVariants as pointer
 use Rattle.hs_base.specs.Object.{Object, object_at}
-use Rattle.object_meaning.specs.Memory.{copied}
+use Rattle.object_meaning.specs.objects.Memory.{copied}
 use Rattle.hs_base.specs.Access.{slots_below, slots_within, distances, same_numbers}
 
 -- no slot is below an offset and within bytes from there

@@ -7,7 +7,7 @@ use Rattle.hs_base.specs.declared.ends.TrapKind.TheVariants as trap
 use Rattle.hs_base.specs.declared.values.Pointer.{Pointer}
 use Rattle.hs_base.specs.Access.{Refusal, Trapped, and_then}
 use Rattle.hs_base.specs.Object.{Object}
-use Rattle.object_meaning.specs.Strings.{byte_behind, with_byte, string_from, string_at, room_at, byte_order, order_from, order_of}
+use Rattle.object_meaning.specs.objects.Strings.{byte_behind, with_byte, string_from, string_at, room_at, byte_order, order_from, order_of}
 
 -- a text in front of what is read
 abbrev pub in_front : List ℕ → Result (List ℕ) Refusal → Result (List ℕ) Refusal

@@ -5,7 +5,7 @@ use Rattle.hs_base.specs.Numbers.{wrapped}
 use Rattle.c_print.specs.declared.piece.Piece.{Piece}
 use Rattle.c_print.specs.declared.piece.Piece.TheVariants.{Plain, Item}
 use Rattle.c_print.specs.Print.{item_bytes}
-use Rattle.object_meaning.specs.Printing as meant
+use Rattle.object_meaning.specs.objects.Printing as meant
 use Rattle.meaning_state.specs.declared.refusal.Refusal.{Refusal}
 use Rattle.meaning_state.specs.declared.refusal.Refusal.TheVariants.{Trapped, ReadsDead, NoMemory}
 use Rattle.meaning_state.specs.declared.printing.Printed.{Printed}

@@ -4,8 +4,8 @@ use Rattle.std.specs.List.{list_any}
 use Rattle.hs_base.specs.declared.values.Pointer.TheVariants as pointer
 use Rattle.hs_base.specs.Access as access
 use Rattle.hs_base.specs.Access.{ReadsDead, and_then, if_so, copy_between}
-use Rattle.object_meaning.specs.Values.{is_stale}
-use Rattle.object_meaning.specs.Memory.{pointers_in_range}
+use Rattle.object_meaning.specs.objects.Values.{is_stale}
+use Rattle.object_meaning.specs.objects.Memory.{pointers_in_range}
 use Rattle.hs_base.specs.Object.{Object, object_at}
 use Rattle.meaning_state.specs.declared.object.Place.{Place}
 use Rattle.meaning_state.specs.declared.refusal.Refusal.{Refusal}

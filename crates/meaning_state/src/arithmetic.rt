@@ -1,8 +1,8 @@
 //! Integers and pointers as operands: values in, values out (C99 6.3.1.3, 6.5.3.3, 6.5.5 to 6.5.12).
 
 ghost use Rattle.std.specs.Prelude.{◌≡◌, ◌≢◌, ◌+ℤ◌, ◌-ℤ◌, ◌*ℤ◌, pos, neg_ℤ};
-ghost use Rattle.object_meaning.specs.Values.{number_in, pointer_in, size_in, bytes_in};
-ghost use Rattle.object_meaning.specs.Arithmetic.{on_one, on_two, or_traps, truth, compared, within_object, difference, offsets, same_pointer, ordered, pointers_compared};
+ghost use Rattle.object_meaning.specs.objects.Values.{number_in, pointer_in, size_in, bytes_in};
+ghost use Rattle.object_meaning.specs.objects.Arithmetic.{on_one, on_two, or_traps, truth, compared, within_object, difference, offsets, same_pointer, ordered, pointers_compared};
 ghost use Rattle.meaning_state.specs.Refusing.{Answers};
 
 use crate::refusal::Refusal;

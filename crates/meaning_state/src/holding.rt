@@ -3,7 +3,7 @@
 ghost use Rattle.std.specs.Prelude.{◌≡◌, ◌||◌, cond, []};
 ghost use Rattle.hs_base.specs.Object.{is_dead};
 ghost use Rattle.hs_base.specs.Freeing.{is_pointer_to};
-ghost use Rattle.object_meaning.specs.Holding.{is_among, inside, inside_one, inside_objects, first_of};
+ghost use Rattle.object_meaning.specs.objects.Holding.{is_among, inside, inside_one, inside_objects, first_of};
 ghost use Rattle.meaning_state.specs.Kinds.{sort_of};
 
 use crate::object::{Object, Sort};

@@ -3,7 +3,7 @@
 ghost use Rattle.std.specs.Prelude.{◌≡◌, ◌+◌, ◌*◌, ◌<◌, ◌≤◌, ◌^◌, ◌++◌, ◌∷◌, [], IfOk, All, length, map};
 ghost use Rattle.std.specs.List.{enumerate_from};
 ghost use Rattle.c_types.specs.Layouts.{AreSlots, moved, array_layout};
-ghost use Rattle.object_meaning.specs.Making.{blank, heap_object, local_object, local_objects, first_pointer, static_object, static_objects};
+ghost use Rattle.object_meaning.specs.objects.Making.{blank, heap_object, local_object, local_objects, first_pointer, static_object, static_objects};
 ghost use Rattle.meaning_state.specs.Kinds.{sort_of};
 ghost use Rattle.meaning_state.specs.Making.{IsElement};
 

@@ -3,8 +3,8 @@
 ghost use Rattle.std.specs.Prelude.{◌≡◌, ◌+◌, ◌<◌, ◌≤◌, IfOk, length};
 ghost use Rattle.hs_base.specs.Object.{object_at};
 ghost use Rattle.hs_base.specs.Access.{access_integer, access_pointer};
-ghost use Rattle.object_meaning.specs.Values.{is_stale};
-ghost use Rattle.object_meaning.specs.Memory.{loaded, loaded_pointer, stored, stored_pointer};
+ghost use Rattle.object_meaning.specs.objects.Values.{is_stale};
+ghost use Rattle.object_meaning.specs.objects.Memory.{loaded, loaded_pointer, stored, stored_pointer};
 ghost use Rattle.meaning_state.specs.Refusing.{Answers, Changes};
 ghost use Rattle.meaning_state.specs.Reaching.{Reaches, IsInside};
 

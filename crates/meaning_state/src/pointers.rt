@@ -1,7 +1,7 @@
 //! Pointers as operands. One stays within its object, from its start to one past its end (C99 6.5.6, 6.5.8, 6.5.9).
 
 ghost use Rattle.std.specs.Prelude.{◌≡◌, ◌<ℤ◌, ◌*ℤ◌, ℤ, [], pos, neg_ℤ};
-ghost use Rattle.object_meaning.specs.Arithmetic.{within_object, moved_by, difference, offsets, same_pointer, ordered, pointers_compared};
+ghost use Rattle.object_meaning.specs.objects.Arithmetic.{within_object, moved_by, difference, offsets, same_pointer, ordered, pointers_compared};
 ghost use Rattle.meaning_state.specs.Refusing.{Answers};
 ghost use Rattle.meaning_state.specs.Reaching.{IsFar};
 

@@ -7,8 +7,8 @@ ghost use Rattle.hs_base.specs.declared.values.Value as spec;
 ghost use Rattle.meaning_state.specs.Printing.{piece_text, PrintsNoString, Adds, Prints};
 ghost use Rattle.c_print.specs.Print.{field};
 ghost use Rattle.c_print.specs.Format.{IsGiven};
-ghost use Rattle.object_meaning.specs.Values.{number};
-ghost use Rattle.object_meaning.specs.Printing.{item_text, arguments_behind, printed};
+ghost use Rattle.object_meaning.specs.objects.Values.{number};
+ghost use Rattle.object_meaning.specs.objects.Printing.{item_text, arguments_behind, printed};
 
 use crate::arithmetic::{number, pointer};
 use crate::objects::Objects;

@@ -3,8 +3,8 @@
 ghost use Rattle.std.specs.Prelude.{◌≡◌, ◌<◌, ◌^◌, IfOk};
 ghost use Rattle.std.specs.List.{list_any};
 ghost use Rattle.hs_base.specs.Access.{range_at, set_bytes};
-ghost use Rattle.object_meaning.specs.Values.{is_stale};
-ghost use Rattle.object_meaning.specs.Memory.{copied};
+ghost use Rattle.object_meaning.specs.objects.Values.{is_stale};
+ghost use Rattle.object_meaning.specs.objects.Memory.{copied};
 ghost use Rattle.meaning_state.specs.Refusing.{Changes};
 ghost use Rattle.meaning_state.specs.Reaching.{Reaches, IsInside, place_of, copied_between};
 

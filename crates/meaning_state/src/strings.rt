@@ -1,7 +1,7 @@
 //! Strings, which are read byte by byte (C99 7.21.4.2, 7.21.6.3).
 
 ghost use Rattle.std.specs.Prelude.{◌≡◌, ◌≤◌, ◌^◌, ℕ, List, Ok};
-ghost use Rattle.object_meaning.specs.Strings.{byte_behind, room_at, string_at, order_of};
+ghost use Rattle.object_meaning.specs.objects.Strings.{byte_behind, room_at, string_at, order_of};
 ghost use Rattle.meaning_state.specs.Refusing.{Answers};
 
 use crate::objects::Objects;

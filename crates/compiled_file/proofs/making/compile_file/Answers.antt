@@ -2,7 +2,7 @@ use Rattle.std.proofs.Common.{◌≡◌, ◌≤◌, ◌+◌, ◌*◌, length, su
 use Rattle.std.specs.List.{sum_by}
 use Rattle.core_tree.specs.declared.program.Core.{Core}
 use Rattle.core_tree.specs.Sound.{code_size}
-use Rattle.compiled_code.specs.Compiled.{IsCompiled}
+use Rattle.object_meaning.specs.compiled.Compiled.{IsCompiled}
 use Rattle.compiled_file.proofs.Writable.{writable}
 use Rattle.compiled_file.proofs.making.compile_file.Goals as goal
 

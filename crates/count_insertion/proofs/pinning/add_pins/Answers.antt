@@ -1,6 +1,6 @@
 use Rattle.std.proofs.Common.{◌≡◌, true, false, [], ◌∷◌, ◌++◌, Vec, Global, length, sym, ap, ◌∙◌}
-use Rattle.counted_meaning.specs.declared.pins.Pin.{Pin}
-use Rattle.counted_meaning.specs.Pinning.{counts_at}
+use Rattle.object_meaning.specs.declared.pins.Pin.{Pin}
+use Rattle.object_meaning.specs.counted.Pinning.{counts_at}
 use Rattle.count_insertion.specs.Inserted.{pin_of}
 use Rattle.count_insertion.proofs.Listing.{no_pins, pin_more, pin_none}
 use Rattle.count_insertion.proofs.pinning.add_pins.Goals as goal

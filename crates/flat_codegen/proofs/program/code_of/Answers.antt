@@ -5,7 +5,7 @@ use Rattle.core_tree.specs.declared.program.Static.{Static}
 use Rattle.core_tree.specs.Sound.{EachStatement, HasNumbers}
 use Rattle.count_insertion.specs.Inserted.{func_pins}
 use Rattle.flat_codegen.specs.Emitting.{with_instrs}
-use Rattle.code_soundness.specs.Laws.{HoldsBytes}
+use Rattle.meaning_laws.specs.code.Laws.{HoldsBytes}
 use Rattle.flat_codegen.proofs.Bytes.{bytes_hold}
 use Rattle.flat_codegen.proofs.Closing.{walked, are_short, main_inside, all_numbers}
 use Rattle.flat_codegen.proofs.program.code_of.Goals as goal

@@ -7,12 +7,12 @@ use Rattle.flat_code.specs.declared.program.Code.{Code}
 use Rattle.flat_code.specs.WellFormed.{AreShort, IsWellFormed}
 use Rattle.hs_base.specs.declared.items.NoMemory.{NoMemory}
 use Rattle.hs_base.specs.Trace.{Event, Ending}
-use Rattle.counted_meaning.specs.CountedMeaning.{meaning as core_meaning}
-use Rattle.code_meaning.specs.CodeMeaning.{meaning as code_meaning}
-use Rattle.compiled_code.specs.Compiled.{IsCompiled}
-use Rattle.compiled_form.proofs.Lengths.{few_instructions}
-use Rattle.compiled_meaning.specs.SameRun.{SameRun}
-use Rattle.compiled_meaning.specs.Testing.{tested_core, tested_code}
+use Rattle.object_meaning.specs.counted.CountedMeaning.{meaning as core_meaning}
+use Rattle.object_meaning.specs.code.CodeMeaning.{meaning as code_meaning}
+use Rattle.object_meaning.specs.compiled.Compiled.{IsCompiled}
+use Rattle.meaning_laws.proofs.form.Lengths.{few_instructions}
+use Rattle.meaning_laws.specs.compiled.SameRun.{SameRun}
+use Rattle.meaning_laws.specs.compiled.Testing.{tested_core, tested_code}
 use Rattle.flat_codegen.proofs.program.compile.Goals as goal
 
 -- what follows for each code follows for one that may not be there

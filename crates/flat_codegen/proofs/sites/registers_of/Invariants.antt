@@ -1,5 +1,5 @@
 use Rattle.std.proofs.Common.{◌≡◌, map, take}
-use Rattle.counted_meaning.specs.declared.pins.Pin.{Pin}
+use Rattle.object_meaning.specs.declared.pins.Pin.{Pin}
 use Rattle.flat_codegen.proofs.sites.registers_of.Given as goal
 
 abbrev pub invariant-loop-pin : goal.invariant-loop-pin

@@ -1,6 +1,6 @@
 use Rattle.std.proofs.Common.{take}
 use Rattle.std.specs.Prelude.{All}
-use Rattle.code_soundness.specs.Objects.{IsByte}
+use Rattle.meaning_laws.specs.code.Objects.{IsByte}
 use Rattle.flat_code.specs.declared.program.StaticInit.{StaticInit}
 use Rattle.flat_codegen.specs.Statics.{AreInits}
 use Rattle.flat_codegen.proofs.statics.inits.Given as goal

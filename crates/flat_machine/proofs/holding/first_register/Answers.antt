@@ -1,6 +1,6 @@
 use Rattle.std.proofs.Common.{ap, arith, get_or, sym, ◌∙◌}
 use Rattle.hs_base.specs.Freeing.{is_pointer_to}
-use Rattle.counted_meaning.specs.Pinning.{pointer_of_register}
+use Rattle.object_meaning.specs.counted.Pinning.{pointer_of_register}
 use Rattle.flat_machine.specs.Kept.{call_number}
 use Rattle.flat_machine.specs.Words.{address_in}
 use Rattle.flat_machine.proofs.Holders.{find_first, find_none, more_none, pointer_kept, start_kept}

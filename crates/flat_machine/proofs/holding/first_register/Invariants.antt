@@ -2,7 +2,7 @@ use Rattle.std.proofs.Common.{◌≡◌, ◌<◌, ℕ, List, false, get_or}
 use Rattle.hs_base.specs.Freeing.{is_pointer_to}
 use Rattle.hs_base.specs.Object.{Object}
 use Rattle.hs_base.specs.State.{Frame as Situation}
-use Rattle.counted_meaning.specs.Pinning.{pointer_of_register}
+use Rattle.object_meaning.specs.counted.Pinning.{pointer_of_register}
 use Rattle.flat_machine.specs.Kept.{call_number}
 use Rattle.flat_machine.specs.Holding.{HoldsIn}
 use Rattle.flat_machine.proofs.holding.first_register.Given as goal

@@ -1,5 +1,5 @@
 use Rattle.std.proofs.Common.{◌∙◌}
-use Rattle.object_meaning.specs.Values.{start_of}
+use Rattle.object_meaning.specs.objects.Values.{start_of}
 use Rattle.flat_machine.proofs.Holders.{distance_is, start_stands}
 use Rattle.flat_machine.proofs.holding.leads_to.Goals as goal
 

@@ -1,7 +1,7 @@
 use Rattle.std.proofs.Common.{suc, ◌≡◌, ◌^◌, ◌<◌, ◌≤◌, [], arith, ap, subst, sym, ◌∙◌}
 use Rattle.std.specs.Prelude.{Some}
 use Rattle.flat_code.specs.declared.program.Entry.{Entry}
-use Rattle.code_meaning.specs.Entering.{cost_of}
+use Rattle.object_meaning.specs.code.Entering.{cost_of}
 use Rattle.flat_machine.specs.Kept.{Kept, taken_by}
 use Rattle.flat_objects.specs.Leaks.{KeepsSome}
 use Rattle.flat_machine.proofs.Stepped.{cost_is, no_cost}

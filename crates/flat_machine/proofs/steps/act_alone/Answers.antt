@@ -1,8 +1,8 @@
 use Rattle.std.proofs.Common.{Ok, pos, get_or, refl, rules, sym, subst, ◌∙◌}
 use Rattle.flat_code.specs.declared.instructions.Op.{Op}
 use Rattle.flat_code.specs.declared.instructions.Op.TheVariants as op
-use Rattle.code_meaning.specs.Entering.{layout_in}
-use Rattle.object_meaning.specs.Values.{number}
+use Rattle.object_meaning.specs.code.Entering.{layout_in}
+use Rattle.object_meaning.specs.objects.Values.{number}
 use Rattle.flat_objects.specs.Standing.{StandsFor}
 use Rattle.flat_machine.specs.Groups.{IsValues, IsJump, IsMemory, IsPointers, IsRanges, IsMaking, IsFreeing}
 use Rattle.flat_machine.specs.Standing.{fits_now}

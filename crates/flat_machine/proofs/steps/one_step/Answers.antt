@@ -3,17 +3,17 @@ use Rattle.std.specs.Prelude.{All, slice_index_or}
 use Rattle.c_print.specs.Format.{IsGiven}
 use Rattle.flat_code.specs.declared.instructions.Op.TheVariants as op
 use Rattle.meaning_run.specs.Leading.{with_input}
-use Rattle.object_meaning.specs.Meaning.{print_format}
-use Rattle.code_meaning.specs.CodeState.{same_numbers}
+use Rattle.object_meaning.specs.objects.Meaning.{print_format}
+use Rattle.object_meaning.specs.code.CodeState.{same_numbers}
 use Rattle.flat_machine.specs.Noting.{told}
 use Rattle.flat_machine.specs.Leading.{Counted}
-use Rattle.code_meaning.specs.CodeMeaning.{step_by, handed_value, hand_or_act}
+use Rattle.object_meaning.specs.code.CodeMeaning.{step_by, handed_value, hand_or_act}
 use Rattle.flat_machine.proofs.Stays.{stands_input}
 use Rattle.flat_machine.specs.Standing.{fits_now}
 use Rattle.flat_machine.specs.Well.{IsGoodSoFar}
 use Rattle.flat_machine.proofs.Inputs.{no_bytes, good_input}
 use Rattle.flat_machine.proofs.Goods.{hands_fresh, waits, all_locals, kept, may_hand, not_start, element_size, may_make, may_call, no_instr, no_line, may_grow, small}
-use Rattle.object_meaning.specs.Values.{number}
+use Rattle.object_meaning.specs.objects.Values.{number}
 use Rattle.flat_machine.specs.Words.{no_word}
 use Rattle.flat_machine.proofs.WordLists.{word_at}
 use Rattle.flat_machine.proofs.Counts.{counts_well, may_return, one_scope_more, some_scope, stands_before, storable}

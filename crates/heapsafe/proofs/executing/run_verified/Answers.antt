@@ -1,8 +1,8 @@
 use Rattle.std.proofs.Common.{◌∙◌, List, [], None, Some, inl, inr, refl, ap, subst, sym}
 use Rattle.std.specs.Prelude.{nat_lt}
 use Rattle.hs_base.specs.declared.ends.End.{End}
-use Rattle.code_meaning.specs.CodeState.{CodeState}
-use Rattle.code_meaning.specs.CodeMeaning.{meaning}
+use Rattle.object_meaning.specs.code.CodeState.{CodeState}
+use Rattle.object_meaning.specs.code.CodeMeaning.{meaning}
 use Rattle.c_pre.specs.declared.answer.Opened.{Opened}
 use Rattle.flat_machine.specs.Lasting.{LeavesImage}
 use Rattle.flat_machine.specs.Running.{RunAnswers, cut_of}

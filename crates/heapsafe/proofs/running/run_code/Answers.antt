@@ -2,7 +2,7 @@
 use Rattle.std.proofs.Common.{[], rules, subst}
 use Rattle.hs_base.specs.declared.ends.Limits.{Limits}
 use Rattle.core_tree.specs.declared.program.Core.{Core}
-use Rattle.compiled_code.specs.Compiled.{IsCompiled}
+use Rattle.object_meaning.specs.compiled.Compiled.{IsCompiled}
 use Rattle.flat_codegen.specs.Lasting.{LeavesImage, MakesSteps}
 use Rattle.flat_codegen.specs.Running.{RunAnswers}
 use Rattle.flat_machine.specs.Machined.{steps_made}

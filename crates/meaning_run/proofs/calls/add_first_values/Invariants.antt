@@ -1,5 +1,5 @@
 use Rattle.std.proofs.Common.{◌≡◌, ◌++◌, map, take}
-use Rattle.object_meaning.specs.Values.{first_value}
+use Rattle.object_meaning.specs.objects.Values.{first_value}
 use Rattle.meaning_run.proofs.calls.add_first_values.Given as goal
 
 abbrev pub invariant-loop-i : goal.invariant-loop-i

@@ -1,4 +1,4 @@
-use Rattle.object_meaning.specs.Meaning.{act}
+use Rattle.object_meaning.specs.objects.Meaning.{act}
 use Rattle.meaning_state.specs.Fitting.{fits_in}
 use Rattle.meaning_run.specs.Leading.{with_input}
 use Rattle.meaning_run.proofs.Quiet.{placed_quiet, quiet_values, quiet_memory, quiet_jump}

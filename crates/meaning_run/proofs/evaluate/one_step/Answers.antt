@@ -1,12 +1,12 @@
 use Rattle.std.proofs.Common.{[], refl}
-use Rattle.object_meaning.specs.Holding.{statement_at}
+use Rattle.object_meaning.specs.objects.Holding.{statement_at}
 use Rattle.core_tree.specs.declared.statements.StmKind.TheVariants.{Lib, Printf}
 use Rattle.meaning_state.specs.Fitting.{fits_in}
 use Rattle.meaning_run.specs.Leading.{with_input}
 use Rattle.meaning_run.proofs.Bytes.{seen_alone, moves_alone, alone_counted}
 use Rattle.std.specs.Prelude.{slice_get}
-use Rattle.object_meaning.specs.Builtins.{call_lib}
-use Rattle.object_meaning.specs.Meaning.{values_of, format_in, print_format}
+use Rattle.object_meaning.specs.objects.Builtins.{call_lib}
+use Rattle.object_meaning.specs.objects.Meaning.{values_of, format_in, print_format}
 use Rattle.meaning_run.proofs.Quiet.{placed_quiet, quiet_lib, quiet_printf}
 use Rattle.meaning_run.proofs.Steps.{good_input, there, no_none, step_at, format_at, numbers_at, elements_at}
 use Rattle.meaning_run.proofs.evaluate.one_step.Goals as goal

@@ -3,8 +3,8 @@ use Rattle.std.specs.Prelude.{slice_get}
 use Rattle.std.specs.List.{filter, enumerate_from}
 use Rattle.hs_base.specs.declared.ends.Holder.TheVariants as holder
 use Rattle.hs_base.specs.Freeing.{is_pointer_to}
-use Rattle.object_meaning.specs.Values.{pointer_in}
-use Rattle.object_meaning.specs.Holding.{is_live_in, takes_answer, first_of}
+use Rattle.object_meaning.specs.objects.Values.{pointer_in}
+use Rattle.object_meaning.specs.objects.Holding.{is_live_in, takes_answer, first_of}
 use Rattle.meaning_run.specs.Holding.{counted_registers}
 use Rattle.meaning_run.proofs.holders.register_holder.Given as goal
 

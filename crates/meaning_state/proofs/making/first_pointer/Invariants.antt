@@ -1,5 +1,5 @@
 use Rattle.std.proofs.Common.{◌≡◌, drop}
-use Rattle.object_meaning.specs.Making.{first_pointer}
+use Rattle.object_meaning.specs.objects.Making.{first_pointer}
 use Rattle.meaning_state.proofs.making.first_pointer.Given as goal
 
 abbrev pub invariant-loop-p : goal.invariant-loop-p

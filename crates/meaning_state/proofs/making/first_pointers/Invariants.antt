@@ -1,5 +1,5 @@
 use Rattle.std.proofs.Common.{◌≡◌, take, map}
-use Rattle.object_meaning.specs.Making.{first_pointer}
+use Rattle.object_meaning.specs.objects.Making.{first_pointer}
 use Rattle.meaning_state.proofs.making.first_pointers.Given as goal
 
 abbrev pub invariant-loop-slot : goal.invariant-loop-slot

@@ -1,6 +1,6 @@
 use Rattle.std.proofs.Common.{◌≡◌, map, take}
 use Rattle.core_tree.specs.Statements.{operands}
-use Rattle.compiled_code.specs.Handing.{hand_of}
+use Rattle.object_meaning.specs.compiled.Handing.{hand_of}
 use Rattle.flat_codegen.specs.Emitting.{with_instrs}
 use Rattle.flat_codegen.proofs.emitter.Emitter.hand_operands.Given as goal
 

@@ -1,7 +1,7 @@
 use Rattle.std.proofs.Common.{◌≡◌, ◌+◌, List, ◌∙◌, ap, arith, length}
 use Rattle.std.proofs.lemmas.List.{take_all}
 use Rattle.core_tree.specs.declared.statements.Stm.{Stm}
-use Rattle.compiled_code.specs.Places.{body_length}
+use Rattle.object_meaning.specs.compiled.Places.{body_length}
 use Rattle.flat_codegen.proofs.Stepping.{places_whole}
 use Rattle.flat_codegen.proofs.places.Places.of_body.Goals as goal
 

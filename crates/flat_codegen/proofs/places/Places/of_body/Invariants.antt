@@ -1,5 +1,5 @@
 use Rattle.std.proofs.Common.{◌≡◌, ℕ, ◌+◌, ◌<◌, take, length, get_or}
-use Rattle.compiled_code.specs.Places.{body_length}
+use Rattle.object_meaning.specs.compiled.Places.{body_length}
 use Rattle.flat_codegen.specs.Emitting.{place_from}
 use Rattle.flat_codegen.proofs.places.Places.of_body.Given as goal
 

@@ -1,7 +1,7 @@
 use Rattle.std.proofs.Common.{[], sym, subst, ⊎_elim}
-use Rattle.object_meaning.specs.Builtins.{call_lib}
-use Rattle.code_meaning.specs.CodeState.{CodeState, other_numbers}
-use Rattle.code_meaning.specs.CodeMeaning.{behind_lib}
+use Rattle.object_meaning.specs.objects.Builtins.{call_lib}
+use Rattle.object_meaning.specs.code.CodeState.{CodeState, other_numbers}
+use Rattle.object_meaning.specs.code.CodeMeaning.{behind_lib}
 use Rattle.meaning_run.specs.Leading.{with_input}
 use Rattle.flat_machine.specs.Groups.{IsRangeLib}
 use Rattle.flat_machine.proofs.Inputs.{no_bytes}

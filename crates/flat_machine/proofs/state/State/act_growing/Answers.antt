@@ -4,10 +4,10 @@ use mir.Syntax.{w128}
 use mir.Val.{SFits}
 use Rattle.hs_base.specs.declared.values.Pointer.{Pointer}
 use Rattle.hs_base.specs.declared.values.Pointer.TheVariants as pointer
-use Rattle.object_meaning.specs.Values.{number_at, pointer_at, size_in}
-use Rattle.code_meaning.specs.Entering.{layout_in}
+use Rattle.object_meaning.specs.objects.Values.{number_at, pointer_at, size_in}
+use Rattle.object_meaning.specs.code.Entering.{layout_in}
 use Rattle.std.specs.Prelude.{IfErr}
-use Rattle.code_meaning.specs.Freeing.{grow}
+use Rattle.object_meaning.specs.code.Freeing.{grow}
 use Rattle.flat_machine.specs.Image.{StopsIn}
 use Rattle.flat_machine.specs.Standing.{fits_now}
 use Rattle.flat_machine.specs.Leading.{Alone}

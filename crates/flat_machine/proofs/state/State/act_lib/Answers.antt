@@ -5,10 +5,10 @@ use mir.Val.{SFits}
 use Rattle.flat_machine.proofs.WordLists.{integer_at_is}
 use Rattle.flat_machine.proofs.Stays.{stands_input}
 use Rattle.core_tree.specs.declared.statements.LibName.TheVariants as lib
-use Rattle.object_meaning.specs.Builtins.{byte_in, call_lib, put_byte}
+use Rattle.object_meaning.specs.objects.Builtins.{byte_in, call_lib, put_byte}
 use Rattle.flat_machine.specs.Noting.{told}
 use Rattle.flat_machine.specs.Leading.{Counted}
-use Rattle.code_meaning.specs.CodeState.{CodeState, same_numbers}
+use Rattle.object_meaning.specs.code.CodeState.{CodeState, same_numbers}
 use Rattle.flat_machine.proofs.Stepped.{seen_alone, moves_alone}
 use Rattle.flat_machine.proofs.Inputs.{no_bytes}
 use Rattle.flat_machine.proofs.OneByte.{exit_seen, abort_seen}

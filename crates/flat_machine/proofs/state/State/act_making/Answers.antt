@@ -2,7 +2,7 @@ use Rattle.std.proofs.Common.{rules}
 use Rattle.std.proofs.lemmas.Int.{to_z-of_z}
 use mir.Syntax.{w128}
 use mir.Val.{SFits}
-use Rattle.code_meaning.specs.Entering.{layout_in}
+use Rattle.object_meaning.specs.code.Entering.{layout_in}
 use Rattle.flat_machine.specs.Standing.{fits_now}
 use Rattle.flat_machine.proofs.Makings.{malloc_alone, calloc_alone}
 use Rattle.flat_machine.proofs.state.State.act_making.Goals as goal

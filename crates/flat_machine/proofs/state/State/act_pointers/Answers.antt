@@ -3,7 +3,7 @@ use Rattle.std.specs.Prelude.{◌<ℤ◌}
 use Rattle.std.proofs.lemmas.Int.{to_z-of_z}
 use mir.Syntax.{w64, w128}
 use mir.Val.{SFits}
-use Rattle.object_meaning.specs.Values.{pointer_at}
+use Rattle.object_meaning.specs.objects.Values.{pointer_at}
 use Rattle.flat_objects.specs.Keeping.{IsKept}
 use Rattle.flat_machine.proofs.Accesses.{kept_here}
 use Rattle.flat_machine.proofs.Movements.{add_alone, add_traps, sub_alone, sub_traps, diff_alone, diff_traps, pcmp_alone, pcmp_traps}

@@ -1,5 +1,5 @@
 use Rattle.std.proofs.Common.{sym, subst}
-use Rattle.object_meaning.specs.Values.{pointer_at}
+use Rattle.object_meaning.specs.objects.Values.{pointer_at}
 use Rattle.flat_objects.specs.Standing.{IsAddressOf}
 use Rattle.flat_objects.specs.Keeping.{IsKept}
 use Rattle.flat_machine.proofs.WordLists.{address_at_is}

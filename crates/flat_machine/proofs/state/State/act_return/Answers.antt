@@ -4,8 +4,8 @@ use Rattle.std.proofs.lemmas.Int.{to_z-of_z}
 use mir.Syntax.{w128}
 use mir.Val.{SFits}
 use Rattle.hs_base.specs.declared.ends.End.TheVariants as end
-use Rattle.object_meaning.specs.Values.{pointer_in}
-use Rattle.code_meaning.specs.Returning.{give_back}
+use Rattle.object_meaning.specs.objects.Values.{pointer_in}
+use Rattle.object_meaning.specs.code.Returning.{give_back}
 use Rattle.flat_machine.specs.Image.{StopsIn}
 use Rattle.flat_objects.specs.Ending.{MayEnd}
 use Rattle.flat_machine.specs.Kept.{Kept, given}

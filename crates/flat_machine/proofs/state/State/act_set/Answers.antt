@@ -2,7 +2,7 @@ use Rattle.std.proofs.Common.{ap, rules, ◌∙◌}
 use Rattle.std.proofs.lemmas.Int.{to_z-of_z}
 use mir.Syntax.{w128}
 use mir.Val.{SFits}
-use Rattle.object_meaning.specs.Values.{pointer_at}
+use Rattle.object_meaning.specs.objects.Values.{pointer_at}
 use Rattle.flat_objects.specs.declared.words.Word.TheVariants.{Address}
 use Rattle.flat_machine.specs.Kept.{given}
 use Rattle.flat_machine.proofs.Ranged.{at_here, set_lib_alone, set_lib_traps}

@@ -1,7 +1,7 @@
 use Rattle.std.proofs.Common.{[], ap, subst, sym, ◌∙◌}
 use Rattle.hs_base.specs.declared.ends.End.TheVariants as end
 use Rattle.hs_base.specs.Freeing.{buried}
-use Rattle.code_meaning.specs.Checking.{checked}
+use Rattle.object_meaning.specs.code.Checking.{checked}
 use Rattle.flat_objects.specs.Counting.{Frees}
 use Rattle.flat_machine.specs.Kept.{Kept, gone_on, pins_of}
 use Rattle.flat_machine.specs.Standing.{frees_of, pinned_in}

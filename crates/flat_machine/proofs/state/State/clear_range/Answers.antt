@@ -2,7 +2,7 @@ use Rattle.std.proofs.Common.{ap, rules, ◌∙◌}
 use Rattle.std.proofs.lemmas.Int.{to_z-of_z}
 use mir.Syntax.{w128}
 use mir.Val.{SFits}
-use Rattle.object_meaning.specs.Values.{pointer_at}
+use Rattle.object_meaning.specs.objects.Values.{pointer_at}
 use Rattle.flat_machine.specs.Kept.{gone_on}
 use Rattle.flat_machine.proofs.Ranged.{at_here, clear_alone, clear_traps}
 use Rattle.flat_machine.proofs.state.State.clear_range.Goals as goal

@@ -1,9 +1,9 @@
 use Rattle.std.proofs.Common.{[], ◌∷◌, ◌++◌, ◌∙◌, length, Ok, Err, Some, ap, subst, sym}
 use Rattle.std.proofs.lemmas.Result.{err_from_is_err_and}
 use Rattle.hs_base.specs.declared.values.Pointer.TheVariants.{At}
-use Rattle.object_meaning.specs.Making.{heap_object}
-use Rattle.object_meaning.specs.Values.{pointer_at}
-use Rattle.code_meaning.specs.Freeing.{free}
+use Rattle.object_meaning.specs.objects.Making.{heap_object}
+use Rattle.object_meaning.specs.objects.Values.{pointer_at}
+use Rattle.object_meaning.specs.code.Freeing.{free}
 use Rattle.flat_objects.specs.declared.words.Word.TheVariants.{Address}
 use Rattle.flat_objects.specs.Adding.{with_place}
 use Rattle.flat_machine.specs.Kept.{Kept, given}

@@ -1,9 +1,9 @@
 use Rattle.std.proofs.Common.{[], List, None, Some, ap, get_or, subst, sym, ◌∙◌, ℕ}
 use Rattle.std.specs.Prelude.{find}
 use Rattle.hs_base.specs.Freeing.{is_pointer_to}
-use Rattle.counted_meaning.specs.Pinning.{pointer_of_register}
+use Rattle.object_meaning.specs.counted.Pinning.{pointer_of_register}
 use Rattle.hs_base.specs.declared.ends.Holder.TheVariants as holder
-use Rattle.object_meaning.specs.Holding.{first_of}
+use Rattle.object_meaning.specs.objects.Holding.{first_of}
 use Rattle.flat_machine.specs.Kept.{Kept, call_number, pins_of}
 use Rattle.flat_machine.specs.Holding.{HoldsIn, in_frame}
 use Rattle.flat_machine.proofs.Holders.{first_in}

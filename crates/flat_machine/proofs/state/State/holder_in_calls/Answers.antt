@@ -1,5 +1,5 @@
 use Rattle.std.proofs.Common.{arith, ap, sym, ◌∙◌}
-use Rattle.object_meaning.specs.Holding.{first_of}
+use Rattle.object_meaning.specs.objects.Holding.{first_of}
 use Rattle.flat_machine.specs.Holding.{in_frame}
 use Rattle.flat_machine.proofs.Holders.{found_at, found_last, frame_number, holds_at, none_before}
 use Rattle.flat_machine.proofs.state.State.holder_in_calls.Goals as goal

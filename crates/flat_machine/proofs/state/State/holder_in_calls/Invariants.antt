@@ -1,7 +1,7 @@
 use Rattle.std.proofs.Common.{◌≡◌, ◌<◌, ℕ, None, get_or}
 use Rattle.std.specs.Prelude.{reverse}
-use Rattle.object_meaning.specs.Holding.{first_of}
-use Rattle.code_meaning.specs.CodeState.{CodeState}
+use Rattle.object_meaning.specs.objects.Holding.{first_of}
+use Rattle.object_meaning.specs.code.CodeState.{CodeState}
 use Rattle.flat_machine.specs.Pinning.{NamesHeld}
 use Rattle.flat_machine.specs.Holding.{in_frame}
 use Rattle.flat_machine.proofs.state.State.holder_in_calls.Given as goal

@@ -1,6 +1,6 @@
 use Rattle.std.proofs.Common.{◌<◌, ℕ, arith, ap, subst, sym, ◌∙◌}
 use Rattle.hs_base.specs.declared.ends.End.TheVariants as end
-use Rattle.code_meaning.specs.Checking.{leave}
+use Rattle.object_meaning.specs.code.Checking.{leave}
 use Rattle.flat_objects.specs.Freeing.{MayLeave}
 use Rattle.flat_machine.specs.Kept.{gone_on}
 use Rattle.flat_machine.specs.Standing.{frees_of}

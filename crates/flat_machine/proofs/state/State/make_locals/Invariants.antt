@@ -1,5 +1,5 @@
 use Rattle.std.proofs.Common.{ℕ}
-use Rattle.code_meaning.specs.CodeState.{CodeState}
+use Rattle.object_meaning.specs.code.CodeState.{CodeState}
 use Rattle.flat_machine.specs.Locals.{HasMade}
 use Rattle.flat_machine.specs.Standing.{Stands}
 use Rattle.flat_machine.proofs.state.State.make_locals.Given as goal

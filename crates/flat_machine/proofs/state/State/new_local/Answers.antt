@@ -7,7 +7,7 @@ use Rattle.flat_objects.specs.Memory.{Locals, Memory}
 use Rattle.flat_objects.specs.Keeping.{Keeps, blocks_of}
 use Rattle.flat_objects.specs.Counting.{Tracks}
 use Rattle.flat_objects.specs.Adding.{with_place}
-use Rattle.object_meaning.specs.Making.{blank}
+use Rattle.object_meaning.specs.objects.Making.{blank}
 use Rattle.flat_machine.specs.Kept.{Kept}
 use Rattle.flat_machine.specs.Locals.{IsPlaceable}
 use Rattle.flat_machine.proofs.MadeLocals.{no_place}

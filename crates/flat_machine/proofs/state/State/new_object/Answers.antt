@@ -5,7 +5,7 @@ use Rattle.flat_objects.specs.Memory.{Memory}
 use Rattle.flat_objects.specs.Keeping.{Keeps}
 use Rattle.flat_objects.specs.Counting.{Tracks}
 use Rattle.flat_objects.specs.Adding.{with_place}
-use Rattle.object_meaning.specs.Making.{heap_object}
+use Rattle.object_meaning.specs.objects.Making.{heap_object}
 use Rattle.flat_machine.specs.Kept.{Kept}
 use Rattle.flat_machine.proofs.state.State.new_object.Goals as goal
 

@@ -3,7 +3,7 @@ use Rattle.std.proofs.lemmas.Int.{to_z-of_z}
 use mir.Syntax.{w128}
 use mir.Val.{SFits}
 use Rattle.std.proofs.Common.{pos, [], ◌∷◌, ◌++◌, Some}
-use Rattle.object_meaning.specs.Builtins.{byte_in}
+use Rattle.object_meaning.specs.objects.Builtins.{byte_in}
 use Rattle.flat_machine.proofs.OneByte.{put_seen, put_moves, put_failed}
 use Rattle.flat_machine.proofs.state.State.put_char.Goals as goal
 

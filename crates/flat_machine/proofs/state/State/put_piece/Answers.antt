@@ -2,7 +2,7 @@ use Rattle.std.proofs.Common.{◌∙◌, ℕ, Ok, IfOk, refl, rules, sym, ap, su
 use Rattle.std.proofs.lemmas.Int.{to_z-of_z}
 use mir.Syntax.{w128}
 use mir.Val.{SFits}
-use Rattle.object_meaning.specs.Values.{pointer_at}
+use Rattle.object_meaning.specs.objects.Values.{pointer_at}
 use Rattle.meaning_state.specs.Printing.{piece_text}
 use Rattle.flat_objects.specs.Standing.{IsAddressOf}
 use Rattle.flat_machine.specs.Putting.{PutsText, IsLengthOf}

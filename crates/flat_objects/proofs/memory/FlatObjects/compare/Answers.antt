@@ -4,8 +4,8 @@ use mir.Syntax.{w128}
 use mir.Val.{SFits}
 use Rattle.hs_base.specs.declared.values.Value.{Value}
 use Rattle.hs_base.specs.Access.{Refusal}
-use Rattle.object_meaning.specs.Arithmetic.{pointers_compared, truth}
-use Rattle.object_meaning.specs.Values.{number}
+use Rattle.object_meaning.specs.objects.Arithmetic.{pointers_compared, truth}
+use Rattle.object_meaning.specs.objects.Values.{number}
 use Rattle.flat_objects.specs.Memory.{IsMemory}
 use Rattle.flat_objects.proofs.Equal.{equal_is}
 use Rattle.flat_objects.proofs.memory.FlatObjects.compare.Goals as goal

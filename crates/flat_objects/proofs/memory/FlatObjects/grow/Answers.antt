@@ -1,6 +1,6 @@
 use Rattle.std.proofs.Common.{◌+◌, ◌*◌, ◌≤◌, min, subst, arith}
 use Rattle.hs_base.specs.declared.values.Pointer.TheVariants as pointer
-use Rattle.object_meaning.specs.Memory.{copied}
+use Rattle.object_meaning.specs.objects.Memory.{copied}
 use Rattle.flat_objects.specs.Memory.{Memory}
 use Rattle.flat_objects.specs.Answering.{Changes}
 use Rattle.flat_objects.specs.Counting.{StaysTracked}

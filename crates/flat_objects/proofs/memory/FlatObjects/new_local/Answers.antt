@@ -5,7 +5,7 @@ use Rattle.adjusters.specs.ObjectSlots.{element_of}
 use Rattle.heap_blocks.specs.Held.{IsWithin, address_of, fit_of}
 use Rattle.flat_objects.specs.Memory.{Memory, Locals}
 use Rattle.flat_objects.specs.Keeping.{Keeps, blocks_of}
-use Rattle.object_meaning.specs.Making.{blank}
+use Rattle.object_meaning.specs.objects.Making.{blank}
 use Rattle.flat_objects.specs.Adding.{IsAdded, with_place}
 use Rattle.flat_objects.specs.Counting.{Tracks}
 use Rattle.flat_objects.proofs.Placed.{IsMade, some_more}

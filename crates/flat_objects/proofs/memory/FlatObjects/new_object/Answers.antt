@@ -1,7 +1,7 @@
 use Rattle.std.proofs.Common.{◌≡◌, ◌∷◌, ◌++◌, [], ℕ, Some, refl, sym, subst, ◌<◌, arith}
 use Rattle.std.specs.Prelude.{option_map, slice_get}
 use Rattle.adjusters.specs.ObjectSlots.{element_of}
-use Rattle.object_meaning.specs.Making.{heap_object}
+use Rattle.object_meaning.specs.objects.Making.{heap_object}
 use Rattle.heap_blocks.specs.Held.{IsWithin, address_of, fit_of}
 use Rattle.flat_objects.specs.Memory.{Memory, Heap}
 use Rattle.flat_objects.specs.Keeping.{Keeps, blocks_of}

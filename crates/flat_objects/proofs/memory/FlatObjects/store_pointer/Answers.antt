@@ -2,7 +2,7 @@ use Rattle.std.proofs.Common.{ℕ, List, sym, subst, arith}
 use Rattle.hs_base.specs.declared.values.Pointer.{Pointer}
 use Rattle.byte_memory.specs.Bytes.{word}
 use Rattle.hs_base.specs.Object.{Object}
-use Rattle.object_meaning.specs.Memory.{stored_pointer}
+use Rattle.object_meaning.specs.objects.Memory.{stored_pointer}
 use Rattle.flat_objects.specs.Memory.{Memory, IsMemory, SameFrame}
 use Rattle.flat_objects.specs.Standing.{IsAddressOf}
 use Rattle.flat_objects.specs.Keeping.{KeepsAt}

@@ -1,7 +1,7 @@
 use Rattle.std.proofs.Common.{◌∙◌, ◌<◌, arith}
 use Rattle.std.proofs.lemmas.Result.{err_from_is_err_and}
 use Rattle.hs_base.specs.Access.{Trapped}
-use Rattle.object_meaning.specs.Strings.{string_at, room_at}
+use Rattle.object_meaning.specs.objects.Strings.{string_at, room_at}
 use Rattle.flat_objects.proofs.Reading.{count_refused, count_end, count_more, length_told, refusal_told}
 use Rattle.flat_objects.proofs.memory.FlatObjects.string_length.Goals as goal
 

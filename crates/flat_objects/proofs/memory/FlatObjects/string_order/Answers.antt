@@ -1,7 +1,7 @@
 use Rattle.std.proofs.Common.{◌∙◌, ◌+◌, ◌-◌, ◌<◌, arith}
 use Rattle.std.proofs.lemmas.Result.{err_from_is_err_and}
 use Rattle.hs_base.specs.Access.{Trapped}
-use Rattle.object_meaning.specs.Strings.{order_from, room_at}
+use Rattle.object_meaning.specs.objects.Strings.{order_from, room_at}
 use Rattle.flat_objects.proofs.Reading.{order_refused, order_other_refused, order_here, byte_less, byte_greater, byte_zero, byte_same}
 use Rattle.flat_objects.proofs.memory.FlatObjects.string_order.Goals as goal
 

@@ -1,7 +1,7 @@
 use Rattle.std.proofs.Common.{◌≡◌, ◌-◌, ℕ, List}
 use Rattle.hs_base.specs.declared.values.Pointer.{Pointer}
 use Rattle.hs_base.specs.Object.{Object}
-use Rattle.object_meaning.specs.Strings.{order_of, order_from, room_at}
+use Rattle.object_meaning.specs.objects.Strings.{order_of, order_from, room_at}
 use Rattle.flat_objects.specs.Texts.{KeepsText}
 use Rattle.flat_objects.proofs.memory.FlatObjects.string_order.Given as goal
 

@@ -1,5 +1,5 @@
 use Rattle.std.proofs.Common.{refl}
-use Rattle.object_meaning.specs.Scoping.{enter}
+use Rattle.object_meaning.specs.objects.Scoping.{enter}
 use Rattle.meaning_run.specs.Leading.{with_input}
 use Rattle.meaning_run.proofs.Quiet.{placed_none}
 use Rattle.meaning_run.proofs.machine.Machine.act_heap.Goals as goal

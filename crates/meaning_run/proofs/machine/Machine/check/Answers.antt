@@ -2,7 +2,7 @@ use Rattle.std.proofs.Common.{◌≡◌, ◌∙◌, List, ℕ, None, map, ap}
 use Rattle.hs_base.specs.Freeing.{first_held}
 use Rattle.hs_base.specs.State.{State}
 use Rattle.hs_base.specs.Trace.{Gone}
-use Rattle.object_meaning.specs.Scoping.{is_held}
+use Rattle.object_meaning.specs.objects.Scoping.{is_held}
 use Rattle.meaning_state.specs.Fitting.{held_after}
 use Rattle.meaning_run.proofs.Growing.{checked_none}
 use Rattle.meaning_run.proofs.machine.Machine.check.Goals as goal

@@ -1,6 +1,6 @@
 use Rattle.std.proofs.Common.{◌≡◌, drop}
 use Rattle.hs_base.specs.Freeing.{first_held}
-use Rattle.object_meaning.specs.Calls.{escapes}
+use Rattle.object_meaning.specs.objects.Calls.{escapes}
 use Rattle.meaning_run.proofs.machine.Machine.first_escaping.Given as goal
 
 abbrev pub invariant-loop-k : goal.invariant-loop-k

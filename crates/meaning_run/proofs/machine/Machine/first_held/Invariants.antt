@@ -1,6 +1,6 @@
 use Rattle.std.proofs.Common.{◌≡◌, drop}
 use Rattle.hs_base.specs.Freeing.{first_held}
-use Rattle.object_meaning.specs.Scoping.{is_held}
+use Rattle.object_meaning.specs.objects.Scoping.{is_held}
 use Rattle.meaning_run.proofs.machine.Machine.first_held.Given as goal
 
 abbrev pub invariant-loop-i : goal.invariant-loop-i

@@ -1,6 +1,6 @@
 use Rattle.std.proofs.Common.{refl, sym, ap, subst, arith}
 use Rattle.hs_base.specs.Trace.{Escape}
-use Rattle.object_meaning.specs.Going.{Next}
+use Rattle.object_meaning.specs.objects.Going.{Next}
 use Rattle.meaning_run.specs.declared.halt.Halt.TheVariants as halt
 use Rattle.meaning_run.specs.Leading.{StopsAlone, Alone}
 use Rattle.meaning_run.proofs.Ending.{escaped, goes_back}

@@ -1,7 +1,7 @@
 use Rattle.std.proofs.Common.{◌≡◌, ◌∙◌, ℕ, true, Bool, length, rules, sym, ap, subst}
 use Rattle.hs_base.specs.Place.{block_size, first_fit, with_block}
 use Rattle.hs_base.specs.State.{State}
-use Rattle.object_meaning.specs.Heap.{birth_of, grow_old}
+use Rattle.object_meaning.specs.objects.Heap.{birth_of, grow_old}
 use Rattle.meaning_state.specs.Fitting.{Held, held_after, fits_in}
 use Rattle.meaning_run.specs.Leading.{AlonePlaced, with_input}
 use Rattle.meaning_run.proofs.machine.Machine.grow_old.Goals as goal

@@ -1,6 +1,6 @@
 use Rattle.std.proofs.Common.{◌≡◌, ℕ, sym, ap, ◌∙◌, subst}
 use Rattle.hs_base.specs.State.{State}
-use Rattle.object_meaning.specs.Scoping.{in_scope}
+use Rattle.object_meaning.specs.objects.Scoping.{in_scope}
 use Rattle.meaning_run.specs.Leading.{AlonePlaced, with_input}
 use Rattle.meaning_run.proofs.machine.Machine.in_scope.Goals as goal
 

@@ -1,6 +1,6 @@
 use Rattle.std.proofs.Common.{◌≡◌, ℕ, [], refl, sym, ap, ◌∙◌, subst}
 use Rattle.hs_base.specs.State.{State}
-use Rattle.object_meaning.specs.Scoping.{leave}
+use Rattle.object_meaning.specs.objects.Scoping.{leave}
 use Rattle.meaning_run.specs.Leading.{AlonePlaced, with_input}
 use Rattle.meaning_run.proofs.machine.Machine.leave_scope.Goals as goal
 

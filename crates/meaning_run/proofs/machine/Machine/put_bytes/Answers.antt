@@ -1,6 +1,6 @@
 use Rattle.std.proofs.Common.{refl, map}
 use Rattle.hs_base.specs.Trace.{Out}
-use Rattle.object_meaning.specs.Going.{goes, write}
+use Rattle.object_meaning.specs.objects.Going.{goes, write}
 use Rattle.meaning_run.specs.Leading.{with_input}
 use Rattle.meaning_run.proofs.Bytes.{part}
 use Rattle.meaning_run.proofs.machine.Machine.put_bytes.Goals as goal

@@ -1,5 +1,5 @@
 use Rattle.std.proofs.Common.{Some, sym, subst}
-use Rattle.object_meaning.specs.Going.{Next}
+use Rattle.object_meaning.specs.objects.Going.{Next}
 use Rattle.meaning_run.specs.Leading.{with_input, Seen, Moves}
 use Rattle.meaning_run.proofs.Printfs.{printed_none, printed_some}
 use Rattle.meaning_run.proofs.machine.Machine.put_printed.Goals as goal

@@ -1,6 +1,6 @@
 use Rattle.std.proofs.Common.{refl, map}
 use Rattle.hs_base.specs.Trace.{Out}
-use Rattle.object_meaning.specs.Going.{stops_after, ended_by}
+use Rattle.object_meaning.specs.objects.Going.{stops_after, ended_by}
 use Rattle.meaning_run.specs.Leading.{with_input}
 use Rattle.meaning_run.proofs.Bytes.{part, refused_seen}
 use Rattle.meaning_run.proofs.machine.Machine.put_refused.Goals as goal

@@ -1,5 +1,5 @@
 use Rattle.std.proofs.Common.{◌≡◌, map, take}
-use Rattle.object_meaning.specs.Values.{value_of}
+use Rattle.object_meaning.specs.objects.Values.{value_of}
 use Rattle.meaning_run.proofs.machine.Machine.values.Given as goal
 
 abbrev pub invariant-loop-atom : goal.invariant-loop-atom

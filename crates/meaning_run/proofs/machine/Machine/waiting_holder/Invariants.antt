@@ -1,6 +1,6 @@
 use Rattle.std.proofs.Common.{◌≡◌, drop}
 use Rattle.std.specs.List.{flat_map}
-use Rattle.object_meaning.specs.Holding.{in_waiting, first_of}
+use Rattle.object_meaning.specs.objects.Holding.{in_waiting, first_of}
 use Rattle.meaning_run.proofs.machine.Machine.waiting_holder.Given as goal
 
 abbrev pub invariant-loop-i : goal.invariant-loop-i

@@ -2,7 +2,7 @@ use Rattle.std.proofs.Common.{◌≡◌, map, drop}
 use Rattle.std.specs.Prelude.{slice_index}
 use Rattle.std.specs.List.{filter, enumerate_from}
 use Rattle.hs_base.specs.Freeing.{is_pointer_to}
-use Rattle.object_meaning.specs.Holding.{inside, inside_one, first_of}
+use Rattle.object_meaning.specs.objects.Holding.{inside, inside_one, first_of}
 use Rattle.meaning_state.proofs.object.Object.holder.Given as goal
 
 abbrev pub invariant-loop-k : goal.invariant-loop-k

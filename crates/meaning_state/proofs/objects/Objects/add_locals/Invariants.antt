@@ -1,6 +1,6 @@
 use Rattle.std.proofs.Common.{◌≡◌, ◌++◌, take, map}
 use Rattle.std.specs.List.{enumerate_from}
-use Rattle.object_meaning.specs.Making.{local_object}
+use Rattle.object_meaning.specs.objects.Making.{local_object}
 use Rattle.meaning_state.proofs.objects.Objects.add_locals.Given as goal
 
 abbrev pub invariant-loop-i : goal.invariant-loop-i

@@ -1,5 +1,5 @@
 use Rattle.std.proofs.Common.{ap, ◌∙◌}
-use Rattle.object_meaning.specs.Memory.{copied}
+use Rattle.object_meaning.specs.objects.Memory.{copied}
 use Rattle.meaning_state.proofs.SlotCounts.{none_copied}
 use Rattle.meaning_state.proofs.objects.Objects.copy.Goals as goal
 

@@ -1,6 +1,6 @@
 use Rattle.std.proofs.Common.{◌≡◌, drop}
 use Rattle.std.specs.List.{flat_map, enumerate_from}
-use Rattle.object_meaning.specs.Holding.{counted_inside, inside_objects, first_of}
+use Rattle.object_meaning.specs.objects.Holding.{counted_inside, inside_objects, first_of}
 use Rattle.meaning_state.proofs.objects.Objects.holder.Given as goal
 
 abbrev pub invariant-loop-i : goal.invariant-loop-i

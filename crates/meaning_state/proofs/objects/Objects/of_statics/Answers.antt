@@ -1,5 +1,5 @@
 use Rattle.std.proofs.Common.{[], arith}
-use Rattle.object_meaning.specs.Making.{static_object}
+use Rattle.object_meaning.specs.objects.Making.{static_object}
 use Rattle.meaning_state.proofs.Turns.{pushed}
 use Rattle.meaning_state.proofs.objects.Objects.of_statics.Goals as goal
 

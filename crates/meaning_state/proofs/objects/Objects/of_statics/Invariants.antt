@@ -1,6 +1,6 @@
 use Rattle.std.proofs.Common.{◌≡◌, take, map}
 use Rattle.std.specs.List.{enumerate_from}
-use Rattle.object_meaning.specs.Making.{static_object}
+use Rattle.object_meaning.specs.objects.Making.{static_object}
 use Rattle.meaning_state.proofs.objects.Objects.of_statics.Given as goal
 
 abbrev pub invariant-loop-i : goal.invariant-loop-i

@@ -1,6 +1,6 @@
 use Rattle.std.proofs.Common.{◌∙◌, arith}
 use Rattle.std.proofs.lemmas.Result.{err_from_is_err_and}
-use Rattle.object_meaning.specs.Strings.{byte_behind, room_at, order_of}
+use Rattle.object_meaning.specs.objects.Strings.{byte_behind, room_at, order_of}
 use Rattle.meaning_state.proofs.Refused.{passed_on}
 use Rattle.meaning_state.proofs.Texts.{order_refused, order_other_refused, order_here, byte_less, byte_greater, byte_same}
 use Rattle.meaning_state.proofs.objects.Objects.order.Goals as goal

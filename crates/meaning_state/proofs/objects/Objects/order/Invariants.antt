@@ -1,5 +1,5 @@
 use Rattle.std.proofs.Common.{◌≡◌, ◌-◌}
-use Rattle.object_meaning.specs.Strings.{order_of, order_from, room_at}
+use Rattle.object_meaning.specs.objects.Strings.{order_of, order_from, room_at}
 use Rattle.meaning_state.proofs.objects.Objects.order.Given as goal
 
 abbrev pub invariant-loop-i : goal.invariant-loop-i

@@ -1,6 +1,6 @@
 use Rattle.std.proofs.Common.{◌∙◌, Some, None, refl, ap, arith}
 use Rattle.hs_base.specs.Access as access
-use Rattle.object_meaning.specs.Printing.{printed}
+use Rattle.object_meaning.specs.objects.Printing.{printed}
 use Rattle.meaning_state.specs.declared.refusal.Refusal.TheVariants as refusal
 use Rattle.meaning_state.proofs.Pieces.{prints_is, print_refused, print_more, print_over}
 use Rattle.meaning_state.proofs.objects.Objects.printed.Goals as goal

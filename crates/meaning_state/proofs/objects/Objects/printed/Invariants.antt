@@ -1,5 +1,5 @@
 use Rattle.std.proofs.Common.{◌≡◌, ◌≤◌, drop}
-use Rattle.object_meaning.specs.Printing.{printed}
+use Rattle.object_meaning.specs.objects.Printing.{printed}
 use Rattle.meaning_state.proofs.Pieces.{behind}
 use Rattle.meaning_state.proofs.objects.Objects.printed.Given as goal
 

@@ -1,6 +1,6 @@
 use Rattle.std.proofs.Common.{◌∙◌, arith}
 use Rattle.std.proofs.lemmas.Result.{err_from_is_err_and}
-use Rattle.object_meaning.specs.Strings.{byte_behind, room_at, string_at}
+use Rattle.object_meaning.specs.objects.Strings.{byte_behind, room_at, string_at}
 use Rattle.meaning_state.proofs.Refused.{passed_on}
 use Rattle.meaning_state.proofs.Texts.{read_none, read_refused, read_end, read_more, read_over}
 use Rattle.meaning_state.proofs.objects.Objects.string.Goals as goal

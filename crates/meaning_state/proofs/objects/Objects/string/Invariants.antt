@@ -1,5 +1,5 @@
 use Rattle.std.proofs.Common.{◌≡◌, ◌-◌}
-use Rattle.object_meaning.specs.Strings.{string_at, string_from, room_at}
+use Rattle.object_meaning.specs.objects.Strings.{string_at, string_from, room_at}
 use Rattle.meaning_state.proofs.Texts.{in_front}
 use Rattle.meaning_state.proofs.objects.Objects.string.Given as goal
 

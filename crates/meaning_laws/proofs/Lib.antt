@@ -1,0 +1,5 @@
+pub mod dangling
+pub mod counts
+pub mod soundness
+pub mod form
+pub mod agreement

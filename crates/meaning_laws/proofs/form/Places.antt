@@ -1,0 +1,91 @@
+-- Where the statements of a core stand in its code, and to which of them an instruction belongs.
+use Rattle.std.proofs.Common.{◌≡◌, ℕ, zero, suc, ◌+◌, ◌-◌, ◌<◌, ◌≤◌, List, [], ◌∷◌, length, Some, refl, arith}
+use Rattle.std.specs.Prelude.{slice_get}
+use Rattle.core_tree.specs.declared.program.Core.{Core}
+use Rattle.core_tree.specs.declared.program.Func.{Func}
+use Rattle.core_tree.specs.declared.statements.Stm.{Stm}
+use Rattle.object_meaning.specs.compiled.Handing.{handed_atoms, code_length}
+use Rattle.object_meaning.specs.compiled.Places.{body_length, first_of, place_of}
+use Rattle.meaning_laws.proofs.form.Parts.{part_at, before_more, before_all, before_later, before_end, one_part}
+
+abbrev pub weight : Stm → ℕ
+weight stm = code_length stm.kind
+
+abbrev pub func_length : Func → ℕ
+func_length func = body_length func.body
+
+-- the element at a place inside a list
+pub element : {X : Type 0} (xs : List X) (k : ℕ) → k < length xs → (x : X) × (slice_get xs k ≡ Some x)
+element [] k h = absurd (omega arith)
+element (x ∷ xs) zero h = (x, refl)
+element (x ∷ xs) (suc k) h = element xs k (omega arith)
+
+module _ (core : Core) where
+  pub first_more : (f : ℕ) (func : Func) → slice_get core.funcs f ≡ Some func → first_of core (f + 1) ≡ first_of core f + body_length func.body
+  first_more f func h = omega (arith, before_more func_length core.funcs f func h)
+
+  -- the function and the offset of an instruction behind the first one
+  pub record InFunction (place : ℕ) : Type 0 where
+    pub f : ℕ
+    pub func : Func
+    pub here : slice_get core.funcs f ≡ Some func
+    pub offset : ℕ
+    pub below : offset < body_length func.body
+    pub sum : first_of core f + offset ≡ place
+
+  pub in_function : (place : ℕ) → 1 ≤ place → place < first_of core (length core.funcs) → InFunction place
+  in_function place low high =
+      let p = part_at func_length core.funcs (place - 1) (omega (arith, before_all func_length core.funcs)) in
+      record {
+        f = p.number;
+        func = p.item;
+        here = p.here;
+        offset = p.rest;
+        below = p.below;
+        sum = omega (arith, p.sum);
+      }
+
+  module _ (f : ℕ) (func : Func) (here : slice_get core.funcs f ≡ Some func) where
+    abbrev pub place : ℕ → ℕ
+    place point = place_of core f func.body point
+
+    pub place_more : (point : ℕ) (stm : Stm) → slice_get func.body point ≡ Some stm → place (point + 1) ≡ place point + length (handed_atoms stm.kind) + 1
+    place_more point stm h = omega (arith, before_more weight func.body point stm h)
+
+    pub place_later : (point next : ℕ) (stm : Stm) → slice_get func.body point ≡ Some stm → point < next → place point + length (handed_atoms stm.kind) < place next
+    place_later point next stm h less = omega (arith, before_later weight func.body point next stm h less)
+
+    pub place_inside : (point : ℕ) (stm : Stm) → slice_get func.body point ≡ Some stm → place point + length (handed_atoms stm.kind) < first_of core (f + 1)
+    place_inside point stm h = omega (arith, before_end weight func.body point stm h, first_more f func here)
+
+    pub place_below : (point : ℕ) → point < length func.body → place point < first_of core (f + 1)
+    place_below point h = let x = element func.body point h in omega (arith, place_inside point x.0 x.1)
+
+    pub place_all : place (length func.body) ≡ first_of core (f + 1)
+    place_all = omega (arith, before_all weight func.body, first_more f func here)
+
+    -- the statement to which an instruction of the function belongs, and how many of the statement's stand before it
+    pub record InStatement (at : ℕ) : Type 0 where
+      pub point : ℕ
+      pub stm : Stm
+      pub found : slice_get func.body point ≡ Some stm
+      pub rest : ℕ
+      pub below : rest ≤ length (handed_atoms stm.kind)
+      pub sum : place point + rest ≡ at
+
+    pub in_statement : (at : ℕ) → first_of core f ≤ at → at < first_of core (f + 1) → InStatement at
+    in_statement at low high =
+        let p = part_at weight func.body (at - first_of core f) (omega (arith, first_more f func here)) in
+        record {
+          point = p.number;
+          stm = p.item;
+          found = p.here;
+          rest = p.rest;
+          below = omega (arith, p.below);
+          sum = omega (arith, p.sum);
+        }
+
+    -- an instruction belongs to one statement
+    pub same_point : (n m j k : ℕ) (x y : Stm) → slice_get func.body n ≡ Some x → slice_get func.body m ≡ Some y → j ≤ length (handed_atoms x.kind) → k ≤ length (handed_atoms y.kind) → place n + j ≡ place m + k → n ≡ m
+    same_point n m j k x y at_n at_m a b same =
+        one_part weight func.body n m j k x y at_n at_m (omega arith) (omega arith) (omega arith)

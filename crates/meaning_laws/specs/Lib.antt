@@ -1,0 +1,4 @@
+pub mod objects
+pub mod counted
+pub mod code
+pub mod compiled

@@ -1,0 +1,2 @@
+pub mod Dangling
+pub mod Laws

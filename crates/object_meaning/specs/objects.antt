@@ -1,0 +1,13 @@
+pub mod Values
+pub mod Going
+pub mod Arithmetic
+pub mod Making
+pub mod Holding
+pub mod Memory
+pub mod Scoping
+pub mod Heap
+pub mod Strings
+pub mod Printing
+pub mod Builtins
+pub mod Calls
+pub mod Meaning
