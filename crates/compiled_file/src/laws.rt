@@ -2,8 +2,7 @@
 
 ghost use Rattle.compiled_file.specs.Laws.{FilesRunAsCores, WholeRunsAreWhole};
 
-use meaning_laws::code_means_core;
-use meaning_laws::counted_means_core;
+use meaning_laws::{code_means_core, counted_means_core};
 
 /// The run of a sound core's code file is the run of the core, for every input, number of steps and size of the heap: the same
 /// trace, the same end, and the same objects behind it.

@@ -10,6 +10,6 @@ mod copies;
 mod laws;
 mod pinning;
 
-pub use object_meaning::Pin;
 pub use laws::listed_pins_are_exact;
+pub use object_meaning::Pin;
 pub use pinning::{Counted, insert, live_tables};

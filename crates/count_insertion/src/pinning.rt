@@ -7,9 +7,9 @@ ghost use Rattle.count_insertion.specs.Inserted.{AreTables, may_count, pins_belo
 
 use crate::copies::core_copy;
 use core_tree::{Core, Func, Stm, StmKind};
-use object_meaning::Pin;
 use hs_base::{Items, NoMemory};
 use local_liveness::{LiveTable, live_at};
+use object_meaning::Pin;
 use std::alloc::Global;
 
 /// A core with its pins: for each of its functions, the registers that count at its points.

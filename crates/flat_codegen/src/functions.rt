@@ -18,9 +18,9 @@ use crate::places::Places;
 use crate::sites::{count_at, registers_of};
 use c_types::Layout;
 use core_tree::{Func, Mem, Reg, Stm, StmKind};
-use object_meaning::Pin;
 use flat_code::Entry;
 use hs_base::{Items, NoMemory};
+use object_meaning::Pin;
 use std::alloc::Global;
 
 /// The layout of the elements of a new object.

@@ -18,12 +18,11 @@ ghost use Rattle.flat_code.specs.WellFormed.{AreShort, IsWellFormed};
 use crate::emitter::Emitter;
 use crate::handing::instr;
 use crate::statics::{inits, layouts};
-use meaning_laws::codes_are_well_formed;
-use meaning_laws::code_means_core;
 use core_tree::{Core, Func};
 use count_insertion::{Counted, listed_pins_are_exact};
 use flat_code::{Code, Instr, Op};
 use hs_base::{Line, NoMemory};
+use meaning_laws::{code_means_core, codes_are_well_formed};
 use std::alloc::Global;
 
 /// Says whether a function is named main.

@@ -14,11 +14,10 @@ ghost use Rattle.flat_objects.specs.Leaks.{KeepsSome};
 ghost use Rattle.flat_machine.specs.Machined.{IsOf, steps_made};
 ghost use Rattle.flat_machine.specs.Running.{RunCounts};
 
-use meaning_laws::code_means_core;
-use meaning_laws::counted_means_core;
 use flat_code::Code;
 use flat_machine::Machine;
 use hs_base::{End, Sink, Source};
+use meaning_laws::{code_means_core, counted_means_core};
 
 /// Runs the code of a core that is sound and has exact pins, with at most so many steps (C99 5.1.2.3, with limits of this project's
 /// own). Where input and output are told, it writes exactly the bytes that the core writes in the machine's heap before its

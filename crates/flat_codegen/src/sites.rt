@@ -8,9 +8,9 @@ ghost use Rattle.flat_codegen.specs.Emitting.{next_site, with_sites};
 
 use crate::emitter::{Emitter, fit};
 use core_tree::StmKind;
-use object_meaning::Pin;
 use flat_code::Site;
 use hs_base::{Items, NoMemory};
+use object_meaning::Pin;
 use std::alloc::Global;
 
 /// Says whether objects may be freed at a statement, or while it waits.

@@ -18,9 +18,9 @@ use crate::loaded::Loaded;
 use crate::state::State;
 use crate::steps::one_step;
 use byte_memory::{CountRight, Steps};
-use meaning_laws::{run_begins_well, step_leaves_less, step_stays_good};
 use flat_code::Code;
 use hs_base::{End, Sink, Source};
+use meaning_laws::{run_begins_well, step_leaves_less, step_stays_good};
 use std::marker::Brand;
 use std::sync::ledger::{Blank, Ledger};
 

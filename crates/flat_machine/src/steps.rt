@@ -29,10 +29,10 @@ use crate::loaded::Loaded;
 use crate::state::State;
 use byte_memory::Steps;
 use c_print::Piece;
-use meaning_laws::running_pins_are_fresh;
 use flat_code::{Code, Instr, Op};
 use flat_objects::Word;
 use hs_base::{End, Items, Line, Sink, Source};
+use meaning_laws::running_pins_are_fresh;
 use std::sync::ledger::Ledger;
 
 /// The pieces at a place, and none where there are none.
