@@ -1,5 +1,5 @@
 -- Operations: the operators of each level behind those of the one before it.
-use Rattle.std.proofs.Common.{◌≡◌, ℕ, zero, suc, ◌+◌, ◌-◌, ◌<◌, Option, Some, None, Result, Err, refl, sym, ap, subst, arith, add-one, ◌∙◌}
+use Rattle.std.proofs.Common.{◌≡◌, ℕ, zero, suc, ◌+◌, ◌-◌, ◌<◌, Option, Some, None, Result, Err, sym, ap, subst, arith, add-one, ◌∙◌}
 use Rattle.c_tree.specs.Places.{Place}
 use Rattle.c_tree.specs.StatementView.{expr_view}
 use Rattle.c_tree.specs.Tree.{Tree}

@@ -1,5 +1,5 @@
 -- Reading only adds names to the scope, so a scope ends by taking its names back.
-use Rattle.std.proofs.Common.{◌≡◌, ℕ, zero, suc, ◌+◌, ◌-◌, Bool, true, false, if◌then◌else◌, List, [], ◌∷◌, ◌++◌, drop, take, length, Option, Some, None, Result, Ok, Err, refl, ap, sym, subst, ◌∙◌, append_assoc, length-append, arith}
+use Rattle.std.proofs.Common.{◌≡◌, ℕ, zero, suc, ◌-◌, Bool, true, false, if◌then◌else◌, List, [], ◌∷◌, ◌++◌, drop, take, length, Option, Some, None, Result, Ok, Err, refl, ap, sym, subst, ◌∙◌, append_assoc, length-append, arith}
 use Rattle.std.proofs.Math.Seq.{drop-append_seam}
 use Rattle.c_tree.specs.declared.word.Keyword.{Keyword}
 use Rattle.c_tree.specs.declared.word.Keyword.TheVariants as k

@@ -1,9 +1,9 @@
 -- One step of what is read by recursion on a number that the code counts down.
-use Rattle.std.proofs.Common.{◌≡◌, ℕ, zero, suc, ◌+◌, ◌-◌, ◌<◌, nat_le, if◌then◌else◌, None, Bool, refl, arith, ◌∙◌}
+use Rattle.std.proofs.Common.{◌≡◌, ℕ, zero, suc, ◌-◌, ◌<◌, nat_le, if◌then◌else◌, None, Bool, refl, arith, ◌∙◌}
 use Rattle.c_tree.specs.Forms.{Form}
 use Rattle.c_tree.specs.Places.{Place}
 use Rattle.c_tree.specs.Tree.{Tree, Trees}
-use Rattle.grammar_reading.specs.State.{State, kind_at, line_at, at_mark}
+use Rattle.grammar_reading.specs.State.{State, kind_at, at_mark}
 use Rattle.grammar_reading.specs.Reading.{◌>>=◌, Reader, snoc, guarded, commas_by, commas_from, list_by, list_from}
 use Rattle.grammar_reading.specs.Expressions.{of_mark, postfix_op, binary_op, at_level, postfix_from, postfix_by, binary_from, binary_by, binary_at, comma_at, comma_from, comma_by, loose_at, expression_at, strings_from, strings_by}
 use Rattle.grammar_reading.specs.Rooms.{less, read_at}

@@ -4,3 +4,4 @@ pub mod Parses
 pub mod Pieces
 pub mod Nodes
 pub mod Ends
+pub mod Growing

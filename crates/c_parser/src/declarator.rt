@@ -8,6 +8,7 @@ ghost use Rattle.c_tree.specs.View.{declarator_tree, base_tree};
 ghost use Rattle.c_tree.specs.StatementView.{trees, maybe, expr_view, specs_view, typename_view, suffix_view, param_view};
 ghost use Rattle.grammar_reading.specs.Declarators as spec;
 ghost use Rattle.parser_parts.specs.Gives.{Reads, Ended};
+ghost use Rattle.parser_parts.specs.Trees.{ReadsBase, ReadsDeclarator, ReadsParam, ReadsParams, ReadsSuffix, ReadsSuffixes, ReadsTypename};
 ghost use Rattle.grammar_reading.specs.Reading.{fixed, commas_from, goes_on};
 ghost use Rattle.grammar_reading.specs.Rooms.{less, read};
 ghost use Rattle.c_parser.specs.Sorts.{sort_place};
@@ -36,7 +37,7 @@ pub fn declarator<'a>(
     sort: NameSort,
 ) -> Result<DeepDeclarator<'a>, ReadError>
     requires room { room < 401 }
-    ensures value { Reads (λ x. declarator_tree x.tree) result reader.new (spec.declarator_at (less room) room (sort_place sort) reader.old) }
+    ensures value { ReadsDeclarator result reader.new (spec.declarator_at (less room) room (sort_place sort) reader.old) }
     ensures deep { IfOk result (λ x. x.layers + x.inside ≤ room) }
 {
     let d = layers(alloc, reader, room, sort)?;
@@ -55,7 +56,7 @@ fn layers<'a>(
     sort: NameSort,
 ) -> Result<DeepDeclarator<'a>, ReadError>
     requires room { room < 401 }
-    ensures value { Reads (λ x. declarator_tree x.tree) result reader.new (spec.layers_at (less room) room (sort_place sort) reader.old) }
+    ensures value { ReadsDeclarator result reader.new (spec.layers_at (less room) room (sort_place sort) reader.old) }
     ensures small { IfOk result (λ x. x.layers + 500 < 2 ^ 64) }
 {
     if reader.is_mark(Sign::Star) {
@@ -74,7 +75,7 @@ fn pointer<'a>(
     sort: NameSort,
 ) -> Result<DeepDeclarator<'a>, ReadError>
     requires room { room < 401 }
-    ensures value { Reads (λ x. declarator_tree x.tree) result reader.new (spec.pointer_at (less room) room (sort_place sort) reader.old) }
+    ensures value { ReadsDeclarator result reader.new (spec.pointer_at (less room) room (sort_place sort) reader.old) }
     ensures small { IfOk result (λ x. x.layers ≤ room) }
 {
     let line = reader.line();
@@ -96,7 +97,7 @@ fn direct<'a>(
     sort: NameSort,
 ) -> Result<DeepDeclarator<'a>, ReadError>
     requires room { room < 401 }
-    ensures value { Reads (λ x. declarator_tree x.tree) result reader.new (spec.direct_at (less room) room (sort_place sort) reader.old) }
+    ensures value { ReadsDeclarator result reader.new (spec.direct_at (less room) room (sort_place sort) reader.old) }
     ensures small { IfOk result (λ x. x.layers + 500 < 2 ^ 64) }
 {
     let base = base(alloc, reader, room, sort)?;
@@ -113,7 +114,7 @@ fn base<'a>(
     sort: NameSort,
 ) -> Result<DeepBase<'a>, ReadError>
     requires room { room < 401 }
-    ensures value { Reads (λ x. base_tree x.tree) result reader.new (spec.base_at (less room) room (sort_place sort) reader.old) }
+    ensures value { ReadsBase result reader.new (spec.base_at (less room) room (sort_place sort) reader.old) }
     ensures small { IfOk result (λ x. x.layers ≤ room) }
 {
     match reader.kind() {
@@ -138,7 +139,7 @@ fn enclosed<'a>(
     sort: NameSort,
 ) -> Result<DeepBase<'a>, ReadError>
     requires room { room < 401 }
-    ensures value { Reads (λ x. base_tree x.tree) result reader.new (fixed (spec.same_sort (less room) room (sort_place sort)) form.Parens reader.old) }
+    ensures value { ReadsBase result reader.new (fixed (spec.same_sort (less room) room (sort_place sort)) form.Parens reader.old) }
     ensures small { IfOk result (λ x. x.layers ≤ room) }
 {
     let line = reader.line();
@@ -159,7 +160,7 @@ fn name<'a>(
     sort: NameSort,
 ) -> Result<DeepBase<'a>, ReadError>
     requires { kind_at reader.old ≡ kinds.Name }
-    ensures value { Reads (λ x. base_tree x.tree) result reader.new (spec.base_by (less 0) 0 (sort_place sort) kinds.Name reader.old) }
+    ensures value { ReadsBase result reader.new (spec.base_by (less 0) 0 (sort_place sort) kinds.Name reader.old) }
     ensures small { IfOk result (λ x. x.layers ≡ 0) }
 {
     if is_abstract(sort) {
@@ -227,7 +228,7 @@ fn suffixes(
     is_name: bool,
 ) -> Result<DeepSuffixes, ReadError>
     requires room { room < 401 }
-    ensures value { Reads (λ x. Node form.Suffixes (trees suffix_view x.list.items)) result reader.new (spec.suffixes_from (less room) room (suc (left_at reader.old)) is_name none reader.old) }
+    ensures value { ReadsSuffixes result reader.new (spec.suffixes_from (less room) room (suc (left_at reader.old)) is_name none reader.old) }
     ensures small { IfOk result (λ x. x.layers + 999 < 2 ^ 64) }
 {
     let mut list = DeepSuffixes::none(alloc);
@@ -254,7 +255,7 @@ fn kept_suffix(
     first: bool,
 ) -> Result<DeepSuffix, ReadError>
     requires room { room < 401 }
-    ensures { Reads (λ x. suffix_view x.tree) result reader.new (kept_suffix_at (less room) room first reader.old) }
+    ensures { ReadsSuffix result reader.new (kept_suffix_at (less room) room first reader.old) }
 {
     if first {
         return suffix(alloc, reader, room);
@@ -269,7 +270,7 @@ fn kept_suffix(
 #[cycle(grammar)]
 fn suffix(alloc: Global, reader: &mut Reader, room: usize) -> Result<DeepSuffix, ReadError>
     requires room { room < 401 }
-    ensures { Reads (λ x. suffix_view x.tree) result reader.new (suffix_at (less room) room reader.old) }
+    ensures { ReadsSuffix result reader.new (suffix_at (less room) room reader.old) }
 {
     match reader.kind() {
         Kind::Mark(Sign::LeftBracket) => array(alloc, reader, room),
@@ -293,7 +294,7 @@ fn begins_suffix(kind: Kind) -> bool
 #[tactic(auto, using(crate::proofs::Steps::less_step, crate::proofs::Steps::less_none, crate::proofs::Steps::guarded_step, crate::proofs::Steps::declarator_step), unfolding(c_tree::specs::Grammar::shape, c_tree::specs::Depth::below, c_tree::specs::Depth::layers, c_tree::specs::Depth::greatest_depth, c_tree::specs::Depth::is_of_declarator, c_tree::specs::Depth::layer, c_tree::specs::Depth::weight, c_tree::specs::Grammar::form_home, c_tree::specs::Depth::layers_all, c_tree::specs::Depth::greatest_below, c_tree::specs::Scopes::suffix_params))]
 fn array(alloc: Global, reader: &mut Reader, room: usize) -> Result<DeepSuffix, ReadError>
     requires room { room < 401 }
-    ensures value { Reads (λ x. suffix_view x.tree) result reader.new (fixed (less room) form.ArraySuffix reader.old) }
+    ensures value { ReadsSuffix result reader.new (fixed (less room) form.ArraySuffix reader.old) }
 {
     let line = reader.line();
     reader.mark(Sign::LeftBracket)?;
@@ -335,7 +336,7 @@ fn maybe_length(alloc: Global, reader: &mut Reader, room: usize) -> Result<DeepM
 #[cycle(grammar)]
 fn function(alloc: Global, reader: &mut Reader, room: usize) -> Result<DeepSuffix, ReadError>
     requires room { room < 401 }
-    ensures { Reads (λ x. suffix_view x.tree) result reader.new (spec.function_suffix_at (less room) room reader.old) }
+    ensures { ReadsSuffix result reader.new (spec.function_suffix_at (less room) room reader.old) }
 {
     let outer = reader.enter();
     let suffix = open_function(alloc, reader, room)?;
@@ -347,7 +348,7 @@ fn function(alloc: Global, reader: &mut Reader, room: usize) -> Result<DeepSuffi
 #[cycle(grammar)]
 fn open_function(alloc: Global, reader: &mut Reader, room: usize) -> Result<DeepSuffix, ReadError>
     requires room { room < 401 }
-    ensures { Reads (λ x. suffix_view x.tree) result reader.new (open_function_at (less room) reader.old) }
+    ensures { ReadsSuffix result reader.new (open_function_at (less room) reader.old) }
 {
     if reader.is_void_list() {
         return void_list(reader, room);
@@ -359,7 +360,7 @@ fn open_function(alloc: Global, reader: &mut Reader, room: usize) -> Result<Deep
 #[tactic(auto, unfolding(c_tree::specs::Grammar::shape, c_tree::specs::Depth::below, c_tree::specs::Depth::layers, c_tree::specs::Depth::greatest_depth, c_tree::specs::Depth::is_of_declarator, c_tree::specs::Depth::layer, c_tree::specs::Depth::weight, c_tree::specs::Grammar::form_home, c_tree::specs::Depth::layers_all, c_tree::specs::Depth::greatest_below, c_tree::specs::Scopes::suffix_params))]
 fn void_list(reader: &mut Reader, room: usize) -> Result<DeepSuffix, ReadError>
     requires room { room < 401 }
-    ensures value { Reads (λ x. suffix_view x.tree) result reader.new (fixed (less room) form.VoidSuffix reader.old) }
+    ensures value { ReadsSuffix result reader.new (fixed (less room) form.VoidSuffix reader.old) }
 {
     let line = reader.line();
     reader.mark(Sign::LeftParen)?;
@@ -377,7 +378,7 @@ fn void_list(reader: &mut Reader, room: usize) -> Result<DeepSuffix, ReadError>
 #[tactic(auto, using(crate::proofs::Steps::less_step, crate::proofs::Steps::less_none, crate::proofs::Steps::guarded_step, crate::proofs::Steps::declarator_step), unfolding(c_tree::specs::Grammar::shape, c_tree::specs::Depth::below, c_tree::specs::Depth::layers, c_tree::specs::Depth::greatest_depth, c_tree::specs::Depth::is_of_declarator, c_tree::specs::Depth::layer, c_tree::specs::Depth::weight, c_tree::specs::Grammar::form_home, c_tree::specs::Depth::layers_all, c_tree::specs::Depth::greatest_below, c_tree::specs::Scopes::suffix_params))]
 fn parameter_list(alloc: Global, reader: &mut Reader, room: usize) -> Result<DeepSuffix, ReadError>
     requires room { room < 401 }
-    ensures value { Reads (λ x. suffix_view x.tree) result reader.new (fixed (less room) form.FunctionSuffix reader.old) }
+    ensures value { ReadsSuffix result reader.new (fixed (less room) form.FunctionSuffix reader.old) }
 {
     let line = reader.line();
     reader.mark(Sign::LeftParen)?;
@@ -398,7 +399,7 @@ fn parameter_list(alloc: Global, reader: &mut Reader, room: usize) -> Result<Dee
 #[cycle(grammar)]
 fn params(alloc: Global, reader: &mut Reader, room: usize) -> Result<DeepParams, ReadError>
     requires room { room < 401 }
-    ensures value { Reads (λ x. Node form.Params (trees param_view x.list.items)) result reader.new (read room place.Params reader.old) }
+    ensures value { ReadsParams result reader.new (read room place.Params reader.old) }
     ensures deep { IfOk result (λ x. x.depth ≤ room) }
 {
     if reader.is_mark(Sign::RightParen) {
@@ -412,7 +413,7 @@ fn params(alloc: Global, reader: &mut Reader, room: usize) -> Result<DeepParams,
 #[tactic(auto, using(crate::proofs::Steps::commas_step))]
 fn some_params(alloc: Global, reader: &mut Reader, room: usize) -> Result<DeepParams, ReadError>
     requires room { room < 401 }
-    ensures value { Reads (λ x. Node form.Params (trees param_view x.list.items)) result reader.new (commas_from (spec.param_at (less room) room) goes_on form.Params (left_at reader.old) none reader.old) }
+    ensures value { ReadsParams result reader.new (commas_from (spec.param_at (less room) room) goes_on form.Params (left_at reader.old) none reader.old) }
     ensures deep { IfOk result (λ x. x.depth ≤ room) }
 {
     let mut list = DeepParams::none(alloc);
@@ -434,7 +435,7 @@ fn some_params(alloc: Global, reader: &mut Reader, room: usize) -> Result<DeepPa
 #[tactic(auto, unfolding(c_tree::specs::Grammar::shape, c_tree::specs::Depth::below, c_tree::specs::Depth::layers, c_tree::specs::Depth::greatest_depth, c_tree::specs::Depth::is_of_declarator, c_tree::specs::Depth::layer, c_tree::specs::Depth::weight, c_tree::specs::Grammar::form_home, c_tree::specs::Scopes::name_of, c_tree::specs::Scopes::name_among, c_tree::specs::Scopes::leads_to_name))]
 fn param(alloc: Global, reader: &mut Reader, room: usize) -> Result<DeepParam, ReadError>
     requires room { room < 401 }
-    ensures value { Reads (λ x. param_view x.tree) result reader.new (spec.param_at (less room) room reader.old) }
+    ensures value { ReadsParam result reader.new (spec.param_at (less room) room reader.old) }
     ensures deep { IfOk result (λ x. x.depth ≤ room) }
 {
     let line = reader.line();
@@ -455,7 +456,7 @@ fn param(alloc: Global, reader: &mut Reader, room: usize) -> Result<DeepParam, R
 #[tactic(auto, unfolding(c_tree::specs::Grammar::shape, c_tree::specs::Depth::below, c_tree::specs::Depth::layers, c_tree::specs::Depth::greatest_depth, c_tree::specs::Depth::is_of_declarator, c_tree::specs::Depth::layer, c_tree::specs::Depth::weight, c_tree::specs::Grammar::form_home))]
 pub fn typename(alloc: Global, reader: &mut Reader, room: usize) -> Result<DeepTypename, ReadError>
     requires room { room < 401 }
-    ensures value { Reads (λ x. typename_view x.tree) result reader.new (read room place.Typename reader.old) }
+    ensures value { ReadsTypename result reader.new (read room place.Typename reader.old) }
     ensures deep { IfOk result (λ x. x.depth ≤ room) }
 {
     let line = reader.line();

@@ -8,7 +8,8 @@ ghost use Rattle.c_tree.specs.Forms as form;
 ghost use Rattle.c_tree.specs.Places.{Expression};
 ghost use Rattle.c_tree.specs.StatementView.{expr_view};
 ghost use Rattle.grammar_reading.specs.Expressions as spec;
-ghost use Rattle.parser_parts.specs.Gives.{Reads};
+ghost use Rattle.c_parser.specs.Growing.{Grows};
+ghost use Rattle.parser_parts.specs.Trees.{ReadsExpr};
 ghost use Rattle.grammar_reading.specs.Reading.{grown};
 ghost use Rattle.grammar_reading.specs.Rooms.{less, read};
 ghost use Rattle.c_parser.specs.Nodes.{is_unary_kind as unary_kind};
@@ -33,7 +34,7 @@ pub fn expression(
 ) -> Result<DeepExpr, ReadError>
     requires room { room < 401 }
     requires level { level < 16 }
-    ensures value { Reads (λ x. expr_view x.tree) result reader.new (read room (Expression level) reader.old) }
+    ensures value { ReadsExpr result reader.new (read room (Expression level) reader.old) }
     ensures deep { IfOk result (λ x. x.depth ≤ room) }
 {
     if room == 0 {
@@ -54,7 +55,7 @@ fn leveled(
     requires room { room < 401 }
     requires some { 0 < room }
     requires level { level < 16 }
-    ensures value { Reads (λ x. expr_view x.tree) result reader.new (spec.expression_at (less room) room level reader.old) }
+    ensures value { ReadsExpr result reader.new (spec.expression_at (less room) room level reader.old) }
     ensures deep { IfOk result (λ x. x.depth ≤ room) }
 {
     if level == 0 {
@@ -82,7 +83,7 @@ fn loose(
     requires room { room < 401 }
     requires some { 0 < room }
     requires level { looser < 16 }
-    ensures value { Reads (λ x. expr_view x.tree) result reader.new (spec.loose_at (less room) room looser reader.old) }
+    ensures value { ReadsExpr result reader.new (spec.loose_at (less room) room looser reader.old) }
     ensures deep { IfOk result (λ x. x.depth ≤ room) }
 {
     if looser == 0 {
@@ -99,7 +100,7 @@ fn loose(
 fn comma(alloc: Global, reader: &mut Reader, room: usize) -> Result<DeepExpr, ReadError>
     requires room { room < 401 }
     requires some { 0 < room }
-    ensures value { Reads (λ x. expr_view x.tree) result reader.new (spec.comma_at (less room) room reader.old) }
+    ensures value { ReadsExpr result reader.new (spec.comma_at (less room) room reader.old) }
     ensures deep { IfOk result (λ x. x.depth ≤ room) }
 {
     let line = reader.line();
@@ -121,7 +122,7 @@ fn commas(
     requires room { room < 401 }
     requires some { 0 < room }
     requires fits { left.depth ≤ room }
-    ensures value { Reads (λ x. expr_view x.tree) result reader.new (spec.comma_from (less room) room room line (expr_view left.tree) reader.old) }
+    ensures value { ReadsExpr result reader.new (spec.comma_from (less room) room room line (expr_view left.tree) reader.old) }
     ensures deep { IfOk result (λ x. x.depth ≤ room) }
 {
     let mut whole = left;
@@ -149,7 +150,7 @@ fn grow_comma(
 ) -> Result<DeepExpr, ReadError>
     requires room { room < 401 }
     requires some { 0 < room }
-    ensures value { Reads (λ x. expr_view x.tree) result reader.new (grown room (less room) form.Comma line (expr_view left.tree) reader.old) }
+    ensures value { Grows room form.Comma line left result reader.old reader.new }
     ensures deep { IfOk result (λ x. x.depth ≤ room) }
 {
     if left.depth >= room {
@@ -165,7 +166,7 @@ fn grow_comma(
 fn assignment(alloc: Global, reader: &mut Reader, room: usize) -> Result<DeepExpr, ReadError>
     requires room { room < 401 }
     requires some { 0 < room }
-    ensures value { Reads (λ x. expr_view x.tree) result reader.new (spec.assign_at (less room) room reader.old) }
+    ensures value { ReadsExpr result reader.new (spec.assign_at (less room) room reader.old) }
     ensures deep { IfOk result (λ x. x.depth ≤ room) }
 {
     let line = reader.line();
@@ -193,7 +194,7 @@ fn grow_assignment(
 ) -> Result<DeepExpr, ReadError>
     requires room { room < 401 }
     requires some { 0 < room }
-    ensures value { Reads (λ x. expr_view x.tree) result reader.new (grown room (less room) (form.Assign op) line (expr_view left.tree) reader.old) }
+    ensures value { Grows room (form.Assign op) line left result reader.old reader.new }
     ensures deep { IfOk result (λ x. x.depth ≤ room) }
 {
     if left.depth >= room {
@@ -209,7 +210,7 @@ fn grow_assignment(
 fn condition(alloc: Global, reader: &mut Reader, room: usize) -> Result<DeepExpr, ReadError>
     requires room { room < 401 }
     requires some { 0 < room }
-    ensures value { Reads (λ x. expr_view x.tree) result reader.new (spec.cond_at (less room) room reader.old) }
+    ensures value { ReadsExpr result reader.new (spec.cond_at (less room) room reader.old) }
     ensures deep { IfOk result (λ x. x.depth ≤ room) }
 {
     let line = reader.line();
@@ -233,7 +234,7 @@ fn grow_condition(
 ) -> Result<DeepExpr, ReadError>
     requires room { room < 401 }
     requires some { 0 < room }
-    ensures value { Reads (λ x. expr_view x.tree) result reader.new (grown room (less room) form.Cond line (expr_view left.tree) reader.old) }
+    ensures value { Grows room form.Cond line left result reader.old reader.new }
     ensures deep { IfOk result (λ x. x.depth ≤ room) }
 {
     if left.depth >= room {
@@ -258,7 +259,7 @@ fn operation(
     requires room { room < 401 }
     requires some { 0 < room }
     requires level { looser ≤ 10 }
-    ensures value { Reads (λ x. expr_view x.tree) result reader.new (spec.binary_at (less room) room looser reader.old) }
+    ensures value { ReadsExpr result reader.new (spec.binary_at (less room) room looser reader.old) }
     ensures deep { IfOk result (λ x. x.depth ≤ room) }
 {
     let line = reader.line();
@@ -283,7 +284,7 @@ fn operators(
     requires room { room < 401 }
     requires some { 0 < room }
     requires fits { left.depth ≤ room }
-    ensures value { Reads (λ x. expr_view x.tree) result reader.new (spec.binary_from (less room) room room level line (expr_view left.tree) reader.old) }
+    ensures value { ReadsExpr result reader.new (spec.binary_from (less room) room room level line (expr_view left.tree) reader.old) }
     ensures deep { IfOk result (λ x. x.depth ≤ room) }
 {
     let mut whole = left;
@@ -312,7 +313,7 @@ fn grow_operation(
 ) -> Result<DeepExpr, ReadError>
     requires room { room < 401 }
     requires some { 0 < room }
-    ensures value { Reads (λ x. expr_view x.tree) result reader.new (grown room (less room) (form.Binary op) line (expr_view left.tree) reader.old) }
+    ensures value { Grows room (form.Binary op) line left result reader.old reader.new }
     ensures deep { IfOk result (λ x. x.depth ≤ room) }
 {
     if left.depth >= room {

@@ -7,7 +7,7 @@ ghost use Rattle.std.specs.Prelude.{◌≡◌, ◌<◌, ◌≤◌, IfOk};
 ghost use Rattle.c_tree.specs.Forms as form;
 ghost use Rattle.c_tree.specs.StatementView.{expr_view};
 ghost use Rattle.grammar_reading.specs.Expressions as spec;
-ghost use Rattle.parser_parts.specs.Gives.{Reads};
+ghost use Rattle.parser_parts.specs.Trees.{ReadsExpr};
 ghost use Rattle.grammar_reading.specs.State.{kind_at};
 ghost use Rattle.grammar_reading.specs.declared.kind.Kind.TheVariants as kinds;
 ghost use Rattle.grammar_reading.specs.Reading.{fixed};
@@ -29,7 +29,7 @@ use std::alloc::Global;
 pub fn cast(alloc: Global, reader: &mut Reader, room: usize) -> Result<DeepExpr, ReadError>
     requires room { room < 401 }
     requires some { 0 < room }
-    ensures value { Reads (λ x. expr_view x.tree) result reader.new (spec.cast_at (less room) room reader.old) }
+    ensures value { ReadsExpr result reader.new (spec.cast_at (less room) room reader.old) }
     ensures deep { IfOk result (λ x. x.depth ≤ room) }
 {
     if !reader.opens_type() {
@@ -45,7 +45,7 @@ pub fn cast(alloc: Global, reader: &mut Reader, room: usize) -> Result<DeepExpr,
 fn cast_typename(alloc: Global, reader: &mut Reader, room: usize) -> Result<DeepExpr, ReadError>
     requires room { room < 401 }
     requires some { 0 < room }
-    ensures value { Reads (λ x. expr_view x.tree) result reader.new (fixed (less room) form.Cast reader.old) }
+    ensures value { ReadsExpr result reader.new (fixed (less room) form.Cast reader.old) }
     ensures deep { IfOk result (λ x. x.depth ≤ room) }
 {
     let line = reader.line();
@@ -61,7 +61,7 @@ fn cast_typename(alloc: Global, reader: &mut Reader, room: usize) -> Result<Deep
 pub fn unary(alloc: Global, reader: &mut Reader, room: usize) -> Result<DeepExpr, ReadError>
     requires room { room < 401 }
     requires some { 0 < room }
-    ensures value { Reads (λ x. expr_view x.tree) result reader.new (spec.unary_at (less room) room reader.old) }
+    ensures value { ReadsExpr result reader.new (spec.unary_at (less room) room reader.old) }
     ensures deep { IfOk result (λ x. x.depth ≤ room) }
 {
     let Some(prefix) = before_operand(reader.kind()) else {
@@ -83,7 +83,7 @@ fn prefixed(
 ) -> Result<DeepExpr, ReadError>
     requires room { room < 401 }
     requires some { 0 < room }
-    ensures value { Reads (λ x. expr_view x.tree) result reader.new (fixed (less room) (prefix_form prefix) reader.old) }
+    ensures value { ReadsExpr result reader.new (fixed (less room) (prefix_form prefix) reader.old) }
     ensures deep { IfOk result (λ x. x.depth ≤ room) }
 {
     match prefix {
@@ -100,7 +100,7 @@ fn prefixed(
 fn increment(alloc: Global, reader: &mut Reader, room: usize) -> Result<DeepExpr, ReadError>
     requires room { room < 401 }
     requires some { 0 < room }
-    ensures value { Reads (λ x. expr_view x.tree) result reader.new (fixed (less room) form.PreInc reader.old) }
+    ensures value { ReadsExpr result reader.new (fixed (less room) form.PreInc reader.old) }
     ensures deep { IfOk result (λ x. x.depth ≤ room) }
 {
     let line = reader.line();
@@ -116,7 +116,7 @@ fn increment(alloc: Global, reader: &mut Reader, room: usize) -> Result<DeepExpr
 fn decrement(alloc: Global, reader: &mut Reader, room: usize) -> Result<DeepExpr, ReadError>
     requires room { room < 401 }
     requires some { 0 < room }
-    ensures value { Reads (λ x. expr_view x.tree) result reader.new (fixed (less room) form.PreDec reader.old) }
+    ensures value { ReadsExpr result reader.new (fixed (less room) form.PreDec reader.old) }
     ensures deep { IfOk result (λ x. x.depth ≤ room) }
 {
     let line = reader.line();
@@ -137,7 +137,7 @@ fn operator(
 ) -> Result<DeepExpr, ReadError>
     requires room { room < 401 }
     requires some { 0 < room }
-    ensures value { Reads (λ x. expr_view x.tree) result reader.new (fixed (less room) (form.Unary op) reader.old) }
+    ensures value { ReadsExpr result reader.new (fixed (less room) (form.Unary op) reader.old) }
     ensures deep { IfOk result (λ x. x.depth ≤ room) }
 {
     let line = reader.line();
@@ -151,7 +151,7 @@ fn operator(
 fn size(alloc: Global, reader: &mut Reader, room: usize) -> Result<DeepExpr, ReadError>
     requires room { room < 401 }
     requires some { 0 < room }
-    ensures value { Reads (λ x. expr_view x.tree) result reader.new (spec.sizeof_at (less room) room reader.old) }
+    ensures value { ReadsExpr result reader.new (spec.sizeof_at (less room) room reader.old) }
     ensures deep { IfOk result (λ x. x.depth ≤ room) }
 {
     if reader.opens_type_behind() {
@@ -167,7 +167,7 @@ fn size(alloc: Global, reader: &mut Reader, room: usize) -> Result<DeepExpr, Rea
 fn size_of_type(alloc: Global, reader: &mut Reader, room: usize) -> Result<DeepExpr, ReadError>
     requires room { room < 401 }
     requires some { 0 < room }
-    ensures value { Reads (λ x. expr_view x.tree) result reader.new (fixed (less room) form.SizeofType reader.old) }
+    ensures value { ReadsExpr result reader.new (fixed (less room) form.SizeofType reader.old) }
     ensures deep { IfOk result (λ x. x.depth ≤ room) }
 {
     let line = reader.line();
@@ -185,7 +185,7 @@ fn size_of_type(alloc: Global, reader: &mut Reader, room: usize) -> Result<DeepE
 fn size_of_value(alloc: Global, reader: &mut Reader, room: usize) -> Result<DeepExpr, ReadError>
     requires room { room < 401 }
     requires some { 0 < room }
-    ensures value { Reads (λ x. expr_view x.tree) result reader.new (fixed (less room) form.SizeofExpr reader.old) }
+    ensures value { ReadsExpr result reader.new (fixed (less room) form.SizeofExpr reader.old) }
     ensures deep { IfOk result (λ x. x.depth ≤ room) }
 {
     let line = reader.line();
@@ -199,7 +199,7 @@ fn size_of_value(alloc: Global, reader: &mut Reader, room: usize) -> Result<Deep
 pub fn primary(alloc: Global, reader: &mut Reader, room: usize) -> Result<DeepExpr, ReadError>
     requires room { room < 401 }
     requires some { 0 < room }
-    ensures value { Reads (λ x. expr_view x.tree) result reader.new (spec.primary_at (less room) room reader.old) }
+    ensures value { ReadsExpr result reader.new (spec.primary_at (less room) room reader.old) }
     ensures deep { IfOk result (λ x. x.depth ≤ room) }
 {
     match reader.kind() {
@@ -219,7 +219,7 @@ pub fn primary(alloc: Global, reader: &mut Reader, room: usize) -> Result<DeepEx
 fn parens(alloc: Global, reader: &mut Reader, room: usize) -> Result<DeepExpr, ReadError>
     requires room { room < 401 }
     requires some { 0 < room }
-    ensures value { Reads (λ x. expr_view x.tree) result reader.new (fixed (less room) form.Paren reader.old) }
+    ensures value { ReadsExpr result reader.new (fixed (less room) form.Paren reader.old) }
     ensures deep { IfOk result (λ x. x.depth ≤ room) }
 {
     let line = reader.line();
@@ -236,7 +236,7 @@ fn name(alloc: Global, reader: &mut Reader, room: usize) -> Result<DeepExpr, Rea
     requires room { room < 401 }
     requires some { 0 < room }
     requires kind { kind_at reader.old ≡ kinds.Name }
-    ensures value { Reads (λ x. expr_view x.tree) result reader.new (spec.primary_by (less room) room kinds.Name reader.old) }
+    ensures value { ReadsExpr result reader.new (spec.primary_by (less room) room kinds.Name reader.old) }
     ensures deep { IfOk result (λ x. x.depth ≤ room) }
 {
     if reader.is_type() {
@@ -255,7 +255,7 @@ fn int(alloc: Global, reader: &mut Reader, room: usize) -> Result<DeepExpr, Read
     requires room { room < 401 }
     requires some { 0 < room }
     requires kind { kind_at reader.old ≡ kinds.Int }
-    ensures value { Reads (λ x. expr_view x.tree) result reader.new (spec.primary_by (less room) room kinds.Int reader.old) }
+    ensures value { ReadsExpr result reader.new (spec.primary_by (less room) room kinds.Int reader.old) }
     ensures deep { IfOk result (λ x. x.depth ≤ room) }
 {
     let line = reader.line();
@@ -271,7 +271,7 @@ fn character(alloc: Global, reader: &mut Reader, room: usize) -> Result<DeepExpr
     requires room { room < 401 }
     requires some { 0 < room }
     requires kind { kind_at reader.old ≡ kinds.Char }
-    ensures value { Reads (λ x. expr_view x.tree) result reader.new (spec.primary_by (less room) room kinds.Char reader.old) }
+    ensures value { ReadsExpr result reader.new (spec.primary_by (less room) room kinds.Char reader.old) }
     ensures deep { IfOk result (λ x. x.depth ≤ room) }
 {
     let line = reader.line();
@@ -286,7 +286,7 @@ fn character(alloc: Global, reader: &mut Reader, room: usize) -> Result<DeepExpr
 fn literals(alloc: Global, reader: &mut Reader, room: usize) -> Result<DeepExpr, ReadError>
     requires room { room < 401 }
     requires some { 0 < room }
-    ensures value { Reads (λ x. expr_view x.tree) result reader.new (spec.primary_by (less room) room kinds.Str reader.old) }
+    ensures value { ReadsExpr result reader.new (spec.primary_by (less room) room kinds.Str reader.old) }
     ensures deep { IfOk result (λ x. x.depth ≤ room) }
 {
     let line = reader.line();

@@ -9,7 +9,8 @@ ghost use Rattle.c_tree.specs.Places.{Arguments};
 ghost use Rattle.c_tree.specs.Tree.{Node, none};
 ghost use Rattle.c_tree.specs.StatementView.{trees, expr_view};
 ghost use Rattle.grammar_reading.specs.Expressions as spec;
-ghost use Rattle.parser_parts.specs.Gives.{Reads};
+ghost use Rattle.c_parser.specs.Growing.{Grows};
+ghost use Rattle.parser_parts.specs.Trees.{ReadsArguments, ReadsExpr};
 ghost use Rattle.grammar_reading.specs.Reading.{grown, commas_from, goes_on};
 ghost use Rattle.grammar_reading.specs.Rooms.{less, read};
 ghost use Rattle.parser_parts.specs.Signs.{postfix_form};
@@ -27,7 +28,7 @@ use std::alloc::Global;
 pub fn postfix(alloc: Global, reader: &mut Reader, room: usize) -> Result<DeepExpr, ReadError>
     requires room { room < 401 }
     requires some { 0 < room }
-    ensures value { Reads (λ x. expr_view x.tree) result reader.new (spec.postfix_at (less room) room reader.old) }
+    ensures value { ReadsExpr result reader.new (spec.postfix_at (less room) room reader.old) }
     ensures deep { IfOk result (λ x. x.depth ≤ room) }
 {
     let line = reader.line();
@@ -48,7 +49,7 @@ fn postfixes(
     requires room { room < 401 }
     requires some { 0 < room }
     requires fits { left.depth ≤ room }
-    ensures value { Reads (λ x. expr_view x.tree) result reader.new (spec.postfix_from (less room) room room line (expr_view left.tree) reader.old) }
+    ensures value { ReadsExpr result reader.new (spec.postfix_from (less room) room room line (expr_view left.tree) reader.old) }
     ensures deep { IfOk result (λ x. x.depth ≤ room) }
 {
     let mut whole = left;
@@ -75,7 +76,7 @@ fn grow_postfix(
 ) -> Result<DeepExpr, ReadError>
     requires room { room < 401 }
     requires some { 0 < room }
-    ensures value { Reads (λ x. expr_view x.tree) result reader.new (grown room (less room) (postfix_form postfix) line (expr_view left.tree) reader.old) }
+    ensures value { Grows room (postfix_form postfix) line left result reader.old reader.new }
     ensures deep { IfOk result (λ x. x.depth ≤ room) }
 {
     match postfix {
@@ -101,7 +102,7 @@ fn index(
 ) -> Result<DeepExpr, ReadError>
     requires room { room < 401 }
     requires some { 0 < room }
-    ensures value { Reads (λ x. expr_view x.tree) result reader.new (grown room (less room) form.Index line (expr_view left.tree) reader.old) }
+    ensures value { Grows room form.Index line left result reader.old reader.new }
     ensures deep { IfOk result (λ x. x.depth ≤ room) }
 {
     if left.depth >= room {
@@ -126,7 +127,7 @@ fn call(
 ) -> Result<DeepExpr, ReadError>
     requires room { room < 401 }
     requires some { 0 < room }
-    ensures value { Reads (λ x. expr_view x.tree) result reader.new (grown room (less room) form.Call line (expr_view left.tree) reader.old) }
+    ensures value { Grows room form.Call line left result reader.old reader.new }
     ensures deep { IfOk result (λ x. x.depth ≤ room) }
 {
     if left.depth >= room {
@@ -150,7 +151,7 @@ fn dot(
 ) -> Result<DeepExpr, ReadError>
     requires room { room < 401 }
     requires some { 0 < room }
-    ensures value { Reads (λ x. expr_view x.tree) result reader.new (grown room (less room) form.Dot line (expr_view left.tree) reader.old) }
+    ensures value { Grows room form.Dot line left result reader.old reader.new }
     ensures deep { IfOk result (λ x. x.depth ≤ room) }
 {
     if left.depth >= room {
@@ -173,7 +174,7 @@ fn arrow(
 ) -> Result<DeepExpr, ReadError>
     requires room { room < 401 }
     requires some { 0 < room }
-    ensures value { Reads (λ x. expr_view x.tree) result reader.new (grown room (less room) form.Arrow line (expr_view left.tree) reader.old) }
+    ensures value { Grows room form.Arrow line left result reader.old reader.new }
     ensures deep { IfOk result (λ x. x.depth ≤ room) }
 {
     if left.depth >= room {
@@ -196,7 +197,7 @@ fn increment_behind(
 ) -> Result<DeepExpr, ReadError>
     requires room { room < 401 }
     requires some { 0 < room }
-    ensures value { Reads (λ x. expr_view x.tree) result reader.new (grown room (less room) form.PostInc line (expr_view left.tree) reader.old) }
+    ensures value { Grows room form.PostInc line left result reader.old reader.new }
     ensures deep { IfOk result (λ x. x.depth ≤ room) }
 {
     if left.depth >= room {
@@ -218,7 +219,7 @@ fn decrement_behind(
 ) -> Result<DeepExpr, ReadError>
     requires room { room < 401 }
     requires some { 0 < room }
-    ensures value { Reads (λ x. expr_view x.tree) result reader.new (grown room (less room) form.PostDec line (expr_view left.tree) reader.old) }
+    ensures value { Grows room form.PostDec line left result reader.old reader.new }
     ensures deep { IfOk result (λ x. x.depth ≤ room) }
 {
     if left.depth >= room {
@@ -232,7 +233,7 @@ fn decrement_behind(
 #[cycle(grammar)]
 fn arguments(alloc: Global, reader: &mut Reader, room: usize) -> Result<DeepExprs, ReadError>
     requires room { room < 401 }
-    ensures value { Reads (λ x. Node form.Arguments (trees expr_view x.list.items)) result reader.new (read room Arguments reader.old) }
+    ensures value { ReadsArguments result reader.new (read room Arguments reader.old) }
     ensures deep { IfOk result (λ x. x.depth ≤ room) }
 {
     if reader.is_mark(Sign::RightParen) {
@@ -247,7 +248,7 @@ fn arguments(alloc: Global, reader: &mut Reader, room: usize) -> Result<DeepExpr
 #[tactic(auto, using(crate::proofs::Steps::commas_step))]
 fn some_arguments(alloc: Global, reader: &mut Reader, room: usize) -> Result<DeepExprs, ReadError>
     requires room { room < 401 }
-    ensures value { Reads (λ x. Node form.Arguments (trees expr_view x.list.items)) result reader.new (commas_from (spec.argument_at (less room) room) goes_on form.Arguments (left_at reader.old) none reader.old) }
+    ensures value { ReadsArguments result reader.new (commas_from (spec.argument_at (less room) room) goes_on form.Arguments (left_at reader.old) none reader.old) }
     ensures deep { IfOk result (λ x. x.depth ≤ room) }
 {
     let mut list = DeepExprs::none(alloc);

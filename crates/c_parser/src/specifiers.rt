@@ -8,7 +8,8 @@ ghost use Rattle.c_tree.specs.Tree.{Leaf, At, Node, none, ◌▹◌};
 ghost use Rattle.c_tree.specs.View.{spec_tree};
 ghost use Rattle.c_tree.specs.StatementView.{trees, specs_view};
 ghost use Rattle.grammar_reading.specs.Declarators as spec;
-ghost use Rattle.parser_parts.specs.Gives.{Reads, Ended};
+ghost use Rattle.parser_parts.specs.Gives.{Ended};
+ghost use Rattle.parser_parts.specs.Trees.{ReadsSpecs, ReadsWords};
 ghost use Rattle.c_parser.specs.Nodes.{is_typedef_word};
 ghost use Rattle.c_parser.specs.Pieces.{is_end as spec_is_end, one_word_at};
 ghost use Rattle.grammar_reading.specs.Reading.{snoc};
@@ -31,7 +32,7 @@ use std::alloc::Global;
 #[tactic(auto, unfolding(c_tree::specs::Scopes::has_typedef))]
 pub fn specs(alloc: Global, reader: &mut Reader, room: usize) -> Result<DeepSpecs, ReadError>
     requires room { room < 401 }
-    ensures value { Reads (λ x. specs_view x.tree) result reader.new (spec.specs_at (less room) room reader.old) }
+    ensures value { ReadsSpecs result reader.new (spec.specs_at (less room) room reader.old) }
     ensures deep { IfOk result (λ x. x.depth ≤ room) }
 {
     let specs = specs_by(alloc, reader, room, false)?;
@@ -45,7 +46,7 @@ pub fn specs(alloc: Global, reader: &mut Reader, room: usize) -> Result<DeepSpec
 #[cycle(grammar)]
 pub fn plain_specs(alloc: Global, reader: &mut Reader, room: usize) -> Result<DeepSpecs, ReadError>
     requires room { room < 401 }
-    ensures value { Reads (λ x. specs_view x.tree) result reader.new (spec.plain_specs_at (less room) room reader.old) }
+    ensures value { ReadsSpecs result reader.new (spec.plain_specs_at (less room) room reader.old) }
     ensures deep { IfOk result (λ x. x.depth ≤ room) }
 {
     specs_by(alloc, reader, room, true)
@@ -61,7 +62,7 @@ fn specs_by(
     plain: bool,
 ) -> Result<DeepSpecs, ReadError>
     requires room { room < 401 }
-    ensures value { Reads (λ x. specs_view x.tree) result reader.new (spec.specs_from (less room) room (suc (left_at reader.old)) plain no_words (At (line_at reader.old) ▹ none) reader.old) }
+    ensures value { ReadsSpecs result reader.new (spec.specs_from (less room) room (suc (left_at reader.old)) plain no_words (At (line_at reader.old) ▹ none) reader.old) }
     ensures deep { IfOk result (λ x. x.depth ≤ room) }
 {
     let line = reader.line();
@@ -105,7 +106,7 @@ fn one_more(
     requires start { start ≡ spec.spec_at (tally_of tally) reader.old }
     requires small { total tally + 1 < 2 ^ 64 }
     requires fits { words.depth ≤ room }
-    ensures value { Reads (λ x. (tally_of x.0, trees spec_tree x.1.list.items)) result reader.new (one_word_at (less room) room (tally_of tally) (trees spec_tree words.list.items) start reader.old) }
+    ensures value { ReadsWords result reader.new (one_word_at (less room) room (tally_of tally) (trees spec_tree words.list.items) start reader.old) }
     ensures total { IfOk result (λ x. total x.0 ≤ total tally + 1) }
     ensures deep { IfOk result (λ x. x.1.depth ≤ room) }
 {
@@ -137,7 +138,7 @@ fn keyword_more(
     requires start { spec.spec_at (tally_of tally) reader.old ≡ starts.Word }
     requires small { total tally + 1 < 2 ^ 64 }
     requires fits { words.depth ≤ room }
-    ensures value { Reads (λ x. (tally_of x.0, trees spec_tree x.1.list.items)) result reader.new (one_word_at (less room) room (tally_of tally) (trees spec_tree words.list.items) starts.Word reader.old) }
+    ensures value { ReadsWords result reader.new (one_word_at (less room) room (tally_of tally) (trees spec_tree words.list.items) starts.Word reader.old) }
     ensures total { IfOk result (λ x. total x.0 ≤ total tally + 1) }
     ensures deep { IfOk result (λ x. x.1.depth ≤ room) }
 {
@@ -159,7 +160,7 @@ fn name_more(
     requires start { spec.spec_at (tally_of tally) reader.old ≡ starts.TypedefName }
     requires small { total tally + 1 < 2 ^ 64 }
     requires fits { words.depth ≤ room }
-    ensures value { Reads (λ x. (tally_of x.0, trees spec_tree x.1.list.items)) result reader.new (one_word_at (less room) room (tally_of tally) (trees spec_tree words.list.items) starts.TypedefName reader.old) }
+    ensures value { ReadsWords result reader.new (one_word_at (less room) room (tally_of tally) (trees spec_tree words.list.items) starts.TypedefName reader.old) }
     ensures total { IfOk result (λ x. total x.0 ≤ total tally + 1) }
     ensures deep { IfOk result (λ x. x.1.depth ≤ room) }
 {

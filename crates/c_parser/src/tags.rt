@@ -9,6 +9,7 @@ ghost use Rattle.c_tree.specs.View.{enumerator_tree, declarator_tree};
 ghost use Rattle.c_tree.specs.StatementView.{trees, maybe, expr_view, tag_view, member_view};
 ghost use Rattle.grammar_reading.specs.Declarators as spec;
 ghost use Rattle.parser_parts.specs.Gives.{Reads};
+ghost use Rattle.parser_parts.specs.Trees.{ReadsEnumerator, ReadsEnumerators, ReadsMember, ReadsMemberNames, ReadsMembers, ReadsTag};
 ghost use Rattle.grammar_reading.specs.Reading.{ending, parts_of, fixed};
 ghost use Rattle.grammar_reading.specs.Rooms.{less, read};
 
@@ -33,7 +34,7 @@ pub fn record(
     sort: RecordSort,
 ) -> Result<DeepTag, ReadError>
     requires room { room < 401 }
-    ensures value { Reads (λ x. tag_view x.tree) result reader.new (spec.record_at (less room) room sort reader.old) }
+    ensures value { ReadsTag result reader.new (spec.record_at (less room) room sort reader.old) }
     ensures deep { IfOk result (λ x. x.depth ≤ room) }
 {
     if reader.is_tag_alone() {
@@ -51,7 +52,7 @@ fn record_tag(
     sort: RecordSort,
 ) -> Result<DeepTag, ReadError>
     requires room { room < 401 }
-    ensures value { Reads (λ x. tag_view x.tree) result reader.new (fixed spec.name_part (form.RecordTag sort) reader.old) }
+    ensures value { ReadsTag result reader.new (fixed spec.name_part (form.RecordTag sort) reader.old) }
     ensures deep { IfOk result (λ x. x.depth ≤ room) }
 {
     let line = reader.line();
@@ -73,7 +74,7 @@ fn record_body(
     sort: RecordSort,
 ) -> Result<DeepTag, ReadError>
     requires room { room < 401 }
-    ensures value { Reads (λ x. tag_view x.tree) result reader.new (fixed (less room) (form.RecordBody sort) reader.old) }
+    ensures value { ReadsTag result reader.new (fixed (less room) (form.RecordBody sort) reader.old) }
     ensures deep { IfOk result (λ x. x.depth ≤ room) }
 {
     let line = reader.line();
@@ -96,7 +97,7 @@ fn record_body(
 #[cycle(grammar)]
 pub fn enumeration(alloc: Global, reader: &mut Reader, room: usize) -> Result<DeepTag, ReadError>
     requires room { room < 401 }
-    ensures value { Reads (λ x. tag_view x.tree) result reader.new (spec.enum_at (less room) room reader.old) }
+    ensures value { ReadsTag result reader.new (spec.enum_at (less room) room reader.old) }
     ensures deep { IfOk result (λ x. x.depth ≤ room) }
 {
     if reader.is_tag_alone() {
@@ -109,7 +110,7 @@ pub fn enumeration(alloc: Global, reader: &mut Reader, room: usize) -> Result<De
 #[tactic(auto, unfolding(c_tree::specs::Grammar::shape, c_tree::specs::Depth::below, c_tree::specs::Depth::layers, c_tree::specs::Depth::greatest_depth, c_tree::specs::Depth::is_of_declarator, c_tree::specs::Depth::layer, c_tree::specs::Depth::weight, c_tree::specs::Grammar::form_home))]
 fn enum_tag(alloc: Global, reader: &mut Reader, room: usize) -> Result<DeepTag, ReadError>
     requires room { room < 401 }
-    ensures value { Reads (λ x. tag_view x.tree) result reader.new (fixed spec.name_part form.EnumTag reader.old) }
+    ensures value { ReadsTag result reader.new (fixed spec.name_part form.EnumTag reader.old) }
     ensures deep { IfOk result (λ x. x.depth ≤ room) }
 {
     let line = reader.line();
@@ -126,7 +127,7 @@ fn enum_tag(alloc: Global, reader: &mut Reader, room: usize) -> Result<DeepTag, 
 #[tactic(auto, using(crate::proofs::Steps::less_step, crate::proofs::Steps::less_none, crate::proofs::Steps::guarded_step), unfolding(c_tree::specs::Grammar::shape, c_tree::specs::Depth::below, c_tree::specs::Depth::layers, c_tree::specs::Depth::greatest_depth, c_tree::specs::Depth::is_of_declarator, c_tree::specs::Depth::layer, c_tree::specs::Depth::weight, c_tree::specs::Grammar::form_home))]
 fn enum_body(alloc: Global, reader: &mut Reader, room: usize) -> Result<DeepTag, ReadError>
     requires room { room < 401 }
-    ensures value { Reads (λ x. tag_view x.tree) result reader.new (ending form.EnumBody (parts_of (less room) (take 5 (shape (form.EnumBody false) 0)) reader.old)) }
+    ensures value { ReadsTag result reader.new (ending form.EnumBody (parts_of (less room) (take 5 (shape (form.EnumBody false) 0)) reader.old)) }
     ensures deep { IfOk result (λ x. x.depth ≤ room) }
 {
     let line = reader.line();
@@ -151,7 +152,7 @@ fn enum_body(alloc: Global, reader: &mut Reader, room: usize) -> Result<DeepTag,
 #[tactic(auto, using(crate::proofs::Steps::list_step))]
 fn members(alloc: Global, reader: &mut Reader, room: usize) -> Result<DeepMembers, ReadError>
     requires room { room < 401 }
-    ensures value { Reads (λ x. Node form.Members (trees member_view x.list.items)) result reader.new (read room place.Members reader.old) }
+    ensures value { ReadsMembers result reader.new (read room place.Members reader.old) }
     ensures deep { IfOk result (λ x. x.depth ≤ room) }
 {
     let first = member(alloc, reader, room)?;
@@ -173,7 +174,7 @@ fn members(alloc: Global, reader: &mut Reader, room: usize) -> Result<DeepMember
 #[tactic(auto, unfolding(c_tree::specs::Grammar::shape, c_tree::specs::Depth::below, c_tree::specs::Depth::layers, c_tree::specs::Depth::greatest_depth, c_tree::specs::Depth::is_of_declarator, c_tree::specs::Depth::layer, c_tree::specs::Depth::weight, c_tree::specs::Grammar::form_home))]
 fn member(alloc: Global, reader: &mut Reader, room: usize) -> Result<DeepMember, ReadError>
     requires room { room < 401 }
-    ensures value { Reads (λ x. member_view x.tree) result reader.new (spec.member_at (less room) room reader.old) }
+    ensures value { ReadsMember result reader.new (spec.member_at (less room) room reader.old) }
     ensures deep { IfOk result (λ x. x.depth ≤ room) }
 {
     let line = reader.line();
@@ -198,7 +199,7 @@ fn member_names(
     room: usize,
 ) -> Result<DeepDeclarators, ReadError>
     requires room { room < 401 }
-    ensures value { Reads (λ x. Node form.MemberNames (trees declarator_tree x.list.items)) result reader.new (spec.member_names_at (less room) room reader.old) }
+    ensures value { ReadsMemberNames result reader.new (spec.member_names_at (less room) room reader.old) }
     ensures deep { IfOk result (λ x. x.depth ≤ room) }
 {
     let mut list = DeepDeclarators::none(alloc);
@@ -224,7 +225,7 @@ fn enumerators(
     room: usize,
 ) -> Result<DeepEnumerators, ReadError>
     requires room { room < 401 }
-    ensures value { Reads (λ x. Node form.Enumerators (trees enumerator_tree x.list.items)) result reader.new (read room place.Enumerators reader.old) }
+    ensures value { ReadsEnumerators result reader.new (read room place.Enumerators reader.old) }
     ensures deep { IfOk result (λ x. x.depth ≤ room) }
 {
     let mut list = DeepEnumerators::none(alloc);
@@ -246,7 +247,7 @@ fn enumerators(
 #[tactic(auto, unfolding(c_tree::specs::Grammar::shape, c_tree::specs::Depth::below, c_tree::specs::Depth::layers, c_tree::specs::Depth::greatest_depth, c_tree::specs::Depth::is_of_declarator, c_tree::specs::Depth::layer, c_tree::specs::Depth::weight, c_tree::specs::Grammar::form_home, c_tree::specs::Scopes::name_of, c_tree::specs::Scopes::name_among, c_tree::specs::Scopes::leads_to_name))]
 fn enumerator(alloc: Global, reader: &mut Reader, room: usize) -> Result<DeepEnumerator, ReadError>
     requires room { room < 401 }
-    ensures value { Reads (λ x. enumerator_tree x.tree) result reader.new (spec.enumerator_at (less room) room reader.old) }
+    ensures value { ReadsEnumerator result reader.new (spec.enumerator_at (less room) room reader.old) }
     ensures deep { IfOk result (λ x. x.depth ≤ room) }
 {
     let line = reader.line();

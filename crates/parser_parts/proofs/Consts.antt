@@ -1,5 +1,5 @@
 -- The words `const` in front.
-use Rattle.std.proofs.Common.{◌≡◌, ℕ, zero, suc, ◌+◌, List, [], ◌∷◌, Bool, true, false, if◌then◌else◌, length, refl, ap}
+use Rattle.std.proofs.Common.{◌≡◌, zero, suc, List, [], ◌∷◌, true, false, if◌then◌else◌, length, refl, ap}
 use Rattle.c_lexer.specs.declared.token.Token.{Token}
 use Rattle.c_tree.specs.declared.word.Keyword.TheVariants as k
 use Rattle.grammar_reading.specs.State.{first_kind, behind_first, kind_is_key}

@@ -1,5 +1,5 @@
 -- Declared names, and which of them are types.
-use Rattle.std.proofs.Common.{◌≡◌, ℕ, zero, suc, ◌+◌, ◌-◌, ◌<◌, ◌≤◌, Bool, true, false, if◌then◌else◌, cond, bytes_eq, List, [], ◌∷◌, ◌++◌, map, reverse, length, take, drop, get_or, Option, Some, None, Bor, refl, ap, sym, subst, ◌∙◌, arith}
+use Rattle.std.proofs.Common.{◌≡◌, ℕ, suc, ◌+◌, ◌-◌, ◌<◌, ◌≤◌, Bool, true, false, if◌then◌else◌, bytes_eq, List, [], ◌∷◌, ◌++◌, reverse, length, take, drop, get_or, Option, Some, Bor, refl, ap, sym, subst, ◌∙◌, arith}
 use Rattle.std.specs.HashSet.{HashSet, contains_by}
 use Rattle.std.specs.List.{list_any, slice_get}
 use Rattle.std.specs.Option.{option_to_list}
@@ -8,8 +8,7 @@ use Rattle.std.proofs.lemmas.Slice.Eq.{bytes_eq-Decides}
 use Rattle.std.proofs.lemmas.Option.{get_or_from_slice_get}
 use Rattle.std.proofs.Math.Seq.{take-append_seam, take-length}
 use Rattle.c_tree.specs.Scopes.{Known, is_type}
-use Rattle.parser_parts.specs.Names.{known, known_names, entry_known, entries_known, TellBefore, AreTypes, without_latest, oldest}
-use Rattle.parser_parts.specs.declared.declared.Named.{Named}
+use Rattle.parser_parts.specs.Names.{known_names, entry_known, entries_known, TellBefore, AreTypes, without_latest, oldest}
 use Rattle.parser_parts.specs.declared.declared.Entry.{Entry}
 
 back_by : (same : Bool) (entry : Entry) (rest : List Known) (name : Bor (List ℕ)) → bytes_eq entry.named.name.now name.now ≡ same →

@@ -1,5 +1,5 @@
 -- Parts behind parts: their trees and how deep they are.
-use Rattle.std.proofs.Common.{◌≡◌, ℕ, zero, suc, ◌+◌, List, [], ◌∷◌, ◌++◌, max, refl, ap, sym, ◌∙◌, arith}
+use Rattle.std.proofs.Common.{◌≡◌, ℕ, ◌+◌, List, [], ◌∷◌, ◌++◌, max, refl, ap, sym, ◌∙◌, arith}
 use Rattle.c_tree.specs.Tree.{Tree, Trees, Leaf, none, ◌▹◌}
 use Rattle.c_tree.specs.Depth.{depth, layers, layers_all, below, greatest_depth, greatest_below}
 use Rattle.c_tree.specs.Forms as f

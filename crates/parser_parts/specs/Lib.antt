@@ -3,3 +3,4 @@ pub mod Gives
 pub mod Signs
 pub mod Held
 pub mod Tallies
+pub mod Trees

@@ -1,5 +1,5 @@
 -- The names that the code keeps as the declarations of a scope.
-use Rattle.std.specs.Prelude.{◌≡◌, ◌-◌, ℕ, Bool, List, [], ◌∷◌, bytes_eq, drop, length, map, reverse, Option, Some, None}
+use Rattle.std.specs.Prelude.{◌≡◌, ◌-◌, ℕ, List, [], ◌∷◌, bytes_eq, drop, length, map, reverse, Option, Some, None}
 use Rattle.std.specs.Borrow.{Bor}
 use Rattle.std.specs.HashSet.{HashSet, contains_by}
 use Rattle.c_tree.specs.Scopes.{Known, is_type}

@@ -7,6 +7,7 @@ ghost use Rattle.c_tree.specs.Tree.{At, Leaf, Node, none, ◌▹◌};
 ghost use Rattle.c_tree.specs.View.{name_leaf, literal_leaves};
 ghost use Rattle.c_tree.specs.StatementView.{trees, expr_view, typename_view};
 ghost use Rattle.c_tree.specs.Words.{Char, Int};
+ghost use Rattle.parser_parts.specs.Trees.{Makes};
 
 use crate::deep::{DeepExpr, DeepExprs, DeepTypename};
 use c_tree::{AssignOp, BinaryOp, Expr, UnaryOp};
@@ -62,7 +63,7 @@ impl DeepExpr {
     /// `(inner)`
     pub fn paren(alloc: Global, line: Line, inner: DeepExpr) -> Result<DeepExpr, NoMemory>
         requires { inner.depth < 1000 }
-        ensures tree { IfOk result (λ x. expr_view x.tree ≡ Node form.Paren (At line ▹ expr_view inner.tree ▹ none)) }
+        ensures tree { Makes result form.Paren (At line ▹ expr_view inner.tree ▹ none) }
         ensures depth { IfOk result (λ x. x.depth ≡ inner.depth + 1) }
     {
         let depth = inner.depth + 1;
@@ -79,7 +80,7 @@ impl DeepExpr {
     ) -> Result<DeepExpr, NoMemory>
         requires left { left.depth < 1000 }
         requires index { index.depth < 1000 }
-        ensures tree { IfOk result (λ x. expr_view x.tree ≡ Node form.Index (At line ▹ expr_view left.tree ▹ expr_view index.tree ▹ none)) }
+        ensures tree { Makes result form.Index (At line ▹ expr_view left.tree ▹ expr_view index.tree ▹ none) }
         ensures depth { IfOk result (λ x. x.depth ≡ max left.depth index.depth + 1) }
     {
         let depth = left.depth.max(index.depth) + 1;
@@ -96,7 +97,7 @@ impl DeepExpr {
     ) -> Result<DeepExpr, NoMemory>
         requires left { left.depth < 1000 }
         requires arguments { arguments.depth < 1000 }
-        ensures tree { IfOk result (λ x. expr_view x.tree ≡ Node form.Call (At line ▹ expr_view left.tree ▹ Node form.Arguments (trees expr_view arguments.list.items) ▹ none)) }
+        ensures tree { Makes result form.Call (At line ▹ expr_view left.tree ▹ Node form.Arguments (trees expr_view arguments.list.items) ▹ none) }
         ensures depth { IfOk result (λ x. x.depth ≡ max left.depth arguments.depth + 1) }
     {
         let depth = left.depth.max(arguments.depth) + 1;
@@ -112,7 +113,7 @@ impl DeepExpr {
         name: Items<u8>,
     ) -> Result<DeepExpr, NoMemory>
         requires { left.depth < 1000 }
-        ensures tree { IfOk result (λ x. expr_view x.tree ≡ Node form.Dot (At line ▹ expr_view left.tree ▹ name_leaf name ▹ none)) }
+        ensures tree { Makes result form.Dot (At line ▹ expr_view left.tree ▹ name_leaf name ▹ none) }
         ensures depth { IfOk result (λ x. x.depth ≡ left.depth + 1) }
     {
         let depth = left.depth + 1;
@@ -128,7 +129,7 @@ impl DeepExpr {
         name: Items<u8>,
     ) -> Result<DeepExpr, NoMemory>
         requires { left.depth < 1000 }
-        ensures tree { IfOk result (λ x. expr_view x.tree ≡ Node form.Arrow (At line ▹ expr_view left.tree ▹ name_leaf name ▹ none)) }
+        ensures tree { Makes result form.Arrow (At line ▹ expr_view left.tree ▹ name_leaf name ▹ none) }
         ensures depth { IfOk result (λ x. x.depth ≡ left.depth + 1) }
     {
         let depth = left.depth + 1;
@@ -139,7 +140,7 @@ impl DeepExpr {
     /// `left++`
     pub fn post_inc(alloc: Global, line: Line, left: DeepExpr) -> Result<DeepExpr, NoMemory>
         requires { left.depth < 1000 }
-        ensures tree { IfOk result (λ x. expr_view x.tree ≡ Node form.PostInc (At line ▹ expr_view left.tree ▹ none)) }
+        ensures tree { Makes result form.PostInc (At line ▹ expr_view left.tree ▹ none) }
         ensures depth { IfOk result (λ x. x.depth ≡ left.depth + 1) }
     {
         let depth = left.depth + 1;
@@ -150,7 +151,7 @@ impl DeepExpr {
     /// `left--`
     pub fn post_dec(alloc: Global, line: Line, left: DeepExpr) -> Result<DeepExpr, NoMemory>
         requires { left.depth < 1000 }
-        ensures tree { IfOk result (λ x. expr_view x.tree ≡ Node form.PostDec (At line ▹ expr_view left.tree ▹ none)) }
+        ensures tree { Makes result form.PostDec (At line ▹ expr_view left.tree ▹ none) }
         ensures depth { IfOk result (λ x. x.depth ≡ left.depth + 1) }
     {
         let depth = left.depth + 1;
@@ -161,7 +162,7 @@ impl DeepExpr {
     /// `++operand`
     pub fn pre_inc(alloc: Global, line: Line, operand: DeepExpr) -> Result<DeepExpr, NoMemory>
         requires { operand.depth < 1000 }
-        ensures tree { IfOk result (λ x. expr_view x.tree ≡ Node form.PreInc (At line ▹ expr_view operand.tree ▹ none)) }
+        ensures tree { Makes result form.PreInc (At line ▹ expr_view operand.tree ▹ none) }
         ensures depth { IfOk result (λ x. x.depth ≡ operand.depth + 1) }
     {
         let depth = operand.depth + 1;
@@ -172,7 +173,7 @@ impl DeepExpr {
     /// `--operand`
     pub fn pre_dec(alloc: Global, line: Line, operand: DeepExpr) -> Result<DeepExpr, NoMemory>
         requires { operand.depth < 1000 }
-        ensures tree { IfOk result (λ x. expr_view x.tree ≡ Node form.PreDec (At line ▹ expr_view operand.tree ▹ none)) }
+        ensures tree { Makes result form.PreDec (At line ▹ expr_view operand.tree ▹ none) }
         ensures depth { IfOk result (λ x. x.depth ≡ operand.depth + 1) }
     {
         let depth = operand.depth + 1;
@@ -188,7 +189,7 @@ impl DeepExpr {
         operand: DeepExpr,
     ) -> Result<DeepExpr, NoMemory>
         requires { operand.depth < 1000 }
-        ensures tree { IfOk result (λ x. expr_view x.tree ≡ Node (form.Unary op) (At line ▹ expr_view operand.tree ▹ none)) }
+        ensures tree { Makes result (form.Unary op) (At line ▹ expr_view operand.tree ▹ none) }
         ensures depth { IfOk result (λ x. x.depth ≡ operand.depth + 1) }
     {
         let depth = operand.depth + 1;
@@ -199,7 +200,7 @@ impl DeepExpr {
     /// `sizeof operand`
     pub fn sizeof_expr(alloc: Global, line: Line, operand: DeepExpr) -> Result<DeepExpr, NoMemory>
         requires { operand.depth < 1000 }
-        ensures tree { IfOk result (λ x. expr_view x.tree ≡ Node form.SizeofExpr (At line ▹ expr_view operand.tree ▹ none)) }
+        ensures tree { Makes result form.SizeofExpr (At line ▹ expr_view operand.tree ▹ none) }
         ensures depth { IfOk result (λ x. x.depth ≡ operand.depth + 1) }
     {
         let depth = operand.depth + 1;
@@ -210,7 +211,7 @@ impl DeepExpr {
     /// `sizeof (name)`
     pub fn sizeof_type(alloc: Global, line: Line, name: DeepTypename) -> Result<DeepExpr, NoMemory>
         requires { name.depth < 1000 }
-        ensures tree { IfOk result (λ x. expr_view x.tree ≡ Node form.SizeofType (At line ▹ typename_view name.tree ▹ none)) }
+        ensures tree { Makes result form.SizeofType (At line ▹ typename_view name.tree ▹ none) }
         ensures depth { IfOk result (λ x. x.depth ≡ name.depth + 1) }
     {
         let depth = name.depth + 1;
@@ -227,7 +228,7 @@ impl DeepExpr {
     ) -> Result<DeepExpr, NoMemory>
         requires name { name.depth < 1000 }
         requires operand { operand.depth < 1000 }
-        ensures tree { IfOk result (λ x. expr_view x.tree ≡ Node form.Cast (At line ▹ typename_view name.tree ▹ expr_view operand.tree ▹ none)) }
+        ensures tree { Makes result form.Cast (At line ▹ typename_view name.tree ▹ expr_view operand.tree ▹ none) }
         ensures depth { IfOk result (λ x. x.depth ≡ max name.depth operand.depth + 1) }
     {
         let depth = name.depth.max(operand.depth) + 1;
@@ -245,7 +246,7 @@ impl DeepExpr {
     ) -> Result<DeepExpr, NoMemory>
         requires left { left.depth < 1000 }
         requires right { right.depth < 1000 }
-        ensures tree { IfOk result (λ x. expr_view x.tree ≡ Node (form.Binary op) (At line ▹ expr_view left.tree ▹ expr_view right.tree ▹ none)) }
+        ensures tree { Makes result (form.Binary op) (At line ▹ expr_view left.tree ▹ expr_view right.tree ▹ none) }
         ensures depth { IfOk result (λ x. x.depth ≡ max left.depth right.depth + 1) }
     {
         let depth = left.depth.max(right.depth) + 1;
@@ -264,7 +265,7 @@ impl DeepExpr {
         requires left { left.depth < 1000 }
         requires yes { yes.depth < 1000 }
         requires no { no.depth < 1000 }
-        ensures tree { IfOk result (λ x. expr_view x.tree ≡ Node form.Cond (At line ▹ expr_view left.tree ▹ expr_view yes.tree ▹ expr_view no.tree ▹ none)) }
+        ensures tree { Makes result form.Cond (At line ▹ expr_view left.tree ▹ expr_view yes.tree ▹ expr_view no.tree ▹ none) }
         ensures depth { IfOk result (λ x. x.depth ≡ max (max left.depth yes.depth) no.depth + 1) }
     {
         let depth = left.depth.max(yes.depth).max(no.depth) + 1;
@@ -282,7 +283,7 @@ impl DeepExpr {
     ) -> Result<DeepExpr, NoMemory>
         requires left { left.depth < 1000 }
         requires right { right.depth < 1000 }
-        ensures tree { IfOk result (λ x. expr_view x.tree ≡ Node (form.Assign op) (At line ▹ expr_view left.tree ▹ expr_view right.tree ▹ none)) }
+        ensures tree { Makes result (form.Assign op) (At line ▹ expr_view left.tree ▹ expr_view right.tree ▹ none) }
         ensures depth { IfOk result (λ x. x.depth ≡ max left.depth right.depth + 1) }
     {
         let depth = left.depth.max(right.depth) + 1;
@@ -299,7 +300,7 @@ impl DeepExpr {
     ) -> Result<DeepExpr, NoMemory>
         requires left { left.depth < 1000 }
         requires right { right.depth < 1000 }
-        ensures tree { IfOk result (λ x. expr_view x.tree ≡ Node form.Comma (At line ▹ expr_view left.tree ▹ expr_view right.tree ▹ none)) }
+        ensures tree { Makes result form.Comma (At line ▹ expr_view left.tree ▹ expr_view right.tree ▹ none) }
         ensures depth { IfOk result (λ x. x.depth ≡ max left.depth right.depth + 1) }
     {
         let depth = left.depth.max(right.depth) + 1;

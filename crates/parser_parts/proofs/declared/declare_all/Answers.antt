@@ -1,4 +1,4 @@
-use Rattle.std.proofs.Common.{arith, ◌<◌, length, [], false}
+use Rattle.std.proofs.Common.{arith, [], false}
 use Rattle.std.proofs.lemmas.Grind.{common_steps}
 use Rattle.parser_parts.specs.declared.declared.Entry.{Entry}
 use Rattle.parser_parts.proofs.Logs.{known_more, known_all}

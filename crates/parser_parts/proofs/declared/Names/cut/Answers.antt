@@ -1,5 +1,5 @@
 use Rattle.std.proofs.Common.{◌∙◌}
-use Rattle.parser_parts.proofs.Logs.{oldest_behind, oldest_all}
+use Rattle.parser_parts.proofs.Logs.{oldest_behind}
 use Rattle.parser_parts.specs.Names.{oldest}
 use Rattle.std.proofs.Common.{ap, arith}
 use Rattle.parser_parts.proofs.declared.Names.cut.Goals as goal
