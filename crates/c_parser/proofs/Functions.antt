@@ -3,7 +3,7 @@ use Rattle.std.proofs.Common.{◌≡◌, ℕ, Bool, List, Option, Some, None, is
 use Rattle.c_tree.specs.declared.tree.Base.{Base}
 use Rattle.c_tree.specs.declared.tree.Base.TheVariants as b
 use Rattle.c_tree.specs.declared.tree.Suffix.{Suffix}
-use Rattle.c_tree.proofs.Views.{direct_tree}
+use Rattle.c_tree.specs.ViewEquations.{direct_tree}
 use Rattle.c_tree.specs.StatementView.{trees, suffix_view}
 use Rattle.c_tree.specs.declared.tree.Declarator.{Declarator}
 use Rattle.c_tree.specs.declared.tree.Declarator.TheVariants as d

@@ -10,7 +10,7 @@ ghost use Rattle.c_tree.specs.StatementView.{trees, suffix_view};
 use c_tree::{Base, Declarator, Suffix, SuffixKind};
 
 /// Says whether what stands next to the name of a declarator is a parameter list.
-#[tactic(auto, using(crate::proofs::Functions::pointer_params, crate::proofs::Functions::nothing_params, crate::proofs::Functions::parens_params, c_tree::proofs::Views::direct_tree), unfolding(c_tree::specs::View::declarator_tree, c_tree::specs::View::base_tree))]
+#[tactic(auto, using(crate::proofs::Functions::pointer_params, crate::proofs::Functions::nothing_params, crate::proofs::Functions::parens_params, c_tree::specs::ViewEquations::direct_tree), unfolding(c_tree::specs::View::declarator_tree, c_tree::specs::View::base_tree))]
 pub fn is_function(declarator: &Declarator) -> bool
     ensures { result ≡ is_some (params_of (declarator_tree declarator.now)) }
 {

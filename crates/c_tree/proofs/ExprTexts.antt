@@ -30,7 +30,7 @@ use Rattle.c_tree.specs.Canonical.{word_text, tree_text}
 use Rattle.c_tree.specs.View.{expr_tree, tag_tree, declarator_tree, base_tree, suffix_tree, enumerator_tree, maybe_name, literal_leaves}
 use Rattle.c_tree.specs.StatementView.{trees, maybe, expr_view, typename_view, tag_view, member_view, suffix_view, param_view}
 use Rattle.c_tree.proofs.Texts.{node_written}
-use Rattle.c_tree.proofs.Views.{call_tree, sizeof_type_tree, cast_tree, record_body_tree, direct_tree, array_tree, params_tree}
+use Rattle.c_tree.specs.ViewEquations.{call_tree, sizeof_type_tree, cast_tree, record_body_tree, direct_tree, array_tree, params_tree}
 
 pub name_text : (e : Expr) (bytes : List ℕ) (out : List ℕ) → e.kind ≡ x.Name bytes →
     out ++ tree_text (Leaf (w.Name bytes)) ≡ out ++ tree_text (expr_view e)

@@ -1,6 +1,3 @@
-pub mod Spelled
-pub mod Views
-pub mod StatementViews
 pub mod Texts
 pub mod ExprTexts
 pub mod ListTexts

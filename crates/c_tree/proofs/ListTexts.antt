@@ -30,7 +30,7 @@ use Rattle.c_tree.specs.Canonical.{word_text, words_text, tree_text, with_consts
 use Rattle.c_tree.specs.View.{expr_tree, spec_tree, tag_tree, enumerator_tree, declarator_tree, base_tree, suffix_tree, maybe_name, name_leaf, literal_leaves}
 use Rattle.c_tree.specs.StatementView.{trees, maybe, expr_view, specs_view, typename_view, tag_view, member_view, suffix_view, param_view}
 use Rattle.c_tree.proofs.Texts.{write, node_written}
-use Rattle.c_tree.proofs.Views.{enum_body_tree, enumerator_value_tree}
+use Rattle.c_tree.specs.ViewEquations.{enum_body_tree, enumerator_value_tree}
 
 -- the text of the trees of a list
 abbrev pub list_text : {A : Type 0} → (A → Tree) → List A → List ℕ

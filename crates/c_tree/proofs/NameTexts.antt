@@ -23,7 +23,7 @@ use Rattle.c_tree.specs.View.{declarator_tree}
 use Rattle.c_tree.specs.StatementView.{trees, maybe, expr_view, specs_view, init_tree, init_view, entry_view, names_view, maybe_expr, start_view, stmt_tree, stmt_view, if_view, body_view, decl_view}
 use Rattle.c_tree.proofs.Texts.{write, node_written}
 use Rattle.c_tree.proofs.ListTexts.{list_text, comma_text, rows_text, behind_text}
-use Rattle.c_tree.proofs.StatementViews.{init_list_tree, if_else_tree}
+use Rattle.c_tree.specs.StatementViewEquations.{init_list_tree, if_else_tree}
 
 -- initializers
 

@@ -17,7 +17,7 @@ use Rattle.c_tree.specs.Grammar.{shape}
 use Rattle.c_tree.specs.Canonical.{word_text, tree_text}
 use Rattle.c_tree.specs.StatementView.{trees, expr_view, specs_view, init_tree, init_view, names_view, maybe_expr, start_view, stmt_tree, stmt_view}
 use Rattle.c_tree.proofs.Texts.{node_written}
-use Rattle.c_tree.proofs.StatementViews.{block_tree, delay_tree}
+use Rattle.c_tree.specs.StatementViewEquations.{block_tree, delay_tree}
 
 pub init_expr_text : (init : Init) (value : Expr) (out : List ℕ) → init.kind ≡ iv.Expr value →
     out ++ tree_text (expr_view value) ≡ out ++ tree_text (init_view init)

@@ -13,4 +13,6 @@ pub mod Canonical
 pub mod Reread
 pub mod View
 pub mod StatementView
+pub mod ViewEquations
+pub mod StatementViewEquations
 pub mod Renaming

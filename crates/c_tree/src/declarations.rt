@@ -91,7 +91,7 @@ impl Tag {
     }
 
     /// A struct or union with its members.
-    #[tactic(auto, using(crate::proofs::Views::record_body_tree))]
+    #[tactic(auto, using(crate::specs::ViewEquations::record_body_tree))]
     pub fn record_body(
         line: Line,
         sort: RecordSort,
@@ -118,7 +118,7 @@ impl Tag {
     }
 
     /// An enum with its enumerators, behind which a comma may stand.
-    #[tactic(auto, using(crate::proofs::Views::enum_body_tree))]
+    #[tactic(auto, using(crate::specs::ViewEquations::enum_body_tree))]
     pub fn enum_body(
         line: Line,
         name: Option<Items<u8>>,
@@ -138,7 +138,7 @@ impl Tag {
 
 impl Enumerator {
     /// An enumerator with its value, where one is given.
-    #[tactic(auto, using(crate::proofs::Views::enumerator_value_tree))]
+    #[tactic(auto, using(crate::specs::ViewEquations::enumerator_value_tree))]
     pub fn new(
         alloc: Global,
         line: Line,
@@ -170,7 +170,7 @@ impl Declarator {
     }
 
     /// What suffixes stand behind, and the suffixes.
-    #[tactic(auto, using(crate::proofs::Views::direct_tree))]
+    #[tactic(auto, using(crate::specs::ViewEquations::direct_tree))]
     pub fn direct(base: Base, suffixes: Vec<Suffix>) -> Declarator
         ensures { declarator_tree result ≡
             Node form.Direct (base_tree base ▹ Node form.Suffixes (trees suffix_view suffixes.items) ▹ none) }
@@ -204,7 +204,7 @@ impl Base {
 
 impl Suffix {
     /// `[length]`, where the length may be left out.
-    #[tactic(auto, using(crate::proofs::Views::array_tree))]
+    #[tactic(auto, using(crate::specs::ViewEquations::array_tree))]
     pub fn array(alloc: Global, line: Line, length: Option<Expr>) -> Result<Suffix, NoMemory>
         ensures { IfOk result (λ s. suffix_view s ≡
             Node form.ArraySuffix (At line ▹ maybe form.MaybeLength expr_view length ▹ none)) }
@@ -226,7 +226,7 @@ impl Suffix {
     }
 
     /// `(params)`
-    #[tactic(auto, using(crate::proofs::Views::params_tree))]
+    #[tactic(auto, using(crate::specs::ViewEquations::params_tree))]
     pub fn params(line: Line, params: Vec<Param>) -> Suffix
         ensures { suffix_view result ≡
             Node form.FunctionSuffix (At line ▹ Node form.Params (trees param_view params.items) ▹ none) }

@@ -75,7 +75,7 @@ impl Expr {
     }
 
     /// `callee(arguments)`
-    #[tactic(auto, using(crate::proofs::Views::call_tree))]
+    #[tactic(auto, using(crate::specs::ViewEquations::call_tree))]
     pub fn call(
         alloc: Global,
         line: Line,
@@ -176,7 +176,7 @@ impl Expr {
     }
 
     /// `sizeof(typename)`
-    #[tactic(auto, using(crate::proofs::Views::sizeof_type_tree))]
+    #[tactic(auto, using(crate::specs::ViewEquations::sizeof_type_tree))]
     pub fn sizeof_type(alloc: Global, line: Line, typename: TypeName) -> Result<Expr, NoMemory>
         ensures { IfOk result (λ e. expr_view e ≡ Node form.SizeofType (At line ▹ typename_view typename ▹ none)) }
     {
@@ -187,7 +187,7 @@ impl Expr {
     }
 
     /// `(typename)operand`
-    #[tactic(auto, using(crate::proofs::Views::cast_tree))]
+    #[tactic(auto, using(crate::specs::ViewEquations::cast_tree))]
     pub fn cast(
         alloc: Global,
         line: Line,

@@ -24,7 +24,7 @@ impl Init {
     }
 
     /// `{ inits }`, where a comma may stand behind the last one.
-    #[tactic(auto, using(crate::proofs::StatementViews::init_list_tree))]
+    #[tactic(auto, using(crate::specs::StatementViewEquations::init_list_tree))]
     pub fn list(line: Line, inits: Vec<Init>, trailing: bool) -> Init
         ensures { init_view result ≡
             Node (form.InitList trailing) (At line ▹ Node form.Inits (trees init_view inits.items) ▹ none) }
@@ -68,7 +68,7 @@ impl Stmt {
     }
 
     /// `{ items }`
-    #[tactic(auto, using(crate::proofs::StatementViews::block_tree))]
+    #[tactic(auto, using(crate::specs::StatementViewEquations::block_tree))]
     pub fn block(line: Line, items: Vec<Stmt>) -> Stmt
         ensures { stmt_view result ≡ Node form.Block (At line ▹ Node form.Items (trees stmt_view items.items) ▹ none) }
     {
@@ -79,7 +79,7 @@ impl Stmt {
     }
 
     /// `__delay_frees { items }`
-    #[tactic(auto, using(crate::proofs::StatementViews::delay_tree))]
+    #[tactic(auto, using(crate::specs::StatementViewEquations::delay_tree))]
     pub fn delay(line: Line, items: Vec<Stmt>) -> Stmt
         ensures { stmt_view result ≡ Node form.Delay (At line ▹ Node form.Items (trees stmt_view items.items) ▹ none) }
     {
@@ -90,7 +90,7 @@ impl Stmt {
     }
 
     /// `if (test) body`, with the statement behind `else` where there is one.
-    #[tactic(auto, using(crate::proofs::StatementViews::if_else_tree))]
+    #[tactic(auto, using(crate::specs::StatementViewEquations::if_else_tree))]
     pub fn branch(
         alloc: Global,
         line: Line,

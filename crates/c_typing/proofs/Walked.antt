@@ -19,7 +19,7 @@ use Rattle.c_tree.specs.declared.tree.Param.{Param}
 use Rattle.c_tree.specs.Tree.{Tree, Trees, none, ◌▹◌}
 use Rattle.c_tree.specs.View.{expr_tree, declarator_tree, base_tree, suffix_tree}
 use Rattle.c_tree.specs.StatementView.{trees, expr_view, typename_view, suffix_view, param_view}
-use Rattle.c_tree.proofs.Views.{call_tree, sizeof_type_tree, cast_tree, direct_tree, array_tree, params_tree}
+use Rattle.c_tree.specs.ViewEquations.{call_tree, sizeof_type_tree, cast_tree, direct_tree, array_tree, params_tree}
 use Rattle.c_decls.specs.declared.refusal.TypeError.{TypeError}
 use Rattle.c_decls.specs.declared.refusal.TypeError.TheVariants as e
 use Rattle.c_decls.specs.declared.typed.Typed.{Typed}

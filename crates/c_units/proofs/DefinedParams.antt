@@ -14,7 +14,7 @@ use Rattle.c_tree.specs.Tree.{Tree, Trees, Node, none, ◌▹◌}
 use Rattle.c_tree.specs.Scopes.{is_scope, first_list, leads_to_name, params_of, params_among, suffix_params}
 use Rattle.c_tree.specs.View.{declarator_tree, base_tree, suffix_tree}
 use Rattle.c_tree.specs.StatementView.{trees, suffix_view, param_view}
-use Rattle.c_tree.proofs.Views.{direct_tree, params_tree}
+use Rattle.c_tree.specs.ViewEquations.{direct_tree, params_tree}
 use Rattle.c_units.specs.Names.{Names, all_behind}
 use Rattle.c_units.specs.Externals.{with_params}
 use Rattle.c_units.specs.Turns.{in_turn, kind_params}

@@ -35,8 +35,8 @@ use Rattle.c_tree.specs.Scopes.{first_name, name_of, name_among, leads_to_name, 
 use Rattle.c_tree.specs.View.{name_leaf, expr_tree, tag_tree, enumerator_tree, declarator_tree, base_tree, suffix_tree, literal_leaves, maybe_name}
 use Rattle.c_tree.specs.StatementView.{maybe, trees, expr_view, specs_view, typename_view, member_view, suffix_view, param_view, init_tree, init_view, entry_view, names_view, if_view, stmt_tree, stmt_view}
 use Rattle.c_tree.specs.View.{spec_tree}
-use Rattle.c_tree.proofs.Views.{enumerator_value_tree, array_tree, call_tree, sizeof_type_tree, cast_tree, record_body_tree, enum_body_tree, direct_tree, params_tree}
-use Rattle.c_tree.proofs.StatementViews.{init_list_tree, block_tree, delay_tree, if_else_tree}
+use Rattle.c_tree.specs.ViewEquations.{enumerator_value_tree, array_tree, call_tree, sizeof_type_tree, cast_tree, record_body_tree, enum_body_tree, direct_tree, params_tree}
+use Rattle.c_tree.specs.StatementViewEquations.{init_list_tree, block_tree, delay_tree, if_else_tree}
 use Rattle.c_units.specs.declared.mention.Role.TheVariants.{Defined, Tagged}
 use Rattle.c_units.specs.Names.{Names, behind, all_behind, renamed, all_renamed, left, left_scope, entered, made, declare, mention, mention_any, binding_at}
 use Rattle.c_units.specs.Turns.{in_turn, each_renamed, inner, behind_maybe, renamed_maybe}

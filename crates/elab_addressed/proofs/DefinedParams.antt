@@ -15,7 +15,7 @@ use Rattle.c_tree.specs.Grammar.{shape}
 use Rattle.c_tree.specs.Scopes.{is_scope, first_list, leads_to_name, params_of, params_among, suffix_params}
 use Rattle.c_tree.specs.View.{declarator_tree, base_tree, suffix_tree}
 use Rattle.c_tree.specs.StatementView.{trees, suffix_view, param_view}
-use Rattle.c_tree.proofs.Views.{direct_tree, params_tree}
+use Rattle.c_tree.specs.ViewEquations.{direct_tree, params_tree}
 use Rattle.elaboration.specs.Addressed.{Taken, taken, all_taken, left, params_taken}
 use Rattle.elab_addressed.specs.Turns.{in_turn, settled, kind_params}
 use Rattle.elab_addressed.proofs.ListTurns.{params_turn, items_turn}

@@ -32,8 +32,8 @@ use Rattle.c_tree.specs.Grammar.{Item, Part, key, shape}
 use Rattle.c_tree.specs.Scopes.{first_name, name_of, name_among, leads_to_name, places, is_scope}
 use Rattle.c_tree.specs.View.{name_leaf, expr_tree, tag_tree, enumerator_tree, declarator_tree, base_tree, suffix_tree, literal_leaves, maybe_name}
 use Rattle.c_tree.specs.StatementView.{maybe, trees, expr_view, specs_view, typename_view, member_view, suffix_view, param_view, init_tree, init_view, entry_view, names_view, stmt_tree, stmt_view}
-use Rattle.c_tree.proofs.Views.{enumerator_value_tree, array_tree, call_tree, sizeof_type_tree, cast_tree, record_body_tree, enum_body_tree, direct_tree, params_tree}
-use Rattle.c_tree.proofs.StatementViews.{init_list_tree, block_tree, delay_tree, if_else_tree}
+use Rattle.c_tree.specs.ViewEquations.{enumerator_value_tree, array_tree, call_tree, sizeof_type_tree, cast_tree, record_body_tree, enum_body_tree, direct_tree, params_tree}
+use Rattle.c_tree.specs.StatementViewEquations.{init_list_tree, block_tree, delay_tree, if_else_tree}
 use Rattle.elaboration.specs.Addressed.{Taken, taken, all_taken, left, left_scope, with_known, with_local, declare}
 use Rattle.elab_addressed.specs.Turns.{in_turn, settled, inside}
 use Rattle.elab_addressed.proofs.ListTurns.{arguments_turn, strings_turn, members_turn, member_names_turn, enumerators_turn, suffixes_turn, params_turn, names_turn, inits_turn, items_turn}

@@ -7,7 +7,7 @@ use Rattle.c_tree.specs.declared.statement.InitKind.{InitKind}
 use Rattle.c_tree.specs.declared.statement.InitKind.TheVariants as i
 use Rattle.c_tree.specs.Tree.{Tree, none, ◌▹◌}
 use Rattle.c_tree.specs.StatementView.{trees, expr_view, init_tree, init_view}
-use Rattle.c_tree.proofs.StatementViews.{init_list_tree}
+use Rattle.c_tree.specs.StatementViewEquations.{init_list_tree}
 use Rattle.c_decls.specs.Expressions.{line_of}
 use Rattle.c_decls.specs.Refusals.{then}
 use Rattle.elaboration.specs.Context.{Context}

@@ -17,7 +17,7 @@ use Rattle.c_tree.specs.Tree.{Tree, Trees, At, Node, none, ◌▹◌}
 use Rattle.c_tree.specs.Scopes.{has_typedef}
 use Rattle.c_tree.specs.View.{spec_tree, tag_tree}
 use Rattle.c_tree.specs.StatementView.{trees}
-use Rattle.c_tree.proofs.Views.{record_body_tree, enum_body_tree}
+use Rattle.c_tree.specs.ViewEquations.{record_body_tree, enum_body_tree}
 use Rattle.c_decls.specs.declared.refusal.TypeKind.TheVariants.{DeclaredTwice}
 use Rattle.c_decls.specs.Named as n
 use Rattle.c_decls.specs.Named.{PlainNamed}

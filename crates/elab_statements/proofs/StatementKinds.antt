@@ -8,7 +8,7 @@ use Rattle.c_tree.specs.declared.statement.StmtKind.TheVariants as s
 use Rattle.c_tree.specs.Forms as f
 use Rattle.c_tree.specs.Tree.{Tree, Trees, At, Node, none, ◌▹◌}
 use Rattle.c_tree.specs.StatementView.{trees, expr_view, start_view, maybe_expr, stmt_tree, stmt_view}
-use Rattle.c_tree.proofs.StatementViews.{block_tree, delay_tree, if_else_tree}
+use Rattle.c_tree.specs.StatementViewEquations.{block_tree, delay_tree, if_else_tree}
 use Rattle.c_decls.specs.Refusals.{Checked}
 use Rattle.elaboration.specs.Context.{Context}
 use Rattle.elaboration.specs.Statements.{Around, below, statement}

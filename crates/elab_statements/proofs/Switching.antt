@@ -6,7 +6,7 @@ use Rattle.c_tree.specs.declared.statement.StmtKind.TheVariants as s
 use Rattle.c_tree.specs.Forms as f
 use Rattle.c_tree.specs.Tree.{Tree, At, Node, none, ◌▹◌}
 use Rattle.c_tree.specs.StatementView.{trees, stmt_tree, stmt_view, if_tree}
-use Rattle.c_tree.proofs.StatementViews.{block_tree}
+use Rattle.c_tree.specs.StatementViewEquations.{block_tree}
 use Rattle.elaboration.specs.Context.{Context}
 use Rattle.elaboration.specs.Statements.{Around, statement}
 use Rattle.elab_statements.specs.Switches.{switch_block, switch_other, is_block}

@@ -73,7 +73,7 @@ fn statement(state: &mut Elaborator, stmt: &Stmt, around: Around) -> Result<(), 
 
 /// A statement of that kind at a line.
 #[cycle(walk)]
-#[tactic(auto, unfolding(c_tree::specs::StatementView::stmt_tree, elaboration::specs::Statements::statement), using(c_tree::proofs::StatementViews::if_else_tree, c_tree::proofs::StatementViews::block_tree, c_tree::proofs::StatementViews::delay_tree))]
+#[tactic(auto, unfolding(c_tree::specs::StatementView::stmt_tree, elaboration::specs::Statements::statement), using(c_tree::specs::StatementViewEquations::if_else_tree, c_tree::specs::StatementViewEquations::block_tree, c_tree::specs::StatementViewEquations::delay_tree))]
 fn kind(
     state: &mut Elaborator,
     line: Line,

@@ -8,7 +8,7 @@ use Rattle.c_tree.specs.Forms as f
 use Rattle.c_tree.specs.Tree.{Tree, Trees, At, Node, none, ◌▹◌}
 use Rattle.c_tree.specs.View.{enumerator_tree, name_leaf}
 use Rattle.c_tree.specs.StatementView.{maybe, expr_view, trees}
-use Rattle.c_tree.proofs.Views.{enumerator_value_tree}
+use Rattle.c_tree.specs.ViewEquations.{enumerator_value_tree}
 use Rattle.c_decls.specs.declared.refusal.TypeKind.TheVariants.{DeclaredTwice}
 use Rattle.c_decls.specs.Named as n
 use Rattle.c_decls.specs.Named.{PlainNamed}

@@ -24,7 +24,7 @@ use Rattle.c_tree.specs.Tree.{Tree, Trees, At, Node, none, ◌▹◌}
 use Rattle.c_tree.specs.Scopes.{name_of}
 use Rattle.c_tree.specs.View.{spec_tree, tag_tree, maybe_name, enumerator_tree, declarator_tree, base_tree, suffix_tree}
 use Rattle.c_tree.specs.StatementView.{trees, expr_view, specs_view, member_view, suffix_view, param_view}
-use Rattle.c_tree.proofs.Views.{record_body_tree, enum_body_tree, direct_tree, params_tree, array_tree}
+use Rattle.c_tree.specs.ViewEquations.{record_body_tree, enum_body_tree, direct_tree, params_tree, array_tree}
 use Rattle.c_decls.specs.declared.refusal.TypeError.{TypeError}
 use Rattle.c_decls.specs.declared.refusal.TypeError.TheVariants as e
 use Rattle.c_decls.specs.Refusals.{Meets, then}

@@ -22,7 +22,7 @@ use Rattle.c_tree.specs.Tree.{Tree, Trees, Leaf, At, Node, none, ◌▹◌}
 use Rattle.c_tree.specs.View.{name_leaf, expr_tree, tag_tree, declarator_tree, base_tree, suffix_tree, literal_leaves, maybe_name}
 use Rattle.c_tree.specs.StatementView.{maybe, trees, expr_view, typename_view, member_view, suffix_view, param_view}
 use Rattle.c_tree.specs.View.{enumerator_tree}
-use Rattle.c_tree.proofs.Views.{enumerator_value_tree, call_tree, sizeof_type_tree, cast_tree, record_body_tree, enum_body_tree, direct_tree, params_tree}
+use Rattle.c_tree.specs.ViewEquations.{enumerator_value_tree, call_tree, sizeof_type_tree, cast_tree, record_body_tree, enum_body_tree, direct_tree, params_tree}
 use Rattle.c_decls.specs.ScopeList.{ScopeList}
 use Rattle.elaboration.specs.Reallocates.{reallocates, any_reallocates, calls_realloc}
 

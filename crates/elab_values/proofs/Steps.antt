@@ -15,7 +15,7 @@ use Rattle.c_tree.specs.Forms as f
 use Rattle.c_tree.specs.Tree.{Tree, At, Node, none, ◌▹◌}
 use Rattle.c_tree.specs.View.{expr_tree}
 use Rattle.c_tree.specs.StatementView.{trees, expr_view, typename_view}
-use Rattle.c_tree.proofs.Views.{call_tree, cast_tree}
+use Rattle.c_tree.specs.ViewEquations.{call_tree, cast_tree}
 use Rattle.c_decls.specs.Refusals.{then}
 use Rattle.c_decls.specs.Callees.{NoFunction}
 use Rattle.elab_base.specs.declared.code.Mark.{Mark}

@@ -292,7 +292,7 @@ fn suffixes(scopes: &Scopes, list: &[Suffix]) -> bool
 
 /// Whether an expression in a suffix reallocates.
 #[cycle(walk)]
-#[tactic(auto, unfolding(c_tree::specs::View::suffix_tree, elaboration::specs::Reallocates::reallocates), using(crate::proofs::ReallocParts::params_is, c_tree::proofs::Views::array_tree))]
+#[tactic(auto, unfolding(c_tree::specs::View::suffix_tree, elaboration::specs::Reallocates::reallocates), using(crate::proofs::ReallocParts::params_is, c_tree::specs::ViewEquations::array_tree))]
 fn in_suffix(scopes: &Scopes, suffix: &Suffix) -> bool
     ensures { result ≡ reallocates scopes.now (suffix_view suffix.now) }
 {

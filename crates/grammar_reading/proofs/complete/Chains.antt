@@ -14,7 +14,7 @@ use Rattle.c_tree.specs.Spelling.{Said, spell, spell_all, filled, Spells}
 use Rattle.c_tree.specs.Scopes.{Scope, is_type, is_scope, places, after, name_of, name_among}
 use Rattle.c_tree.specs.Allowed.{Takes, Allowed, AllAllowed, obeys, is_type_name}
 use Rattle.c_tree.specs.Depth.{depth, greatest_depth}
-use Rattle.c_tree.proofs.Spelled.{spells_split}
+use Rattle.grammar_reading.proofs.Spelled.{spells_split}
 use Rattle.grammar_reading.specs.declared.kind.Kind.{Kind}
 use Rattle.grammar_reading.specs.declared.kind.Kind.TheVariants as kinds
 use Rattle.grammar_reading.specs.State.{State, kind_at, word_at, bytes_at, line_at, left_at, skip, first_kind, first_word, behind_first}

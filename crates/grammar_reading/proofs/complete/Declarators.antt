@@ -17,7 +17,7 @@ use Rattle.c_tree.specs.Spelling.{Piece, Said, spell, spell_all, filled, Spells}
 use Rattle.c_tree.specs.Scopes.{Scope, is_scope, places, after, left, name_of, name_among, leads_to_name}
 use Rattle.c_tree.specs.Allowed.{Takes, IsDeclarator, IsBase, Allowed, AllAllowed}
 use Rattle.c_tree.specs.Depth.{depth}
-use Rattle.c_tree.proofs.Spelled.{spells_split}
+use Rattle.grammar_reading.proofs.Spelled.{spells_split}
 use Rattle.grammar_reading.specs.declared.kind.Kind.{Kind}
 use Rattle.grammar_reading.specs.declared.kind.Kind.TheVariants as kinds
 use Rattle.grammar_reading.specs.State.{State, line_at, word_at, left_at, skip, past, first_kind, behind_first, kind_is_mark, sign_number, at_mark}

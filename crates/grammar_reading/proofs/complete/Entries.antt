@@ -15,7 +15,7 @@ use Rattle.c_tree.specs.Spelling.{Piece, spell, spell_all, filled, Spells}
 use Rattle.c_tree.specs.Scopes.{Scope, is_scope, after, name_among}
 use Rattle.c_tree.specs.Allowed.{Takes, Allowed, AllAllowed, obeys, is_none, has_parts}
 use Rattle.c_tree.specs.Depth.{depth, weight, is_of_declarator}
-use Rattle.c_tree.proofs.Spelled.{spells_split}
+use Rattle.grammar_reading.proofs.Spelled.{spells_split}
 use Rattle.grammar_reading.specs.declared.kind.Kind.{Kind}
 use Rattle.grammar_reading.specs.declared.kind.Kind.TheVariants as kinds
 use Rattle.grammar_reading.specs.State.{State, first_kind, at_mark, kind_is_mark, sign_number, declaring}

@@ -15,7 +15,7 @@ use Rattle.c_tree.specs.Spelling.{Piece, Said, spell, spell_all, filled, Spells}
 use Rattle.c_tree.specs.Scopes.{Scope, is_scope, places, after, params_of, with_params}
 use Rattle.c_tree.specs.Allowed.{Takes, Allowed, AllAllowed, IsDefinition, IsExternal}
 use Rattle.c_tree.specs.Depth.{depth, greatest_depth, weight, is_of_declarator}
-use Rattle.c_tree.proofs.Spelled.{spells_split}
+use Rattle.grammar_reading.proofs.Spelled.{spells_split}
 use Rattle.grammar_reading.specs.declared.kind.Kind.{Kind}
 use Rattle.grammar_reading.specs.declared.kind.Kind.TheVariants as kinds
 use Rattle.grammar_reading.specs.State.{State, line_at, left_at, skip, first_kind, at_mark, kind_is_mark, sign_number, back_to, with_flag, in_body}

@@ -16,7 +16,7 @@ use Rattle.c_tree.specs.Grammar.{Item, Says, Here, Part, key, shape, home, form_
 use Rattle.c_tree.specs.Spelling.{Piece, Said, spell, spell_all, filled, Spells}
 use Rattle.c_tree.specs.Scopes.{Scope, is_scope, places, name_of, name_among, first_name, leads_to_name}
 use Rattle.c_tree.specs.Allowed.{Takes, IsDeclarator, IsBase, Allowed, AllAllowed}
-use Rattle.c_tree.proofs.Spelled.{spells_split}
+use Rattle.grammar_reading.proofs.Spelled.{spells_split}
 use Rattle.grammar_reading.specs.declared.kind.Kind.{Kind}
 use Rattle.grammar_reading.specs.declared.kind.Kind.TheVariants as kinds
 use Rattle.grammar_reading.specs.State.{State, first_kind, kind_of_word, kind_is_mark, kind_is_key, keyword_number, sign_number, starts_by, starts_type, is_spec_key}

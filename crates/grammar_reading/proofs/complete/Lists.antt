@@ -12,7 +12,7 @@ use Rattle.c_tree.specs.Spelling.{Piece, Said, Line, spell, spell_all, filled, S
 use Rattle.c_tree.specs.Scopes.{Scope, is_scope, places, after}
 use Rattle.c_tree.specs.Allowed.{Takes, Allowed, AllAllowed}
 use Rattle.c_tree.specs.Depth.{greatest_depth}
-use Rattle.c_tree.proofs.Spelled.{spells_split}
+use Rattle.grammar_reading.proofs.Spelled.{spells_split}
 use Rattle.grammar_reading.specs.declared.kind.Kind.TheVariants as kinds
 use Rattle.grammar_reading.specs.State.{State, first_kind, skip}
 use Rattle.grammar_reading.specs.Reading.{◌>>=◌, Reader, snoc, joined, commas_by, commas_from, list_by, list_from}

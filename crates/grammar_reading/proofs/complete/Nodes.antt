@@ -16,7 +16,7 @@ use Rattle.c_tree.specs.Spelling.{Piece, Said, spell, spell_all, filled, Spells}
 use Rattle.c_tree.specs.Scopes.{places}
 use Rattle.c_tree.specs.Allowed.{Takes, Allowed, AllAllowed}
 use Rattle.c_tree.specs.Depth.{depth, greatest_depth, weight, is_of_declarator}
-use Rattle.c_tree.proofs.Spelled.{spells_split}
+use Rattle.grammar_reading.proofs.Spelled.{spells_split}
 use Rattle.grammar_reading.specs.declared.kind.Kind.{Kind}
 use Rattle.grammar_reading.specs.declared.kind.Kind.TheVariants as kinds
 use Rattle.grammar_reading.specs.State.{State, first_kind, behind_first, kind_is_mark, at_mark, sign_number}

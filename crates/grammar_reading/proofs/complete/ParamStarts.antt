@@ -14,7 +14,7 @@ use Rattle.c_tree.specs.Grammar.{Part, shape, home, form_home, keyword_home}
 use Rattle.c_tree.specs.Spelling.{Piece, spell, spell_all, filled, Spells}
 use Rattle.c_tree.specs.Scopes.{is_scope, after}
 use Rattle.c_tree.specs.Allowed.{Takes, Allowed, AllAllowed}
-use Rattle.c_tree.proofs.Spelled.{spells_split}
+use Rattle.grammar_reading.proofs.Spelled.{spells_split}
 use Rattle.grammar_reading.specs.State.{State, starts_type}
 use Rattle.grammar_reading.proofs.complete.Reads.{line_first, is_line}
 use Rattle.grammar_reading.proofs.complete.TypeStarts.{word_allowed, specs_start}

@@ -14,7 +14,7 @@ use Rattle.c_tree.specs.Spelling.{spell, spell_all, filled, Spells}
 use Rattle.c_tree.specs.Scopes.{Scope, is_scope, after, name_among}
 use Rattle.c_tree.specs.Allowed.{Takes, IsDeclarator, Allowed, AllAllowed}
 use Rattle.c_tree.specs.Depth.{weight, is_of_declarator}
-use Rattle.c_tree.proofs.Spelled.{spells_split}
+use Rattle.grammar_reading.proofs.Spelled.{spells_split}
 use Rattle.grammar_reading.specs.declared.kind.Kind.{Kind}
 use Rattle.grammar_reading.specs.declared.kind.Kind.TheVariants as kinds
 use Rattle.grammar_reading.specs.State.{State, left_at, first_kind, at_mark, kind_is_mark, sign_number, starts_by, declaring}

@@ -19,7 +19,7 @@ use Rattle.c_tree.specs.Spelling.{Piece, Said, Line, spell, spell_all, filled, S
 use Rattle.c_tree.specs.Scopes.{is_scope, places, after}
 use Rattle.c_tree.specs.Allowed.{Takes, Allowed, AllAllowed, ends_open}
 use Rattle.c_tree.specs.Depth.{depth, greatest_depth}
-use Rattle.c_tree.proofs.Spelled.{spells_split}
+use Rattle.grammar_reading.proofs.Spelled.{spells_split}
 use Rattle.grammar_reading.specs.declared.kind.Kind.{Kind}
 use Rattle.grammar_reading.specs.declared.kind.Kind.TheVariants as kinds
 use Rattle.grammar_reading.specs.State.{State, first_kind, first_line, behind_first, kind_of_word, kind_is_key, kind_is_mark, keyword_number, sign_number, at_word, past, skip, is_spec_key}

@@ -15,7 +15,7 @@ use Rattle.c_tree.specs.Grammar.{Part, key, mark, rows, behind_commas, shape, ho
 use Rattle.c_tree.specs.Spelling.{Said, spell, spell_all, filled, Spells}
 use Rattle.c_tree.specs.Scopes.{is_scope}
 use Rattle.c_tree.specs.Allowed.{Takes, Allowed, AllAllowed}
-use Rattle.c_tree.proofs.Spelled.{spells_split}
+use Rattle.grammar_reading.proofs.Spelled.{spells_split}
 use Rattle.grammar_reading.specs.declared.kind.Kind.{Kind}
 use Rattle.grammar_reading.specs.declared.kind.Kind.TheVariants as kinds
 use Rattle.grammar_reading.specs.State.{State, kind_at, skip, first_kind, kind_is_key, kind_is_mark, keyword_number, sign_number, at_mark, starts_by}

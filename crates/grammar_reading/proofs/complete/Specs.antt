@@ -22,7 +22,7 @@ use Rattle.grammar_reading.specs.Laws.{behind}
 use Rattle.grammar_reading.proofs.sound.Nodes.{depth_flat}
 use Rattle.c_tree.specs.Allowed.{Tally, no_words, with_keyword, with_part, tally, are_specs, storage_of, Takes, Allowed, AllAllowed, obeys, is_type_name}
 use Rattle.c_tree.specs.Depth.{depth, greatest_depth, weight, is_of_declarator}
-use Rattle.c_tree.proofs.Spelled.{spells_split}
+use Rattle.grammar_reading.proofs.Spelled.{spells_split}
 use Rattle.grammar_reading.specs.declared.kind.Kind.{Kind}
 use Rattle.grammar_reading.specs.declared.kind.Kind.TheVariants as kinds
 use Rattle.grammar_reading.specs.declared.kind.SpecStart.TheVariants as starts

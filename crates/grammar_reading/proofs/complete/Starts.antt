@@ -18,7 +18,7 @@ use Rattle.c_tree.specs.Operators.{unary_sign}
 use Rattle.c_tree.specs.Spelling.{Piece, Said, spell, spell_all, filled, Spells}
 use Rattle.c_tree.specs.Scopes.{Scope, is_type, is_scope, places, after, name_of, name_among}
 use Rattle.c_tree.specs.Allowed.{Takes, IsExpression, Allowed, AllAllowed, obeys, is_type_name}
-use Rattle.c_tree.proofs.Spelled.{spells_split}
+use Rattle.grammar_reading.proofs.Spelled.{spells_split}
 use Rattle.grammar_reading.specs.declared.kind.Kind.{Kind}
 use Rattle.grammar_reading.specs.declared.kind.Kind.TheVariants as kinds
 use Rattle.grammar_reading.specs.State.{State, kind_at, bytes_at, line_at, skip, first_kind, first_bytes, kind_of_word, at_key, starts_by, starts_type, opens_type, kind_is_mark, kind_is_key, keyword_number, sign_number, is_spec_key}

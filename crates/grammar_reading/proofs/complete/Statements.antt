@@ -18,7 +18,7 @@ use Rattle.c_tree.specs.Spelling.{Said, spell, spell_all, filled, Spells}
 use Rattle.c_tree.specs.Scopes.{is_scope, places, after_all}
 use Rattle.c_tree.specs.Allowed.{Takes, Allowed, AllAllowed, is_open, ends_in_statement, ends_open}
 use Rattle.c_tree.specs.Depth.{depth, greatest_depth, weight, is_of_declarator}
-use Rattle.c_tree.proofs.Spelled.{spells_split}
+use Rattle.grammar_reading.proofs.Spelled.{spells_split}
 use Rattle.grammar_reading.specs.declared.kind.Kind.{Kind}
 use Rattle.grammar_reading.specs.declared.kind.Kind.TheVariants as kinds
 use Rattle.grammar_reading.specs.State.{State, at_key, first_kind, kind_is_key, keyword_number, back_to}

@@ -17,7 +17,7 @@ use Rattle.c_tree.specs.Spelling.{Piece, Said, spell, spell_all, filled, Spells,
 use Rattle.c_tree.specs.Scopes.{Scope, is_scope, places, after}
 use Rattle.c_tree.specs.Allowed.{Takes, Allowed, AllAllowed, obeys, is_void, words_of, are_specs, tally, with_keyword}
 use Rattle.c_tree.specs.Depth.{depth, layer, layers, layers_all, below, greatest_below, greatest_depth, weight, is_of_declarator}
-use Rattle.c_tree.proofs.Spelled.{spells_split}
+use Rattle.grammar_reading.proofs.Spelled.{spells_split}
 use Rattle.grammar_reading.specs.declared.kind.Kind.{Kind}
 use Rattle.grammar_reading.specs.declared.kind.Kind.TheVariants as kinds
 use Rattle.grammar_reading.specs.State.{State, kind_at, line_at, left_at, skip, first_kind, first_line, first_word, behind_first, kind_of_word, kind_is_key, kind_is_mark, keyword_number, sign_number, at_key, at_mark, with_new_params}

@@ -19,7 +19,7 @@ use Rattle.c_tree.specs.Spelling.{Piece, Said, spell, spell_all, filled, Spells}
 use Rattle.c_tree.specs.Scopes.{Scope, is_scope, places, after}
 use Rattle.c_tree.specs.Allowed.{Takes, Allowed, AllAllowed}
 use Rattle.c_tree.specs.Depth.{depth, greatest_depth, weight, is_of_declarator}
-use Rattle.c_tree.proofs.Spelled.{spells_split}
+use Rattle.grammar_reading.proofs.Spelled.{spells_split}
 use Rattle.grammar_reading.specs.State.{State, skip, past, first_kind, behind_first, kind_is_name, kind_is_mark, at_mark, at_name, sign_number}
 use Rattle.grammar_reading.specs.Reading.{◌>>=◌, Reader, parts_of, fixed, ending_by, ending}
 use Rattle.grammar_reading.specs.Expressions as e

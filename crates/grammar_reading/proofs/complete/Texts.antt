@@ -11,7 +11,7 @@ use Rattle.c_tree.specs.Scopes.{after}
 use Rattle.c_tree.specs.Allowed.{AreExternals}
 use Rattle.c_tree.specs.Depth.{depth, greatest_depth, weight, is_of_declarator, most}
 use Rattle.c_tree.specs.HasTree.{HasTree}
-use Rattle.c_tree.proofs.Spelled.{spells_split}
+use Rattle.grammar_reading.proofs.Spelled.{spells_split}
 use Rattle.grammar_reading.specs.State.{State, left_at, first_line}
 use Rattle.grammar_reading.specs.Reading.{snoc, joined}
 use Rattle.grammar_reading.specs.Rooms.{Whole, Stops, less, text_by, text_from, start_of}

@@ -19,7 +19,7 @@ use Rattle.c_tree.specs.Operators.{record_word}
 use Rattle.c_tree.specs.Spelling.{Piece, Said, spell, spell_all, filled, Spells}
 use Rattle.c_tree.specs.Scopes.{Scope, is_type, is_scope, after, name_of, name_among}
 use Rattle.c_tree.specs.Allowed.{Takes, Allowed, AllAllowed, obeys, is_type_name, are_specs, tally, no_words}
-use Rattle.c_tree.proofs.Spelled.{spells_split}
+use Rattle.grammar_reading.proofs.Spelled.{spells_split}
 use Rattle.grammar_reading.specs.State.{State, starts_by, starts_type, is_spec_key}
 use Rattle.grammar_reading.proofs.complete.Reads.{said_kind, line_first, is_line}
 use Rattle.grammar_reading.proofs.complete.Begins.{is_name}

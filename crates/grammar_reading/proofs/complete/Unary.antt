@@ -15,7 +15,7 @@ use Rattle.c_tree.specs.Operators.{unary_sign}
 use Rattle.c_tree.specs.Spelling.{Said, spell, spell_all, filled, Spells}
 use Rattle.c_tree.specs.Allowed.{Takes, IsExpression, Allowed, AllAllowed}
 use Rattle.c_tree.specs.Depth.{depth, weight}
-use Rattle.c_tree.proofs.Spelled.{spells_split}
+use Rattle.grammar_reading.proofs.Spelled.{spells_split}
 use Rattle.grammar_reading.specs.declared.kind.Kind.TheVariants as kinds
 use Rattle.grammar_reading.specs.State.{State, kind_at, line_at, skip, first_kind, kind_is_key, kind_is_mark, keyword_number, sign_number, at_mark, at_key, starts_type}
 use Rattle.grammar_reading.specs.Reading.{Reader, fixed}

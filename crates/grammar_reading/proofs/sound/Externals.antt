@@ -15,7 +15,7 @@ use Rattle.c_tree.specs.Allowed.{Takes, Allowed, AllAllowed, obeys, IsExternal}
 use Rattle.c_tree.specs.Spelling.{Piece, Said, Line, spell, spell_all, filled, Spells}
 use Rattle.c_tree.specs.Depth.{depth, weight, greatest_depth, layers, below, is_of_declarator}
 use Rattle.c_tree.specs.Tree.{Tree, Trees, At, Node, none, ◌▹◌}
-use Rattle.c_tree.proofs.Spelled.{spells_both}
+use Rattle.grammar_reading.proofs.Spelled.{spells_both}
 use Rattle.grammar_reading.specs.State.{State, line_at, left_at, at_mark, past, back_to, with_flag, in_body}
 use Rattle.grammar_reading.specs.Reading.{◌>>=◌, Reader, fixed, parts_of, goes_on, commas_by, commas_from}
 use Rattle.grammar_reading.specs.Declarators as d

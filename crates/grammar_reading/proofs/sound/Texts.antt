@@ -13,7 +13,7 @@ use Rattle.c_tree.specs.Spelling.{Piece, Said, Line, spell, spell_all, filled, S
 use Rattle.c_tree.specs.Depth.{depth, weight, greatest_depth, is_of_declarator, most}
 use Rattle.c_tree.specs.HasTree.{HasTree}
 use Rattle.c_tree.specs.Tree.{Tree, Trees, Node, none, ◌▹◌, count}
-use Rattle.c_tree.proofs.Spelled.{spells_both}
+use Rattle.grammar_reading.proofs.Spelled.{spells_both}
 use Rattle.grammar_reading.specs.State.{State, left_at}
 use Rattle.grammar_reading.specs.Reading.{snoc}
 use Rattle.grammar_reading.specs.Rooms.{Text, Whole, Stops, less, text_by, text_from, start_of, read_unit}

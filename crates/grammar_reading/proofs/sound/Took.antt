@@ -14,7 +14,7 @@ use Rattle.c_tree.specs.Spelling.{Said, spell, spell_all, filled, Spells}
 use Rattle.c_tree.specs.Scopes.{Known, Scope, is_scope, places, after, after_all, params_of}
 use Rattle.c_tree.specs.Allowed.{Takes, Allowed, AllAllowed, ends_open}
 use Rattle.c_tree.specs.Depth.{depth, greatest_depth, layers, below}
-use Rattle.c_tree.proofs.Spelled.{spells_both}
+use Rattle.grammar_reading.proofs.Spelled.{spells_both}
 use Rattle.grammar_reading.specs.State.{State, past, line_at, word_at, skip, at_key, at_mark}
 use Rattle.grammar_reading.specs.Reading.{Reader, parts_of, in_front, joined}
 use Rattle.grammar_reading.specs.Laws.{behind}

@@ -1,4 +1,4 @@
--- The trees of lists of statements and initializers: those of their things in order.
+-- The same of statements and initializers, proved from `StatementView`.
 use Rattle.std.proofs.Common.{◌≡◌, ℕ, Bool, List, [], ◌∷◌, Option, Some, None, option_map, Box, Vec, Global, refl, ap, ◌∙◌}
 use Rattle.c_tree.specs.declared.tree.Expr.{Expr}
 use Rattle.c_tree.specs.declared.statement.Init.{Init}

@@ -1,4 +1,4 @@
--- The trees of lists: those of their things in order.
+-- What nodes with lists are as trees of the grammar: by the things of each list in order. Equations, proved from `View`.
 use Rattle.std.proofs.Common.{◌≡◌, ℕ, Bool, List, [], ◌∷◌, Option, Some, None, option_map, Box, Vec, Global, refl, ap, sym, ◌∙◌}
 use Rattle.c_tree.specs.declared.operator.RecordSort.{RecordSort}
 use Rattle.c_tree.specs.declared.tree.Expr.{Expr}
