@@ -1,2 +1,3 @@
 pub mod Dangling
+pub mod Good
 pub mod Laws

@@ -2,15 +2,20 @@
 
 ghost use Rattle.meaning_laws.specs.code.Example.{DigitIsWellFormed};
 ghost use Rattle.meaning_laws.specs.code.Laws.{HandsAnOperand, InstructionIsThere, MainGivesInteger, OperandsAreThere, RunBeginsWell, RunningPinsAreFresh, RunsEnd as CodeRunsEnd, StepLeavesLess, StepStaysGood, WaitingPinsAreFresh};
-ghost use Rattle.meaning_laws.specs.compiled.Laws.{CodeMeansCore, CodesAreWellFormed, TestedCodeMeansCore};
-ghost use Rattle.meaning_laws.specs.counted.Laws.{CountsAreHolders, EachStateIsCounted, TestedRunsAreCounted};
-ghost use Rattle.meaning_laws.specs.objects.Laws.{NothingEverDangles, PlainRunsEndPlainly, RunsEnd};
+ghost use Rattle.meaning_laws.specs.compiled.Laws.{CodeMeansCore, CodesAreFew, CodesAreWellFormed, TestedCodeMeansCore};
+ghost use Rattle.meaning_laws.specs.counted.Laws.{CountsAreHolders, EachStateIsCounted, TestedRunsAreCounted, TestedRunsEnd};
+ghost use Rattle.meaning_laws.specs.objects.Laws.{CoreBeginsWell, NothingEverDangles, PlainRunsEndPlainly, RunsEnd, StatementIsMade, StatementLeavesLess, StatementStaysGood};
 
 /// The meaning of a sound core has ended, for every input, number of steps and size of the heap, and it did not end by
 /// reading a pointer to an object that is dead. So no run touches what was freed: a free that would leave such a pointer
 /// ends the run instead.
 pub fn run_ends()
     ensures { RunsEnd }
+{}
+
+/// So has a run of a sound core that stops at the first event that a test refuses, from whichever state it goes on.
+pub fn tested_runs_end()
+    ensures { TestedRunsEnd }
 {}
 
 /// After any number of statements of a sound core that has not ended, no pointer to a dead object is left that counts or
@@ -25,6 +30,27 @@ pub fn nothing_dangles()
 /// no bad free and no escaping local, for every input, number of steps and size of the heap.
 pub fn plain_runs_end_plainly()
     ensures { PlainRunsEndPlainly }
+{}
+
+/// The first call of main leads to a good state, or there is no step left for it.
+pub fn core_begins_well()
+    ensures { CoreBeginsWell }
+{}
+
+/// A good state is at a statement of its function, and no operand of that points to a dead object: so the statement is made.
+pub fn statement_is_made()
+    ensures { StatementIsMade }
+{}
+
+/// From a good state each statement leads to a good state, or it ends the run, and not by reading a pointer to a dead
+/// object: whichever sizes have a place on the heap.
+pub fn statement_stays_good()
+    ensures { StatementStaysGood }
+{}
+
+/// Each statement that does not end the run leaves fewer statements to make, as `enough` counts them.
+pub fn statement_leaves_less()
+    ensures { StatementLeavesLess }
 {}
 
 /// The counted meaning of a sound core with exact pins is its object meaning, for every input, number of steps and size of
@@ -97,9 +123,10 @@ pub fn code_runs_end()
 {}
 
 /// The code of a sound core with pins that are exact and ascend is well formed, where it has fewer than 2^32 layouts and
-/// formats.
+/// formats. Its number of instructions is bounded by the size of its core.
 pub fn codes_are_well_formed()
-    ensures { CodesAreWellFormed }
+    ensures formed { CodesAreWellFormed }
+    ensures few { CodesAreFew }
 {}
 
 /// The run of the code of a sound core with exact pins, which ascend at each point, is the run of the core by numbers, for

@@ -2,7 +2,8 @@
 //! has no code that runs; each law is a function whose contract says it.
 //!
 //! - Of cores (`specs/objects`): each run ends, never at a dead object, and no state on the way has a pointer to one that
-//!   counts or is still read (`Dangling.antt`).
+//!   counts or is still read (`Dangling.antt`). `Good.antt` says what holds of each state before a statement; a run begins in
+//!   such a state, each statement leads to such a state or ends the run, and each leaves less to do.
 //! - Of numbers (`specs/counted`): deciding frees by numbers is deciding them by a scan of all pointers. With exact pins the
 //!   counted meaning has the runs of the object meaning, and its numbers count what they are to count (`Counts.antt`).
 //! - Of code (`specs/code`): `Good.antt` says what holds of each state between two instructions. Every frame is at an
@@ -26,8 +27,9 @@
 mod laws;
 
 pub use laws::{
-    code_means_core, code_runs_end, codes_are_well_formed, counted_means_core,
+    code_means_core, code_runs_end, codes_are_well_formed, core_begins_well, counted_means_core,
     digit_is_well_formed, instruction_is_there, main_gives_integer, nothing_dangles,
     operand_is_handed, operands_are_there, plain_runs_end_plainly, run_begins_well, run_ends,
-    running_pins_are_fresh, step_leaves_less, step_stays_good, waiting_pins_are_fresh,
+    running_pins_are_fresh, statement_is_made, statement_leaves_less, statement_stays_good,
+    step_leaves_less, step_stays_good, tested_runs_end, waiting_pins_are_fresh,
 };

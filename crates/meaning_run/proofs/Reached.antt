@@ -8,13 +8,12 @@ use Rattle.hs_base.specs.State.{State}
 use Rattle.hs_base.specs.Trace.{Event, Out, In, New, Gone, Enter, Leave, Ending, bytes_out, bytes_in, end_of}
 use Rattle.hs_base.specs.Trace as meant
 use Rattle.hs_base.specs.Runs as runs
-use Rattle.hs_base.proofs.Running.{after_zero, after_more, after_stays}
+use Rattle.hs_base.proofs.Running.{after_zero, after_more, after_stays, one_end}
 use Rattle.core_tree.specs.declared.program.Core.{Core}
 use Rattle.core_tree.specs.Sound.{IsSound}
 use Rattle.object_meaning.specs.objects.Going.{Next}
 use Rattle.object_meaning.specs.objects.Meaning.{Run, step, begun, meaning, enough, step_by}
-use Rattle.meaning_laws.proofs.dangling.Falls.{meaning_is, ends}
-use Rattle.meaning_laws.proofs.dangling.Forward.{all_forward}
+use Rattle.meaning_laws.specs.objects.Laws.{RunsEnd}
 use Rattle.meaning_state.specs.Fitting.{Held, none_held, held_after, fits_in}
 use Rattle.meaning_run.specs.declared.halt.Halt.{Halt}
 use Rattle.meaning_run.specs.declared.halt.Halt.TheVariants as halt
@@ -60,13 +59,13 @@ module _ (core : Core) (heap : ℕ) where
       let next = moved_more (runs.after (step core heap) r (k + j)) (runs.after (step core heap) r (k + j)).ended in
       (so_far.0 ++ next.0, rw (e, after_more (step core heap) r (k + j)) (next.1 ∙ ap (λ t. t ++ next.0) so_far.1 ∙ append_assoc (runs.after (step core heap) r k).trace so_far.0 next.0))
 
-module _ (core : Core) (sound : IsSound core) (input : List ℕ) (n heap : ℕ) where
+module _ (ends : RunsEnd) (core : Core) (sound : IsSound core) (input : List ℕ) (n heap : ℕ) where
   -- what is made so far stands at the front of the whole trace
   pub in_front : (k : ℕ) → (more : List Event) × ((meaning core input n heap).trace ≡ (runs.after (step core heap) (begun core input n) k).trace ++ more)
   in_front k =
       let r = begun core input n in
       let total = enough core r.state in
-      let ended = ends core (all_forward core sound) input n heap in
+      let ended = ends core sound input n heap in
       let stays = after_stays (step core heap) r ended.0 total k ended.1 in
       let more = grows core heap r k total in
       let e : k + total ≡ total + k = omega arith in
@@ -126,11 +125,11 @@ module _ (core : Core) (input : List ℕ) (n heap : ℕ) (bytes : List ℕ) (old
   }
   more (runs.Stops before events after e) is h held holds = absurd h
 
-  module _ (sound : IsSound core) where
+  module _ (ends : RunsEnd) (sound : IsSound core) where
     -- the run so far and the events of the next statement stand at the front of the whole trace
     front : (next : Next) → step core heap trace (with_input left old) ≡ next → (rest : List Event) × ((meaning core input n heap).trace ≡ (trace ++ events_of next) ++ rest)
     front next is =
-        let f = in_front core sound input n heap (k + 1) in
+        let f = in_front ends core sound input n heap (k + 1) in
         (f.0, f.1 ∙ ap (λ t. t ++ f.0) (ap (λ (r : Run). r.trace) (next_run next is) ∙ led_more trace next))
 
     pub stopped : (next : Next) → step core heap trace (with_input left old) ≡ next → left' ≡ Some left → taken' ≡ Some (bytes ++ bytes_out trace) → Stopped (meaning core input n heap).trace input bytes left' taken'
@@ -180,11 +179,18 @@ module _ (core : Core) (input : List ℕ) (n heap : ℕ) (bytes : List ℕ) (old
           is_read = reads_more p.put left (ap (λ b. b ++ left) p.reads);
         }
 
+    -- the meaning is the run after the statement with which it ends
+    is_all : (d : Ending) → (runs.after (step core heap) (begun core input n) (k + 1)).ended ≡ Some d → meaning core input n heap ≡ runs.after (step core heap) (begun core input n) (k + 1)
+    is_all d h =
+        let r = begun core input n in
+        let e = ends core sound input n heap in
+        one_end (step core heap) r e.0 d (enough core r.state) (k + 1) e.1 h
+
     pub whole : (next : Next) → step core heap trace (with_input left old) ≡ next → (h : Halt) (e : End) (d : Ending) → end_of d ≡ Some e → (before : State) (events : List Event) (after : State) → next ≡ runs.Stops before events after d → bytes_in events ≡ [] → left' ≡ Some left → taken' ≡ Some ((bytes ++ bytes_out trace) ++ bytes_out events) → Whole core input n heap bytes e left' taken'
     whole next is h e d same before events after stops none l t =
         let last : Run = record { trace = trace ++ events; ended = Some d; state = after } in
         let end_is : runs.after (step core heap) (begun core input n) (k + 1) ≡ last = next_run (runs.Stops before events after d) (is ∙ stops) in
-        let all : meaning core input n heap ≡ last = meaning_is core (all_forward core sound) input n heap (k + 1) d (ap (λ (r : Run). r.ended) end_is) ∙ end_is in
+        let all : meaning core input n heap ≡ last = is_all d (ap (λ (r : Run). r.ended) end_is) ∙ end_is in
         record {
           end = ap (λ (r : Run). end_in r.ended) all ∙ same;
           is_taken = rw all (writes_more events t);
@@ -210,15 +216,15 @@ module _ (core : Core) (input : List ℕ) (n heap : ℕ) (bytes : List ℕ) (old
       let there : held' ≡ held_after now (events_of (leads now)) = subst (λ (h : Held). held' ≡ held_after h (events_of (leads h))) r.holds (placed r.left) in
       more core input n heap bytes old new r.k r.left r.trace left' taken' r.is_read r.run (step core heap r.trace (with_input r.left old)) refl (seen_so (Ok tt) told) held' (there ∙ held_append (none_held heap) r.trace (events_of (leads now)))
 
-  module _ (sound : IsSound core) where
+  module _ (ends : RunsEnd) (sound : IsSound core) where
     -- an end of the meaning
     ended : (next : Next) → step core heap r.trace (with_input r.left old) ≡ next → (h : Halt) (e : End) (d : Ending) → end_of d ≡ Some e → (before : State) (events : List Event) (after : State) → next ≡ runs.Stops before events after d → bytes_in events ≡ [] → left' ≡ Some r.left → taken' ≡ Some ((bytes ++ bytes_out r.trace) ++ bytes_out events) → Whole core input n heap bytes e left' taken'
-    ended next is = whole core input n heap bytes old new r.k r.left r.trace left' taken' r.is_read r.run sound next is
+    ended next is = whole core input n heap bytes old new r.k r.left r.trace left' taken' r.is_read r.run ends sound next is
 
     answered : (next : Next) → step core heap r.trace (with_input r.left old) ≡ next → (h : Halt) → h ≢ halt.Dangling → SeenEnd next r.left (bytes ++ bytes_out r.trace) h left' taken' → MeanAnswers core input n heap bytes (answer_of h) left' taken'
-    answered next is halt.NoMemory alive e = stopped core input n heap bytes old new r.k r.left r.trace left' taken' r.is_read r.run sound next is e.0 e.1
-    answered next is halt.InputFault alive e = asked core input n heap bytes old new r.k r.left r.trace left' taken' r.is_read r.run sound next is e.0 e.1 e.2
-    answered next is halt.OutputFault alive e = put_part core input n heap bytes old new r.k r.left r.trace left' taken' r.is_read r.run sound next is e.0 e.1
+    answered next is halt.NoMemory alive e = stopped core input n heap bytes old new r.k r.left r.trace left' taken' r.is_read r.run ends sound next is e.0 e.1
+    answered next is halt.InputFault alive e = asked core input n heap bytes old new r.k r.left r.trace left' taken' r.is_read r.run ends sound next is e.0 e.1 e.2
+    answered next is halt.OutputFault alive e = put_part core input n heap bytes old new r.k r.left r.trace left' taken' r.is_read r.run ends sound next is e.0 e.1
     answered next is halt.Dangling alive e = absurd (alive refl)
     answered (runs.Goes before events after) is (halt.Exit code) alive e = absurd e
     answered (runs.Goes before events after) is (halt.Trap kind line) alive e = absurd e

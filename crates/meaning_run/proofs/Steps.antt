@@ -22,14 +22,9 @@ use Rattle.core_tree.specs.Sound.{IsSound, IsFunction, HasNumbers, element_layou
 use Rattle.object_meaning.specs.objects.Going.{Next}
 use Rattle.object_meaning.specs.objects.Holding.{statement_in, statement_at}
 use Rattle.object_meaning.specs.objects.Meaning.{format_in, start, act, unless_reads_stale, act_at, enough, step_by}
-use Rattle.meaning_laws.proofs.dangling.Falls.{Falls, step_by_falls}
-use Rattle.meaning_laws.proofs.dangling.Forward.{all_forward}
-use Rattle.meaning_laws.proofs.dangling.Frames.{Good}
-use Rattle.meaning_laws.proofs.dangling.Operands.{operands_fresh}
-use Rattle.meaning_laws.proofs.dangling.Standing.{Stays}
-use Rattle.meaning_laws.proofs.dangling.Acting.{step_by_stays, found}
-use Rattle.meaning_laws.proofs.dangling.Beginning.{begins}
 use Rattle.object_meaning.specs.objects.Calls.{with_locals}
+use Rattle.meaning_laws.specs.objects.Good.{Good}
+use Rattle.meaning_laws.specs.objects.Laws.{StaysGood, LeavesLess, StatementIsMade, StatementStaysGood, StatementLeavesLess, CoreBeginsWell}
 use Rattle.meaning_state.specs.Making.{IsElement}
 use Rattle.meaning_run.specs.declared.halt.Halt.{Halt}
 use Rattle.meaning_run.specs.declared.halt.Halt.TheVariants as halt
@@ -81,11 +76,8 @@ good_without core s t left is good =
     )
 
 -- the statement that a good state is at
-pub there : (core : Core) (s : State) → Good core s → IsSome (statement_at core s.running)
-there core s good =
-    let at = found good.0.body s.running.point good.1.inside in
-    let is : statement_at core s.running ≡ Some at.0 = ap (λ o. statement_in o s.running.point) good.1.here ∙ at.1 in
-    subst (λ (o : Option Stm). IsSome o) (sym is) refl
+pub there : StatementIsMade → (core : Core) → IsSound core → (s : State) → Good core s → IsSome (statement_at core s.running)
+there made core sound s good = subst (λ (o : Option Stm). IsSome o) (sym (made core sound s good).1) refl
 
 same_stm : (core : Core) (s : State) (good : Good core s) (stm : Stm) → Some stm ≡ statement_at core s.running → slice_get good.0.body s.running.point ≡ Some stm
 same_stm core s good stm h = sym (ap (λ o. statement_in o s.running.point) good.1.here) ∙ sym h
@@ -93,43 +85,44 @@ same_stm core s good stm h = sym (ap (λ o. statement_in o s.running.point) good
 pub function_of : (core : Core) → IsSound core → (s : State) → (good : Good core s) → (stm : Stm) → Some stm ≡ statement_at core s.running → (func : Func) × (slice_get core.funcs s.running.func ≡ Some func) × (slice_get func.body s.running.point ≡ Some stm) × IsFunction core func
 function_of core sound s good stm h = (good.0, good.1.here, same_stm core s good stm h, sound.functions s.running.func good.0 good.1.here)
 
--- no operand is stale, so the statement is made
-pub step_is : (core : Core) → IsSound core → (fits : ℕ → Bool) (s : State) → Good core s → (stm : Stm) → Some stm ≡ statement_at core s.running → step_by core fits s ≡ act core fits stm.line stm.kind s
-step_is core sound fits s good stm h =
-    let at = same_stm core s good stm h in
-    let typed = (sound.functions s.running.func good.0 good.1.here).typed s.running.point stm at in
-    let alive = operands_fresh core good.0 s.scopes s good.1 stm at typed in
-    ap (λ o. act_at core fits o s) (sym h) ∙ ap (λ b. unless_reads_stale b core fits stm s) alive
+-- the statement that it is at is the one that is made
+made_as : (core : Core) (s : State) (fits : ℕ → Bool) (stm made : Stm) → Some stm ≡ Some made → step_by core fits s ≡ act core fits made.line made.kind s → step_by core fits s ≡ act core fits stm.line stm.kind s
+made_as core s fits stm made same is =
+    let e : made ≡ stm = cc in subst (λ (x : Stm). step_by core fits s ≡ act core fits x.line x.kind s) e is
+
+step_is : StatementIsMade → (core : Core) → IsSound core → (fits : ℕ → Bool) (s : State) → Good core s → (stm : Stm) → Some stm ≡ statement_at core s.running → step_by core fits s ≡ act core fits stm.line stm.kind s
+step_is made core sound fits s good stm h =
+    let m = made core sound s good in made_as core s fits stm m.0 (h ∙ m.1) (m.2 fits)
 
 -- what a statement of a good state leads to
-stays_on : (core : Core) (next : Next) (new : State) → Stays core next → Moves next new (Ok tt) → Good core new
+stays_on : (core : Core) (next : Next) (new : State) → StaysGood core next → Moves next new (Ok tt) → Good core new
 stays_on core (runs.Goes before events after) new stays m = good_without core new after after.input m stays
 stays_on core (runs.Stops before events after ending) new stays m = absurd m
 
-pub good_next : (core : Core) → IsSound core → (fits : ℕ → Bool) (old new : State) → Good core old → (m : (left : List ℕ) × Moves (step_by core fits (with_input left old)) new (Ok tt)) → Good core new
-good_next core sound fits old new good m =
-    stays_on core (step_by core fits (with_input m.0 old)) new (step_by_stays core sound fits (with_input m.0 old) (good_input core old m.0 good)) m.1
+pub good_next : StatementStaysGood → (core : Core) → IsSound core → (fits : ℕ → Bool) (old new : State) → Good core old → (m : (left : List ℕ) × Moves (step_by core fits (with_input left old)) new (Ok tt)) → Good core new
+good_next stays core sound fits old new good m =
+    stays_on core (step_by core fits (with_input m.0 old)) new (stays core sound (with_input m.0 old) (good_input core old m.0 good) fits) m.1
 
-falls_on : (core : Core) (next : Next) (old new : State) → Falls core old next → Moves next new (Ok tt) → enough core new < enough core old
+falls_on : (core : Core) (next : Next) (old new : State) → LeavesLess core old next → Moves next new (Ok tt) → enough core new < enough core old
 falls_on core (runs.Goes before events after) old new f m = subst (λ (x : State). enough core x < enough core old) m f
 falls_on core (runs.Stops before events after ending) old new f m = absurd m
 
-pub less_next : (core : Core) → IsSound core → (fits : ℕ → Bool) (old new : State) → (m : (left : List ℕ) × Moves (step_by core fits (with_input left old)) new (Ok tt)) → enough core new < enough core old
-less_next core sound fits old new m =
-    falls_on core (step_by core fits (with_input m.0 old)) (with_input m.0 old) new (step_by_falls core (all_forward core sound) fits (with_input m.0 old)) m.1
+pub less_next : StatementLeavesLess → (core : Core) → IsSound core → (fits : ℕ → Bool) (old new : State) → (m : (left : List ℕ) × Moves (step_by core fits (with_input left old)) new (Ok tt)) → enough core new < enough core old
+less_next less core sound fits old new m =
+    falls_on core (step_by core fits (with_input m.0 old)) (with_input m.0 old) new (less core sound (with_input m.0 old) fits) m.1
 
-never_so : (next : Next) (new : State) (core : Core) → Stays core next → Moves next new (Err halt.Dangling) → ⊥
+never_so : (next : Next) (new : State) (core : Core) → StaysGood core next → Moves next new (Err halt.Dangling) → ⊥
 never_so (runs.Goes before events after) new core stays m = m
 never_so (runs.Stops before events after ending) new core stays m = stays m
 
 -- it does not read a pointer to a dead object
-pub never : (core : Core) → IsSound core → (fits : ℕ → Bool) (old new : State) → Good core old → (m : (left : List ℕ) × Moves (step_by core fits (with_input left old)) new (Err halt.Dangling)) → ⊥
-never core sound fits old new good m =
-    never_so (step_by core fits (with_input m.0 old)) new core (step_by_stays core sound fits (with_input m.0 old) (good_input core old m.0 good)) m.1
+pub never : StatementStaysGood → (core : Core) → IsSound core → (fits : ℕ → Bool) (old new : State) → Good core old → (m : (left : List ℕ) × Moves (step_by core fits (with_input left old)) new (Err halt.Dangling)) → ⊥
+never stays core sound fits old new good m =
+    never_so (step_by core fits (with_input m.0 old)) new core (stays core sound (with_input m.0 old) (good_input core old m.0 good) fits) m.1
 
-pub step_at : (core : Core) → IsSound core → (fits : ℕ → Bool) (s : State) → Good core s → (stm : Stm) (kind : StmKind) → Some stm ≡ statement_at core s.running → stm.kind ≡ kind → step_by core fits s ≡ act core fits stm.line kind s
-step_at core sound fits s good stm kind h e =
-    step_is core sound fits s good stm h ∙ ap (λ k. act core fits stm.line k s) e
+pub step_at : StatementIsMade → (core : Core) → IsSound core → (fits : ℕ → Bool) (s : State) → Good core s → (stm : Stm) (kind : StmKind) → Some stm ≡ statement_at core s.running → stm.kind ≡ kind → step_by core fits s ≡ act core fits stm.line kind s
+step_at made core sound fits s good stm kind h e =
+    step_is made core sound fits s good stm h ∙ ap (λ k. act core fits stm.line k s) e
 
 -- The facts of a sound core at a statement
 
@@ -175,8 +168,8 @@ format_at core sound s good statement r k args h is =
     subst (λ (o : Option Func). IsFormat (format_in o k) (pieces_of (format_in o k))) (sym f.1) format
 
 -- before the first statement
-pub starts_good : (core : Core) → IsSound core → (m : State) (n steps : ℕ) → steps + 1 ≡ n → m ≡ with_locals core (start core [] steps) → Good core m
-starts_good core sound m n steps e is = subst (λ (s : State). Good core s) (sym is) (begins core sound [] (suc steps))
+pub starts_good : CoreBeginsWell → (core : Core) → IsSound core → (m : State) (n steps : ℕ) → steps + 1 ≡ n → m ≡ with_locals core (start core [] steps) → Good core m
+starts_good begins core sound m n steps e is = subst (λ (s : State). Good core s) (sym is) (begins core sound [] (suc steps))
 
 pub starts_begun : (core : Core) (m : State) (input : List ℕ) (n steps : ℕ) → steps + 1 ≡ n → m ≡ with_locals core (start core [] steps) → Begins core input n m
 starts_begun core m input n steps e is =

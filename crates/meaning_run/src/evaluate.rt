@@ -3,7 +3,7 @@
 ghost use Rattle.std.specs.Prelude.{◌≡◌, ◌≢◌, ◌+◌, ◌<◌, ◌≤◌, ◌^◌, ℕ, List, [], All, IfOk, Some};
 ghost use Rattle.core_tree.specs.Sound.{IsSound, HasNumbers, element_layouts, is_main, main_of};
 ghost use Rattle.object_meaning.specs.objects.Meaning.{act, step_by};
-ghost use Rattle.meaning_laws.proofs.dangling.Frames.{Good};
+ghost use Rattle.meaning_laws.specs.objects.Good.{Good};
 ghost use Rattle.meaning_state.specs.Fitting.{fits_in};
 ghost use Rattle.meaning_state.specs.Making.{IsElement};
 ghost use Rattle.meaning_run.specs.Leading.{AlonePlaced, Placed, Moves, Seen, Counted, with_input};
@@ -14,6 +14,7 @@ use crate::halt::Halt;
 use crate::machine::Machine;
 use core_tree::{Core, Func, StmKind};
 use hs_base::{End, Line, NoMemory, Sink, Source};
+use meaning_laws::{core_begins_well, run_ends, statement_is_made, statement_leaves_less, statement_stays_good};
 use meaning_state::HeldBlocks;
 use std::alloc::Global;
 
@@ -128,6 +129,7 @@ fn one_step<I: Source, O: Sink>(
     ensures faults { Counted result (I.faults input.old) (I.faults input.new) (O.faults out.old) (O.faults out.new) }
     ensures moves { (left : List ℕ) × Moves (step_by core.now (fits_in held.old) (with_input left machine.old)) machine.new result }
 {
+    statement_is_made();
     let Some(stm) = machine.statement(core) else {
         unreachable!()
     };
@@ -178,6 +180,9 @@ fn end_of_run<I: Source, O: Sink>(
     ensures faults { MeanCounts result (I.faults input.old) (I.faults input.new) (O.faults out.old) (O.faults out.new) }
     ensures limits { IfOk result HasNoLimit }
 {
+    statement_stays_good();
+    statement_leaves_less();
+    run_ends();
     'statements: loop {
         match one_step(machine, alloc, core, held, input, out) {
             Ok(()) => {}
@@ -211,6 +216,7 @@ pub fn mean<I: Source, O: Sink>(
     if budget == 0 {
         return Ok(End::Spent);
     }
+    core_begins_well();
     let mut machine = Machine::start(alloc, core, main_of(core), budget - 1)?;
     let mut held = HeldBlocks::new(alloc, heap);
     end_of_run(&mut machine, alloc, core, &mut held, input, out)

@@ -29,7 +29,7 @@ use Rattle.object_meaning.specs.objects.Heap.{make}
 use Rattle.object_meaning.specs.objects.Builtins.{call_lib}
 use Rattle.object_meaning.specs.objects.Meaning.{format_in, values_of, returned, print_format}
 use Rattle.meaning_laws.specs.objects.Dangling.{needed}
-use Rattle.meaning_laws.proofs.dangling.Frames.{Holds}
+use Rattle.meaning_laws.specs.objects.Good.{Holds}
 use Rattle.object_meaning.specs.counted.Pinning.{Pins, pins_of, pinned}
 use Rattle.object_meaning.specs.counted.CountedState as counted
 use Rattle.object_meaning.specs.counted.Counting.{more, birth_in, renumbered}

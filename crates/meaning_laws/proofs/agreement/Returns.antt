@@ -21,7 +21,7 @@ use Rattle.object_meaning.specs.objects.Going.{with_register, with_objects}
 use Rattle.object_meaning.specs.objects.Holding as holding
 use Rattle.object_meaning.specs.objects.Holding.{statement_in, statement_at}
 use Rattle.object_meaning.specs.objects.Calls as core_calls
-use Rattle.meaning_laws.proofs.dangling.Frames.{WaitsAt, Waits}
+use Rattle.meaning_laws.specs.objects.Good.{WaitsAt, Waits}
 use Rattle.object_meaning.specs.counted.Pinning.{Pins, pins_of, pinned, pointer_of_register}
 use Rattle.object_meaning.specs.counted.Counting.{more, fewer, without_those_inside}
 use Rattle.object_meaning.specs.counted.Returning as counted

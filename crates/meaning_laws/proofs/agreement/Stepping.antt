@@ -26,8 +26,8 @@ use Rattle.object_meaning.specs.objects.Going.{at_point}
 use Rattle.object_meaning.specs.objects.Holding.{statement_in, statement_at}
 use Rattle.object_meaning.specs.objects.Meaning as meaning
 use Rattle.meaning_laws.specs.objects.Dangling.{needed}
-use Rattle.meaning_laws.proofs.dangling.Frames.{Holds, Good}
-use Rattle.meaning_laws.proofs.dangling.Standing.{Stays}
+use Rattle.meaning_laws.specs.objects.Good.{Holds, Good}
+use Rattle.meaning_laws.specs.objects.Laws.{StaysGood}
 use Rattle.meaning_laws.proofs.dangling.Operands.{operands_fresh}
 use Rattle.meaning_laws.proofs.dangling.Acting.{step_stays_at, found}
 use Rattle.object_meaning.specs.counted.Pinning.{Pins, AreExact}
@@ -98,7 +98,7 @@ module _ (core : Core) (pins : Pins) where
   Keeps (runs.Goes b es t) = Counts t
   Keeps (runs.Stops b es t e) = Unit {0}
 
-  pub keeps_from : (n : going.Next) (m : counted.Next) → Stays core n → Agrees core pins n m → Keeps m
+  pub keeps_from : (n : going.Next) (m : counted.Next) → StaysGood core n → Agrees core pins n m → Keeps m
   keeps_from (runs.Goes b es t) (runs.Goes c fs u) stays h =
       (subst (Good core) (sym h.2.state) stays, subst (InOrder core) (sym h.2.state) h.3, h.2.counts)
   keeps_from (runs.Stops b es t e) (runs.Stops c fs u d) stays h = tt

@@ -9,7 +9,8 @@ use Rattle.core_tree.specs.Sound.{IsSound}
 use Rattle.object_meaning.specs.objects.Going as going
 use Rattle.object_meaning.specs.objects.Meaning as meaning
 use Rattle.object_meaning.specs.objects.Meaning.{enough}
-use Rattle.meaning_laws.proofs.dangling.Falls.{Falls, step_falls_at}
+use Rattle.meaning_laws.specs.objects.Laws.{LeavesLess}
+use Rattle.meaning_laws.proofs.dangling.Falls.{step_falls_at}
 use Rattle.meaning_laws.proofs.dangling.Forward.{all_forward}
 use Rattle.meaning_laws.specs.counted.Laws.{testing}
 use Rattle.meaning_laws.proofs.agreement.Following.{after_first}
@@ -74,7 +75,7 @@ module _ {S E X : Type 0} (much : S → ℕ) where
 -- The meaning of a core
 
 module _ (core : Core) (sound : IsSound core) (fits : List Event → Event → Bool) (refused : Event → Ending) (heap : ℕ) where
-  less_falls : (s : State) (next : going.Next) → Falls core s next → Less (enough core) s next
+  less_falls : (s : State) (next : going.Next) → LeavesLess core s next → Less (enough core) s next
   less_falls s (Goes b es t) h = h
   less_falls s (Stops b es t x) h = tt
 

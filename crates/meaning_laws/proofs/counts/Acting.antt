@@ -32,7 +32,7 @@ use Rattle.object_meaning.specs.objects.Builtins.{byte_in, get_byte, put_line, f
 use Rattle.object_meaning.specs.objects.Meaning as object
 use Rattle.object_meaning.specs.objects.Meaning.{is_null, values_of, format_in}
 use Rattle.meaning_laws.specs.objects.Dangling.{needed}
-use Rattle.meaning_laws.proofs.dangling.Frames.{Holds, Good}
+use Rattle.meaning_laws.specs.objects.Good.{Holds, Good}
 use Rattle.meaning_laws.proofs.dangling.Operands.{operands_fresh}
 use Rattle.meaning_laws.proofs.dangling.Acting.{found}
 use Rattle.object_meaning.specs.counted.Pinning.{Pins, AreExact}

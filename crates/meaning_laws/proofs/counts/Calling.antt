@@ -23,8 +23,7 @@ use Rattle.object_meaning.specs.objects.Calls as object
 use Rattle.object_meaning.specs.objects.Calls.{registers_of, locals_of, running_locals, escapes}
 use Rattle.object_meaning.specs.objects.Meaning as object_meaning
 use Rattle.object_meaning.specs.objects.Meaning.{values_of, returned}
-use Rattle.meaning_laws.proofs.dangling.Alive.{Alive}
-use Rattle.meaning_laws.proofs.dangling.Frames.{HasLocals}
+use Rattle.meaning_laws.specs.objects.Good.{Alive, HasLocals}
 use Rattle.meaning_laws.proofs.dangling.Unheld.{answer_is}
 use Rattle.object_meaning.specs.counted.Pinning.{Pins, AreExact, pins_of, pinned, pointer_of_register}
 use Rattle.object_meaning.specs.counted.CountedState.{kept}

@@ -19,7 +19,7 @@ use Rattle.core_tree.specs.Lives.{is_live}
 use Rattle.object_meaning.specs.objects.Holding.{is_among, inside_objects, is_live_in, is_live_at, statement_at, answer_register, takes_answer, in_registers, in_running, in_waiting, in_all_waiting, holders, is_some_held}
 use Rattle.object_meaning.specs.objects.Scoping as object
 use Rattle.object_meaning.specs.objects.Scoping.{is_held}
-use Rattle.meaning_laws.proofs.dangling.Alive.{Alive, Sane}
+use Rattle.meaning_laws.specs.objects.Good.{Alive, Sane}
 use Rattle.meaning_laws.proofs.dangling.Unheld.{answer_is}
 use Rattle.object_meaning.specs.counted.Pinning.{Pins, AreExact, counts_at, holds_pointer, holds_on, pins_of, pinned, pointer_of_register}
 use Rattle.object_meaning.specs.counted.CountedState.{kept, numbered}

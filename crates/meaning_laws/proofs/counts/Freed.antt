@@ -23,7 +23,8 @@ use Rattle.object_meaning.specs.objects.Holding.{is_among}
 use Rattle.object_meaning.specs.objects.Scoping as object_scopes
 use Rattle.object_meaning.specs.objects.Heap as object
 use Rattle.object_meaning.specs.objects.Heap.{birth_of, enqueue}
-use Rattle.meaning_laws.proofs.dangling.Alive.{Alive, Sane, append_grows, queue_sane, among_cases}
+use Rattle.meaning_laws.specs.objects.Good.{Alive, Sane}
+use Rattle.meaning_laws.proofs.dangling.Alive.{append_grows, queue_sane, among_cases}
 use Rattle.meaning_laws.proofs.dangling.Touching as touching
 use Rattle.meaning_laws.proofs.dangling.Touching.{Done, copied_done}
 use Rattle.meaning_laws.proofs.dangling.Standing.{new_sane, new_alive}

@@ -14,7 +14,8 @@ use Rattle.hs_base.specs.Object.{Object, Standing, Live, Queued, Dead, is_dead, 
 use Rattle.core_tree.specs.declared.program.Mem.{Mem}
 use Rattle.object_meaning.specs.objects.Making.{local_object, local_objects}
 use Rattle.object_meaning.specs.objects.Holding.{is_among, inside_one, counted_inside, inside_objects}
-use Rattle.meaning_laws.proofs.dangling.Alive.{Alive, Sane, is_within}
+use Rattle.meaning_laws.specs.objects.Good.{Alive, Sane}
+use Rattle.meaning_laws.proofs.dangling.Alive.{is_within}
 use Rattle.meaning_laws.specs.counted.Counts.{living, inside_living}
 use Rattle.meaning_laws.proofs.counts.Weighing.{Once, weigh, weigh_same, weigh_both, sum_weigh, filter_weigh, flat_weigh, sum_among}
 

@@ -17,8 +17,8 @@ use Rattle.object_meaning.specs.objects.Going as going
 use Rattle.object_meaning.specs.objects.Making.{static_object, static_objects}
 use Rattle.object_meaning.specs.objects.Calls.{registers_of, locals_of}
 use Rattle.object_meaning.specs.objects.Meaning as object
-use Rattle.meaning_laws.proofs.dangling.Frames.{Good}
-use Rattle.meaning_laws.proofs.dangling.Standing.{Stays}
+use Rattle.meaning_laws.specs.objects.Good.{Good}
+use Rattle.meaning_laws.specs.objects.Laws.{StaysGood}
 use Rattle.meaning_laws.proofs.dangling.Acting.{step_stays_at}
 use Rattle.meaning_laws.proofs.dangling.Beginning.{begins}
 use Rattle.object_meaning.specs.counted.Pinning.{Pins, AreExact}
@@ -64,7 +64,7 @@ module _ (core : Core) (pins : Pins) where
   abbrev Goes : State → CountedState → Type 0
   Goes s c = Good core s × InOrder core s × Counted pins s c
 
-  both_agree : (n : going.Next) (m : Next) → Stays core n → Agrees core pins n m → Agree Goes (Counted pins) n m
+  both_agree : (n : going.Next) (m : Next) → StaysGood core n → Agrees core pins n m → Agree Goes (Counted pins) n m
   both_agree (runs.Goes b e t) (runs.Goes c f u) stays h = (h.0, h.1, (stays, h.3, h.2))
   both_agree (runs.Stops b e t x) (runs.Stops c f u y) stays h = h
   both_agree (runs.Goes b e t) (runs.Stops c f u y) stays h = absurd h

@@ -16,7 +16,7 @@ use Rattle.core_tree.specs.declared.statements.CmpOp.TheVariants as cmp
 use Rattle.object_meaning.specs.objects.Values.{pointer_in, is_stale}
 use Rattle.object_meaning.specs.objects.Arithmetic.{or_traps, on_two, truth, compared, offsets, difference, ordered, pointers_compared}
 use Rattle.object_meaning.specs.objects.Memory.{loaded, stored, stored_pointer, pointers_in_range, copied}
-use Rattle.meaning_laws.proofs.dangling.Alive.{Alive}
+use Rattle.meaning_laws.specs.objects.Good.{Alive}
 use Rattle.object_meaning.specs.counted.Counting.{birth_in}
 use Rattle.meaning_laws.specs.counted.Counts.{inside_living}
 use Rattle.meaning_laws.proofs.counts.Objects.{Renumbers, same_renumbers, set_renumbers, set_same}

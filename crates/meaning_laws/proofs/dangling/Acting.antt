@@ -25,16 +25,18 @@ use Rattle.object_meaning.specs.objects.Making.{local_objects}
 use Rattle.object_meaning.specs.objects.Holding.{takes_answer, statement_in, statement_at}
 use Rattle.object_meaning.specs.objects.Calls.{call, locals_of, running_locals, escapes, go_back, end_locals}
 use Rattle.object_meaning.specs.objects.Meaning.{values_of, returned, format_in, act, unless_reads_stale, act_at, step, step_by}
-use Rattle.meaning_laws.proofs.dangling.Alive.{HoldsFresh, Grows, fresh_grows, append_grows}
+use Rattle.meaning_laws.specs.objects.Good.{HoldsFresh, WaitsAt, Waits, Holds, Good}
+use Rattle.meaning_laws.specs.objects.Laws.{StaysGood}
+use Rattle.meaning_laws.proofs.dangling.Alive.{Grows, fresh_grows, append_grows}
 use Rattle.meaning_laws.proofs.dangling.Touching.{Done, Changed, loaded_done, loaded_pointer_done, stored_done, stored_pointer_done, copied_done, set_done, values_fresh}
 use Rattle.meaning_laws.proofs.dangling.Giving.{on_two_done, moved_done, difference_done, compared_done, truth_is_fresh}
 use Rattle.meaning_laws.proofs.dangling.Lively.{needed_live}
 use Rattle.meaning_laws.specs.objects.Dangling.{needed}
-use Rattle.meaning_laws.proofs.dangling.Frames.{WaitsAt, Waits, Holds, Good, kept_grows, waits_grow}
+use Rattle.meaning_laws.proofs.dangling.Frames.{kept_grows, waits_grow}
 use Rattle.meaning_laws.proofs.dangling.Operands.{operands_fresh}
 use Rattle.meaning_laws.proofs.dangling.Entering.{enters}
 use Rattle.meaning_laws.proofs.dangling.Returning.{answer_fresh, sane_left, statics_left, waits_left, longer_left, resumed_good}
-use Rattle.meaning_laws.proofs.dangling.Standing.{Stays, stm_of, At, GoesOn, write_same, answers_stays, changes_stays, goes_to, branch_stays, step_stays, leave_stays, enter_stays, free_stays, made_stays, grow_stays, print_stays, lib_stays}
+use Rattle.meaning_laws.proofs.dangling.Standing.{stm_of, At, GoesOn, write_same, answers_stays, changes_stays, goes_to, branch_stays, step_stays, leave_stays, enter_stays, free_stays, made_stays, grow_stays, print_stays, lib_stays}
 
 pub found : {A : Type 0} (xs : List A) (k : ℕ) → k < length xs → (x : A) × (slice_get xs k ≡ Some x)
 found [] k lt = absurd (omega arith)
@@ -80,7 +82,7 @@ module _ (core : Core) (sound : IsSound core) (s : State) (func : Func) (good : 
     opens = good.opens;
   }
 
-  call_stays : (callee : ℕ) (answer : Option ℕ) (args : List Atom) → Here (stm.Call callee answer args) → Fresh (values_of s args) → (m : ℕ) → Stays core (call core line callee (values_of s args) (record s { steps = m }))
+  call_stays : (callee : ℕ) (answer : Option ℕ) (args : List Atom) → Here (stm.Call callee answer args) → Fresh (values_of s args) → (m : ℕ) → StaysGood core (call core line callee (values_of s args) (record s { steps = m }))
   call_stays callee answer args at fresh m =
       let typed = (sound.functions s.running.func func good.here).typed s.running.point (stm_of core sound s func good line (stm.Call callee answer args)) at in
       let g = called core func args (slice_get core.funcs callee) typed.1 in
@@ -91,14 +93,14 @@ module _ (core : Core) (sound : IsSound core) (s : State) (func : Func) (good : 
 
   -- Returns
 
-  back_stays : (answer : Value) → HoldsFresh s.objects answer → good.depth ≡ 0 → first_held (escapes core answer s (running_locals core s)) (running_locals core s) ≡ None → (waiting : List Frame) → Waits core (ended s.objects (running_locals core s)) s.running.first_local good.others waiting → Stays core (go_back core answer waiting (with_objects s (ended s.objects (running_locals core s))))
+  back_stays : (answer : Value) → HoldsFresh s.objects answer → good.depth ≡ 0 → first_held (escapes core answer s (running_locals core s)) (running_locals core s) ≡ None → (waiting : List Frame) → Waits core (ended s.objects (running_locals core s)) s.running.first_local good.others waiting → StaysGood core (go_back core answer waiting (with_objects s (ended s.objects (running_locals core s))))
   back_stays answer fresh closed none [] waits = λ e. cc
   back_stays answer fresh closed none (caller ∷ rest) waits =
       let t = with_objects s (ended s.objects (running_locals core s)) in
       let sum : t.scopes ≡ waits.0 + waits.1 = omega (arith, good.sum, closed, waits.2) in
       resumed_good core sound t caller rest s.running.first_local waits.0 waits.1 waits.3 waits.4 (sane_left core func needed s.scopes s good answer none) (statics_left core func needed s.scopes s good answer none) (longer_left core func needed s.scopes s good answer none) sum answer (answer_fresh core func needed s.scopes s good answer none fresh)
 
-  end_stays : (a : Option Atom) → Here (stm.Return a) → (answer : Value) → HoldsFresh s.objects answer → (o : Option ℕ) → first_held (escapes core answer s (running_locals core s)) (running_locals core s) ≡ o → Stays core (end_locals core line answer o s)
+  end_stays : (a : Option Atom) → Here (stm.Return a) → (answer : Value) → HoldsFresh s.objects answer → (o : Option ℕ) → first_held (escapes core answer s (running_locals core s)) (running_locals core s) ≡ o → StaysGood core (end_locals core line answer o s)
   end_stays a at answer fresh (Some birth) e = λ i. cc
   end_stays a at answer fresh None e =
       let closed = (sound.functions s.running.func func good.here).scopes.ends s.running.point (stm_of core sound s func good line (stm.Return a)) at good.depth a good.opens refl in
@@ -116,13 +118,13 @@ module _ (core : Core) (sound : IsSound core) (s : State) (func : Func) (good : 
   writes : (kind : StmKind) → Here kind → Contains (edges kind s.running.point) (s.running.point + 1) → ((d : ℕ) → scopes_after kind d ≡ d) → (r : Option ℕ) → written kind ≡ r → (v : Value) → HoldsFresh s.objects v → Good core (write s r v)
   writes kind at edge same = write_same core sound s func good line kind at (plain kind edge same)
 
-  gives : (kind : StmKind) → Here kind → Contains (edges kind s.running.point) (s.running.point + 1) → ((d : ℕ) → scopes_after kind d ≡ d) → (r : Option ℕ) → written kind ≡ r → (result : Result Value Refusal) → Done (HoldsFresh s.objects) result → Stays core (answers line s r result)
+  gives : (kind : StmKind) → Here kind → Contains (edges kind s.running.point) (s.running.point + 1) → ((d : ℕ) → scopes_after kind d ≡ d) → (r : Option ℕ) → written kind ≡ r → (result : Result Value Refusal) → Done (HoldsFresh s.objects) result → StaysGood core (answers line s r result)
   gives kind at edge same = answers_stays core sound s func good line kind at (plain kind edge same)
 
-  changed : (kind : StmKind) → Here kind → Contains (edges kind s.running.point) (s.running.point + 1) → ((d : ℕ) → scopes_after kind d ≡ d) → written kind ≡ None → (result : Result (List Object) Refusal) → Done (Changed s.objects s.queue good.sane) result → Stays core (changes line s result)
+  changed : (kind : StmKind) → Here kind → Contains (edges kind s.running.point) (s.running.point + 1) → ((d : ℕ) → scopes_after kind d ≡ d) → written kind ≡ None → (result : Result (List Object) Refusal) → Done (Changed s.objects s.queue good.sane) result → StaysGood core (changes line s result)
   changed kind at edge same = changes_stays core sound s func good line kind at (plain kind edge same)
 
-  act_stays : (fits : ℕ → Bool) (kind : StmKind) → Here kind → Fresh (values_of s (operands kind)) → Stays core (act core fits line kind s)
+  act_stays : (fits : ℕ → Bool) (kind : StmKind) → Here kind → Fresh (values_of s (operands kind)) → StaysGood core (act core fits line kind s)
   act_stays fits (stm.Set r a) at f = writes (stm.Set r a) at next (λ d. refl) (Some r) refl _ (f 0)
   act_stays fits (stm.Conv k r a) at f = writes (stm.Conv k r a) at next (λ d. refl) (Some r) refl _ refl
   act_stays fits (stm.Un op k r a) at f = writes (stm.Un op k r a) at next (λ d. refl) (Some r) refl _ refl
@@ -179,8 +181,20 @@ module _ (core : Core) (sound : IsSound core) (s : State) (func : Func) (good : 
   act_stays fits (stm.Return a) at f =
       end_stays a at (returned s a) (returned_fresh a f) (first_held (escapes core (returned s a) s (running_locals core s)) (running_locals core s)) refl
 
+-- the statement that a good state is at; no operand of it is stale, so it is made
+pub statement_made : (core : Core) → IsSound core → (s : State) → Good core s → (stm : Stm) × (statement_at core s.running ≡ Some stm) × ((fits : ℕ → Bool) → step_by core fits s ≡ act core fits stm.line stm.kind s)
+statement_made core sound s good =
+    let func = good.0 in
+    let h = good.1 in
+    let at = found func.body s.running.point h.inside in
+    let stm = at.0 in
+    let there : statement_at core s.running ≡ Some stm = ap (λ o. statement_in o s.running.point) h.here ∙ at.1 in
+    let typed = (sound.functions s.running.func func h.here).typed s.running.point stm at.1 in
+    let alive = operands_fresh core func s.scopes s h stm at.1 typed in
+    (stm, there, λ fits. ap (λ (o : Option Stm). act_at core fits o s) there ∙ ap (λ b. unless_reads_stale b core fits stm s) alive)
+
 -- the statement that a good state is at
-pub step_by_stays : (core : Core) → IsSound core → (fits : ℕ → Bool) (s : State) → Good core s → Stays core (step_by core fits s)
+pub step_by_stays : (core : Core) → IsSound core → (fits : ℕ → Bool) (s : State) → Good core s → StaysGood core (step_by core fits s)
 step_by_stays core sound fits s good =
     let func = good.0 in
     let h = good.1 in
@@ -190,7 +204,7 @@ step_by_stays core sound fits s good =
     let typed = (sound.functions s.running.func func h.here).typed s.running.point stm at.1 in
     let alive = operands_fresh core func s.scopes s h stm at.1 typed in
     let stays = act_stays core sound s func h stm.line fits stm.kind at.1 (values_fresh s.objects (values_of s (operands stm.kind)) (number (pos 0)) refl alive) in
-    subst (λ (o : Option Stm). Stays core (act_at core fits o s)) (sym there) (subst (λ b. Stays core (unless_reads_stale b core fits stm s)) (sym alive) stays)
+    subst (λ (o : Option Stm). StaysGood core (act_at core fits o s)) (sym there) (subst (λ b. StaysGood core (unless_reads_stale b core fits stm s)) (sym alive) stays)
 
-pub step_stays_at : (core : Core) → IsSound core → (heap : ℕ) (trace : List Event) (s : State) → Good core s → Stays core (step core heap trace s)
+pub step_stays_at : (core : Core) → IsSound core → (heap : ℕ) (trace : List Event) (s : State) → Good core s → StaysGood core (step core heap trace s)
 step_stays_at core sound heap trace s good = step_by_stays core sound (has_place heap trace) s good

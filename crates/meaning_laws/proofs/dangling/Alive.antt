@@ -1,4 +1,5 @@
 -- Which objects are alive, which pointers point to them, and what a change of the objects keeps.
+use Rattle.meaning_laws.specs.objects.Good.{Alive, IsFresh, AreFresh, Sane}
 use Rattle.std.proofs.Common.{◌≡◌, ℕ, zero, suc, ◌+◌, ◌-◌, ◌<◌, ◌≤◌, true, false, nat_eq, List, [], ◌∷◌, ◌++◌, length, get_or, set, refl, sym, ap, ◌∙◌, subst, arith, ⊎_elim, ◌⊎◌, inl, inr}
 use Rattle.std.specs.Prelude.{replicate}
 use Rattle.std.proofs.lemmas.Bool.{false≢true, true≢false, cases_lt, cases_eq, or_cases, or_left, or_right, eqb-true, eq-eqb}
@@ -12,31 +13,11 @@ use Rattle.hs_base.specs.Object.{Object, Queued, is_dead, is_queued, no_object, 
 use Rattle.object_meaning.specs.objects.Values.{is_stale, pointer_in}
 use Rattle.object_meaning.specs.objects.Holding.{is_among}
 
--- an object is not dead
-abbrev pub Alive : List Object → ℕ → Type 0
-Alive objects b = is_dead (object_at objects b).standing ≡ false
-
--- a pointer, each of some pointers, and what a value points to are not dead
-abbrev pub IsFresh : List Object → Pointer → Type 0
-IsFresh objects p = is_stale objects p ≡ false
-
-abbrev pub AreFresh : List Object → List Pointer → Type 0
-AreFresh objects ps = (k : ℕ) → IsFresh objects (get_or ps k pointer.Null)
-
-abbrev pub HoldsFresh : List Object → Value → Type 0
-HoldsFresh objects v = IsFresh objects (pointer_in v)
-
 -- each object that was alive still is, and is on the heap or not as before
 pub record Grows (old new : List Object) : Type 0 where
   pub alive : (b : ℕ) → Alive old b → Alive new b
   pub sort : (b : ℕ) → Alive old b → is_heap (object_at new b).sort ≡ is_heap (object_at old b).sort
   pub longer : length old ≤ length new
-
--- objects that are alive point to objects that are; the queued ones are on the heap, and are those of the queue
-pub record Sane (objects : List Object) (queue : List ℕ) : Type 0 where
-  pub slots : (b : ℕ) → Alive objects b → AreFresh objects (object_at objects b).pointers
-  pub queued : (b : ℕ) → is_queued (object_at objects b).standing ≡ true → (is_among queue b ≡ true) × (is_heap (object_at objects b).sort ≡ true)
-  pub in_queue : (b : ℕ) → is_among queue b ≡ true → is_queued (object_at objects b).standing ≡ true
 
 pub fresh_grows : (old new : List Object) → Grows old new → (p : Pointer) → IsFresh old p → IsFresh new p
 fresh_grows old new g pointer.Null h = refl

@@ -17,10 +17,9 @@ use Rattle.core_tree.specs.declared.program.Core.{Core}
 use Rattle.core_tree.specs.Sound.{IsSound, IsStatic, IsTarget, is_main, first_main, main_of}
 use Rattle.object_meaning.specs.objects.Making.{first_pointer, static_object, static_objects}
 use Rattle.object_meaning.specs.objects.Meaning.{first_call}
-use Rattle.meaning_laws.proofs.dangling.Alive.{IsFresh, AreFresh, Sane}
-use Rattle.meaning_laws.proofs.dangling.Frames.{IsKept}
+use Rattle.meaning_laws.specs.objects.Good.{IsFresh, AreFresh, Sane, IsKept}
+use Rattle.meaning_laws.specs.objects.Laws.{StaysGood}
 use Rattle.meaning_laws.proofs.dangling.Entering.{at_map, at_map_in, enters}
-use Rattle.meaning_laws.proofs.dangling.Standing.{Stays}
 use Rattle.meaning_laws.proofs.dangling.Acting.{found}
 
 abbrev Each : {A : Type 0} → (A → Type 0) → List A → Type 0
@@ -88,7 +87,7 @@ main_within [] h = h
 main_within (func ∷ funcs) h =
     within_by (is_main func) funcs (first_main funcs) (λ e. main_within funcs (counts_rest (is_main func) (count_by is_main funcs) (subst (λ k. 0 < k) (sum_by-cons (λ x. cond (is_main x) 1 0) func funcs) h) e))
 
-pub begins : (core : Core) → IsSound core → (input : List ℕ) (n : ℕ) → Stays core (first_call core input n)
+pub begins : (core : Core) → IsSound core → (input : List ℕ) (n : ℕ) → StaysGood core (first_call core input n)
 begins core sound input zero = λ e. cc
 begins core sound input (suc m) =
     let main = found core.funcs (main_of core) (main_within core.funcs (omega (arith, sound.one_main))) in

@@ -13,8 +13,7 @@ use Rattle.core_tree.specs.Lives.{is_live}
 use Rattle.object_meaning.specs.objects.Values.{pointer_in}
 use Rattle.object_meaning.specs.objects.Holding.{is_among, inside_objects, in_waiting, in_all_waiting, in_running, holders}
 use Rattle.object_meaning.specs.objects.Scoping.{is_held, bury}
-use Rattle.meaning_laws.proofs.dangling.Alive.{Alive, IsFresh, AreFresh, Sane}
-use Rattle.meaning_laws.proofs.dangling.Frames.{IsKept, WaitsAt, Waits, Holds}
+use Rattle.meaning_laws.specs.objects.Good.{Alive, IsFresh, AreFresh, Sane, IsKept, WaitsAt, Waits, Holds}
 use Rattle.meaning_laws.specs.objects.Dangling.{register}
 use Rattle.meaning_laws.proofs.dangling.Unheld.{NoHolder, NoHolders, none_append, none_reverse, unheld_object, unheld_running, unheld_waiting, none_first}
 

@@ -18,9 +18,10 @@ use Rattle.core_tree.specs.Sound.{IsSound, start}
 use Rattle.object_meaning.specs.objects.Values.{number, address, first_value, pointer_in, is_stale}
 use Rattle.object_meaning.specs.objects.Making.{local_object, local_objects}
 use Rattle.object_meaning.specs.objects.Calls.{locals_of, registers_of, new_frame}
-use Rattle.meaning_laws.proofs.dangling.Alive.{AreFresh, HoldsFresh, Sane, fresh_grows, append_grows, append_sane, nulls_fresh}
+use Rattle.meaning_laws.specs.objects.Good.{AreFresh, HoldsFresh, Sane, IsKept, Waits, Holds}
+use Rattle.meaning_laws.proofs.dangling.Alive.{fresh_grows, append_grows, append_sane, nulls_fresh}
 use Rattle.meaning_laws.specs.objects.Dangling.{needed}
-use Rattle.meaning_laws.proofs.dangling.Frames.{IsKept, Waits, Holds, kept_grows}
+use Rattle.meaning_laws.proofs.dangling.Frames.{kept_grows}
 use Rattle.meaning_laws.specs.objects.Dangling.{register}
 
 module _ {A : Type 0} (P : Object → Type 0) (make : A → Object) (made : (x : A) → P (make x)) where

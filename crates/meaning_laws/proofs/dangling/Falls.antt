@@ -1,4 +1,5 @@
 -- Each statement that does not end the run makes `enough` smaller, so every run ends.
+use Rattle.meaning_laws.specs.objects.Laws.{LeavesLess}
 use Rattle.std.proofs.Common.{◌≡◌, ℕ, zero, suc, ◌+◌, ◌*◌, ◌<◌, ◌≤◌, Bool, true, false, List, [], ◌∷◌, length, Option, Some, None, Result, Ok, Err, pos, negsuc, refl, sym, ap, subst, arith}
 use Rattle.std.specs.Prelude.{slice_get}
 use Rattle.std.specs.List.{sum_by}
@@ -34,11 +35,6 @@ use Rattle.object_meaning.specs.objects.Printing.{print}
 use Rattle.object_meaning.specs.objects.Builtins.{byte_in, get_byte, put_line, filled, call_lib}
 use Rattle.object_meaning.specs.objects.Calls.{call, resumed, go_back, end_locals, escapes, running_locals}
 use Rattle.object_meaning.specs.objects.Meaning.{Run, branch, values_of, returned, act, unless_reads_stale, act_at, step, begun, meaning, body_length, code_left, size, enough, step_by}
-
--- where the run goes on, less is left
-abbrev pub Falls : Core → State → Next → Type 0
-Falls core s (runs.Goes before events t) = enough core t < enough core s
-Falls core s (runs.Stops before events after e) = Unit {0}
 
 -- a statement's targets lie ahead of it, but for that of a loop
 abbrev pub IsForward : ℕ → StmKind → Type 0
@@ -94,96 +90,96 @@ module _ (core : Core) (s : State) (inside : s.running.point < body_length (slic
   write_less : (t : State) (r : Option ℕ) (v : Value) → Alike s t → enough core (write t r v) < enough core s
   write_less t r v h = onward_less (put t r v) (alike_put s t h r v)
 
-  answers_falls : (line : ℕ) (r : Option ℕ) (result : Result Value Refusal) → Falls core s (answers line s r result)
+  answers_falls : (line : ℕ) (r : Option ℕ) (result : Result Value Refusal) → LeavesLess core s (answers line s r result)
   answers_falls line r (Ok v) = write_less s r v alike
   answers_falls line r (Err e) = tt
 
-  changes_falls : (line : ℕ) (result : Result (List Object) Refusal) → Falls core s (changes line s result)
+  changes_falls : (line : ℕ) (result : Result (List Object) Refusal) → LeavesLess core s (changes line s result)
   changes_falls line (Ok objects) = onward_less (with_objects s objects) (record { func = refl; point = refl; waiting = refl; steps = refl })
   changes_falls line (Err e) = tt
 
-  branch_falls : (b : Bool) (l : ℕ) → s.running.point < l → Falls core s (branch b l s)
+  branch_falls : (b : Bool) (l : ℕ) → s.running.point < l → LeavesLess core s (branch b l s)
   branch_falls true l h = omega arith
   branch_falls false l h = omega arith
 
-  step_falls : (n : ℕ) (next : State → Next) → n ≡ s.steps → ((m : ℕ) → m + 1 ≡ s.steps → Falls core s (next (record s { steps = m }))) → Falls core s (with_step n s next)
+  step_falls : (n : ℕ) (next : State → Next) → n ≡ s.steps → ((m : ℕ) → m + 1 ≡ s.steps → LeavesLess core s (next (record s { steps = m }))) → LeavesLess core s (with_step n s next)
   step_falls zero next e h = tt
   step_falls (suc n) next e h = h n (omega arith)
 
-  back_falls : (m l : ℕ) → m + 1 ≡ s.steps → Falls core s (goes (record s { steps = m }) [] (at_point (record s { steps = m }) l))
+  back_falls : (m l : ℕ) → m + 1 ≡ s.steps → LeavesLess core s (goes (record s { steps = m }) [] (at_point (record s { steps = m }) l))
   back_falls m l e = omega (arith, body_below core s.running.func, ap (λ k. k * size core) e)
 
-  call_falls : (line f : ℕ) (values : List Value) (m : ℕ) → m + 1 ≡ s.steps → Falls core s (call core line f values (record s { steps = m }))
+  call_falls : (line f : ℕ) (values : List Value) (m : ℕ) → m + 1 ≡ s.steps → LeavesLess core s (call core line f values (record s { steps = m }))
   call_falls line f values m e =
       omega (arith, body_below core f, ap (λ k. k * size core) e, sum_by-cons (code_left core) s.running s.waiting)
 
-  decided_falls : (held : Option ℕ) (before t : State) (events : List Event) → Alike s t → Falls core s (decided core held before events t)
+  decided_falls : (held : Option ℕ) (before t : State) (events : List Event) → Alike s t → LeavesLess core s (decided core held before events t)
   decided_falls None before t events h =
       onward_less (bury t) (record { func = h.func; point = h.point; waiting = h.waiting; steps = h.steps })
   decided_falls (Some birth) before t events h = tt
 
-  leave_falls : (n : ℕ) → Falls core s (leave core n s)
+  leave_falls : (n : ℕ) → LeavesLess core s (leave core n s)
   leave_falls zero = tt
   leave_falls (suc zero) = decided_falls (first_held (is_held core s) s.queue) s s [] alike
   leave_falls (suc (suc n)) = omega arith
 
-  in_scope_falls : (n : ℕ) (before t : State) (events : List Event) → Alike s t → Falls core s (in_scope core n before events t)
+  in_scope_falls : (n : ℕ) (before t : State) (events : List Event) → Alike s t → LeavesLess core s (in_scope core n before events t)
   in_scope_falls zero before t events h =
       let u : State = record t { scopes = 1 } in
       decided_falls (first_held (is_held core u) u.queue) before u events (record { func = h.func; point = h.point; waiting = h.waiting; steps = h.steps })
   in_scope_falls (suc n) before t events h = onward_less t h
 
-  free_named_falls : (line : ℕ) (named : Result ℕ Reason) → Falls core s (free_named core line named s)
+  free_named_falls : (line : ℕ) (named : Result ℕ Reason) → LeavesLess core s (free_named core line named s)
   free_named_falls line (Ok birth) =
       in_scope_falls s.scopes s (enqueue line birth s) [] (record { func = refl; point = refl; waiting = refl; steps = refl })
   free_named_falls line (Err reason) = tt
 
-  free_falls : (line : ℕ) (p : Pointer) → Falls core s (free core line p s)
+  free_falls : (line : ℕ) (p : Pointer) → LeavesLess core s (free core line p s)
   free_falls line pointer.Null = omega arith
   free_falls line (pointer.At birth offset) = free_named_falls line (freed_at s.objects birth offset)
 
-  made_falls : (b : Bool) (line r n : ℕ) (element : Layout) → Falls core s (made b line r n element s)
+  made_falls : (b : Bool) (line r n : ℕ) (element : Layout) → LeavesLess core s (made b line r n element s)
   made_falls true line r n element = omega arith
   made_falls false line r n element = omega arith
 
-  grown_falls : (line r n old : ℕ) (t : State) → Alike s t → (result : Result (List Object) Refusal) → Falls core s (grown core line r n old s t result)
+  grown_falls : (line r n old : ℕ) (t : State) → Alike s t → (result : Result (List Object) Refusal) → LeavesLess core s (grown core line r n old s t result)
   grown_falls line r n old t h (Ok objects) =
       in_scope_falls t.scopes s (put (enqueue line old (with_objects t objects)) (Some r) (address (start_of (length s.objects)))) (birth_of line n s) (record { func = h.func; point = h.point; waiting = h.waiting; steps = h.steps })
   grown_falls line r n old t h (Err e) = tt
 
-  grow_old_falls : (b : Bool) (line r old n : ℕ) (element : Layout) → Falls core s (grow_old b core line r old n element s)
+  grow_old_falls : (b : Bool) (line r old n : ℕ) (element : Layout) → LeavesLess core s (grow_old b core line r old n element s)
   grow_old_falls true line r old n element =
       grown_falls line r n old (with_new line n element s) (record { func = refl; point = refl; waiting = refl; steps = refl }) _
   grow_old_falls false line r old n element = omega arith
 
-  grow_named_falls : (fits : ℕ → Bool) (line r : ℕ) (named : Result ℕ Reason) (n : ℕ) (element : Layout) → Falls core s (grow_named core fits line r named n element s)
+  grow_named_falls : (fits : ℕ → Bool) (line r : ℕ) (named : Result ℕ Reason) (n : ℕ) (element : Layout) → LeavesLess core s (grow_named core fits line r named n element s)
   grow_named_falls fits line r (Ok old) n element = grow_old_falls (fits n) line r old n element
   grow_named_falls fits line r (Err reason) n element = tt
 
-  grow_falls : (fits : ℕ → Bool) (line r : ℕ) (p : Pointer) (n : ℕ) (element : Layout) → Falls core s (grow core fits line r p n element s)
+  grow_falls : (fits : ℕ → Bool) (line r : ℕ) (p : Pointer) (n : ℕ) (element : Layout) → LeavesLess core s (grow core fits line r p n element s)
   grow_falls fits line r pointer.Null n element = made_falls (fits n) line r n element
   grow_falls fits line r (pointer.At birth offset) n element =
       grow_named_falls fits line r (freed_at s.objects birth offset) n element
 
-  get_falls : (r : Option ℕ) (input : List ℕ) → Falls core s (get_byte r input s)
+  get_falls : (r : Option ℕ) (input : List ℕ) → LeavesLess core s (get_byte r input s)
   get_falls r [] = write_less s r (number (negsuc 0)) alike
   get_falls r (byte ∷ rest) =
       write_less (record s { input = rest }) r (number (pos byte)) (record { func = refl; point = refl; waiting = refl; steps = refl })
 
-  filled_falls : (line : ℕ) (r : Option ℕ) (p : Pointer) (result : Result (List Object) Refusal) → Falls core s (filled line r p result s)
+  filled_falls : (line : ℕ) (r : Option ℕ) (p : Pointer) (result : Result (List Object) Refusal) → LeavesLess core s (filled line r p result s)
   filled_falls line r p (Ok objects) =
       write_less (with_objects s objects) r (address p) (record { func = refl; point = refl; waiting = refl; steps = refl })
   filled_falls line r p (Err e) = tt
 
-  puts_falls : (line : ℕ) (r : Option ℕ) (result : Result (List ℕ) Refusal) → Falls core s (if_done line s result (λ text. put_line r text s))
+  puts_falls : (line : ℕ) (r : Option ℕ) (result : Result (List ℕ) Refusal) → LeavesLess core s (if_done line s result (λ text. put_line r text s))
   puts_falls line r (Ok text) = write_less s r (number (pos 0)) alike
   puts_falls line r (Err e) = tt
 
-  print_falls : (line r : ℕ) (bytes : List ℕ) (refused : Option Refusal) → Falls core s (print line r bytes refused s)
+  print_falls : (line r : ℕ) (bytes : List ℕ) (refused : Option Refusal) → LeavesLess core s (print line r bytes refused s)
   print_falls line r bytes None = omega arith
   print_falls line r bytes (Some e) = tt
 
-  lib_falls : (line : ℕ) (name : LibName) (r : Option ℕ) (values : List Value) → Falls core s (call_lib line name r values s)
+  lib_falls : (line : ℕ) (name : LibName) (r : Option ℕ) (values : List Value) → LeavesLess core s (call_lib line name r values s)
   lib_falls line lib.Exit r values = tt
   lib_falls line lib.Abort r values = tt
   lib_falls line lib.Memcpy r values = filled_falls line r _ _
@@ -195,16 +191,16 @@ module _ (core : Core) (s : State) (inside : s.running.point < body_length (slic
   lib_falls line lib.Putchar r values = write_less s r (number (pos (byte_in (number_at values 0)))) alike
   lib_falls line lib.Puts r values = puts_falls line r _
 
-  back_in_falls : (answer : Value) (waiting : List Frame) (objects : List Object) → waiting ≡ s.waiting → Falls core s (go_back core answer waiting (with_objects s objects))
+  back_in_falls : (answer : Value) (waiting : List Frame) (objects : List Object) → waiting ≡ s.waiting → LeavesLess core s (go_back core answer waiting (with_objects s objects))
   back_in_falls answer [] objects e = tt
   back_in_falls answer (caller ∷ rest) objects e =
       omega (arith, code_resumed core answer caller, ap (sum_by (code_left core)) e, sum_by-cons (code_left core) caller rest)
 
-  end_falls : (line : ℕ) (answer : Value) (held : Option ℕ) → Falls core s (end_locals core line answer held s)
+  end_falls : (line : ℕ) (answer : Value) (held : Option ℕ) → LeavesLess core s (end_locals core line answer held s)
   end_falls line answer None = back_in_falls answer s.waiting (ended s.objects (running_locals core s)) refl
   end_falls line answer (Some birth) = tt
 
-  act_falls : (fits : ℕ → Bool) (line : ℕ) (kind : StmKind) → IsForward s.running.point kind → Falls core s (act core fits line kind s)
+  act_falls : (fits : ℕ → Bool) (line : ℕ) (kind : StmKind) → IsForward s.running.point kind → LeavesLess core s (act core fits line kind s)
   act_falls fits line (stm.Set r a) h = omega arith
   act_falls fits line (stm.Conv k r a) h = omega arith
   act_falls fits line (stm.Un op k r a) h = omega arith
@@ -239,7 +235,7 @@ module _ (core : Core) (s : State) (inside : s.running.point < body_length (slic
       let answer = returned s a in
       let locals = running_locals core s in end_falls line answer (first_held (escapes core answer s locals) locals)
 
-  checked_falls : (b : Bool) (fits : ℕ → Bool) (stm : Stm) → IsForward s.running.point stm.kind → Falls core s (unless_reads_stale b core fits stm s)
+  checked_falls : (b : Bool) (fits : ℕ → Bool) (stm : Stm) → IsForward s.running.point stm.kind → LeavesLess core s (unless_reads_stale b core fits stm s)
   checked_falls true fits stm h = tt
   checked_falls false fits stm h = act_falls fits stm.line stm.kind h
 
@@ -253,15 +249,15 @@ forward_in core all f point None stm e h = absurd (cc)
 forward_in core all f point (Some func) stm e h = all f func e point stm h
 
 module _ (core : Core) (all : AllForward core) where
-  at_falls : (fits : ℕ → Bool) (s : State) (o : Option Stm) → statement_at core s.running ≡ o → Falls core s (act_at core fits o s)
+  at_falls : (fits : ℕ → Bool) (s : State) (o : Option Stm) → statement_at core s.running ≡ o → LeavesLess core s (act_at core fits o s)
   at_falls fits s None h = tt
   at_falls fits s (Some stm) h =
       checked_falls core s (within (slice_get core.funcs s.running.func) s.running.point stm h) _ fits stm (forward_in core all s.running.func s.running.point (slice_get core.funcs s.running.func) stm refl h)
 
-  pub step_by_falls : (fits : ℕ → Bool) (s : State) → Falls core s (step_by core fits s)
+  pub step_by_falls : (fits : ℕ → Bool) (s : State) → LeavesLess core s (step_by core fits s)
   step_by_falls fits s = at_falls fits s (statement_at core s.running) refl
 
-  pub step_falls_at : (heap : ℕ) (trace : List Event) (s : State) → Falls core s (step core heap trace s)
+  pub step_falls_at : (heap : ℕ) (trace : List Event) (s : State) → LeavesLess core s (step core heap trace s)
   step_falls_at heap trace s = step_by_falls (has_place heap trace) s
 
   -- what is left of a run that has not ended
@@ -269,7 +265,7 @@ module _ (core : Core) (all : AllForward core) where
   Left total k (Some e) s = Unit {0}
   Left total k None s = enough core s + k ≤ total
 
-  left_next : (total k : ℕ) (trace : List Event) (s : State) (n : Next) → enough core s + k ≤ total → Falls core s n → Left total (suc k) (runs.led trace n).ended (runs.led trace n).state
+  left_next : (total k : ℕ) (trace : List Event) (s : State) (n : Next) → enough core s + k ≤ total → LeavesLess core s n → Left total (suc k) (runs.led trace n).ended (runs.led trace n).state
   left_next total k trace s (runs.Goes before events t) h f = omega arith
   left_next total k trace s (runs.Stops before events after e) h f = tt
 

@@ -16,60 +16,12 @@ use Rattle.core_tree.specs.Statements.{written, writes, edges}
 use Rattle.core_tree.specs.Lives.{is_live}
 use Rattle.core_tree.specs.Sound.{IsFunction, Opens, goes, scopes_after}
 use Rattle.object_meaning.specs.objects.Values.{number}
+use Rattle.meaning_laws.specs.objects.Good.{Alive, HoldsFresh, Sane, IsKept, WaitsAt, Waits, Holds}
 use Rattle.meaning_laws.specs.objects.Dangling.{needed, register}
 use Rattle.object_meaning.specs.objects.Going.{at_point, put}
 use Rattle.object_meaning.specs.objects.Holding.{takes_answer}
-use Rattle.meaning_laws.proofs.dangling.Alive.{Alive, HoldsFresh, Grows, Sane, fresh_grows}
+use Rattle.meaning_laws.proofs.dangling.Alive.{Grows, fresh_grows}
 use Rattle.meaning_laws.proofs.dangling.Lively.{live_back, needed_live, edge_at}
-
--- an object is alive, and not on the heap
-abbrev pub IsKept : List Object → ℕ → Type 0
-IsKept objects b = Alive objects b × (is_heap (object_at objects b).sort ≡ false)
-
--- the memory locals of a frame are there
-abbrev pub HasLocals : Func → List Object → Frame → Type 0
-HasLocals func objects frame = (k : ℕ) → k < length func.mems → IsKept objects (frame.first_local + k)
-
--- a waiting frame is at a call, with so many scopes open; its locals are born before top
-pub record WaitsAt (core : Core) (objects : List Object) (top depth : ℕ) (frame : Frame) : Type 0 where
-  pub func : Func
-  pub here : slice_get core.funcs frame.func ≡ Some func
-  pub line : ℕ
-  pub callee : ℕ
-  pub answer : Option ℕ
-  pub args : List Atom
-  pub at : slice_get func.body frame.point ≡ Some (record { line = line; kind = stm.Call callee answer args })
-  pub locals : HasLocals func objects frame
-  pub below : frame.first_local + length func.mems ≤ top
-  pub above : length core.statics ≤ frame.first_local
-  pub fresh : (r : ℕ) → is_live func.body frame.point r ≡ true → takes_answer answer r ≡ false → HoldsFresh objects (register frame r)
-  pub opens : Opens func.body frame.point depth
-
--- the waiting frames, from newest to oldest, with so many scopes open
-abbrev pub Waits : Core → List Object → ℕ → ℕ → List Frame → Type 0
-Waits core objects top total [] = total ≡ 0
-Waits core objects top total (frame ∷ waiting) =
-    (depth : ℕ) × (others : ℕ) × (total ≡ depth + others) × WaitsAt core objects top depth frame × Waits core objects frame.first_local others waiting
-
--- the running frame is at a point of a function with so many scopes open; the registers that are wanted there are fresh
-pub record Holds (core : Core) (func : Func) (wanted : List Stm → ℕ → ℕ → Bool) (total : ℕ) (s : State) : Type 0 where
-  pub here : slice_get core.funcs s.running.func ≡ Some func
-  pub inside : s.running.point < length func.body
-  pub sane : Sane s.objects s.queue
-  pub statics : (k : ℕ) → k < length core.statics → IsKept s.objects k
-  pub locals : HasLocals func s.objects s.running
-  pub below : s.running.first_local + length func.mems ≤ length s.objects
-  pub above : length core.statics ≤ s.running.first_local
-  pub fresh : (r : ℕ) → wanted func.body s.running.point r ≡ true → HoldsFresh s.objects (register s.running r)
-  pub depth : ℕ
-  pub others : ℕ
-  pub sum : total ≡ depth + others
-  pub opens : Opens func.body s.running.point depth
-  pub waits : Waits core s.objects s.running.first_local others s.waiting
-
--- before a statement
-abbrev pub Good : Core → State → Type 0
-Good core s = (func : Func) × Holds core func needed s.scopes s
 
 pub kept_grows : (old new : List Object) → Grows old new → (b : ℕ) → IsKept old b → IsKept new b
 kept_grows old new g b h = (g.alive b h.0, g.sort b h.0 ∙ h.1)

@@ -19,7 +19,7 @@ use Rattle.object_meaning.specs.objects.Values.{address, pointer_at}
 use Rattle.object_meaning.specs.objects.Arithmetic.{or_traps, on_two, truth, is_zero, compared, within_object, moved_by, offsets, difference, ordered, pointers_compared}
 use Rattle.object_meaning.specs.objects.Strings.{behind, byte_behind, string_from, string_at, order_from, order_of, room_at}
 use Rattle.object_meaning.specs.objects.Printing.{Printed, item_text, arguments_behind, in_front, printed}
-use Rattle.meaning_laws.proofs.dangling.Alive.{Alive, IsFresh, HoldsFresh, Sane}
+use Rattle.meaning_laws.specs.objects.Good.{Alive, IsFresh, HoldsFresh, Sane}
 use Rattle.meaning_laws.proofs.dangling.Touching.{Done, trapped, then_done, Reaches, access_integer_done}
 
 -- nothing is said of an answer

@@ -12,8 +12,7 @@ use Rattle.core_tree.specs.Sound.{IsSound}
 use Rattle.object_meaning.specs.objects.Holding.{answer_register, is_live_in, statement_in, takes_answer}
 use Rattle.meaning_laws.specs.objects.Dangling.{NothingDangles, counts_waiting, needed_in, register}
 use Rattle.object_meaning.specs.objects.Meaning.{begun, step}
-use Rattle.meaning_laws.proofs.dangling.Alive.{HoldsFresh}
-use Rattle.meaning_laws.proofs.dangling.Frames.{Good, Waits, WaitsAt}
+use Rattle.meaning_laws.specs.objects.Good.{HoldsFresh, Good, Waits, WaitsAt}
 use Rattle.meaning_laws.proofs.dangling.Stands.{Going, going_after, going_first}
 
 module _ (core : Core) (objects : List Object) where

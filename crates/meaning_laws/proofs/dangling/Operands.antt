@@ -18,10 +18,9 @@ use Rattle.core_tree.specs.declared.program.Core.{Core}
 use Rattle.core_tree.specs.Statements.{operands, is_register}
 use Rattle.core_tree.specs.Sorts.{Sort, Integer, Pointer, atom_sort, lib_takes, TakesCall, TakesFormat, IsTyped}
 use Rattle.object_meaning.specs.objects.Values.{value_of, holds_stale}
-use Rattle.meaning_laws.proofs.dangling.Alive.{HoldsFresh}
+use Rattle.meaning_laws.specs.objects.Good.{HoldsFresh, Holds}
 use Rattle.meaning_laws.proofs.dangling.Lively.{needed_read}
 use Rattle.meaning_laws.specs.objects.Dangling.{needed}
-use Rattle.meaning_laws.proofs.dangling.Frames.{Holds}
 use Rattle.meaning_laws.specs.objects.Dangling.{register}
 
 module _ (core : Core) (func : Func) where

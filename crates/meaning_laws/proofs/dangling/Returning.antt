@@ -19,10 +19,10 @@ use Rattle.object_meaning.specs.objects.Values.{pointer_in}
 use Rattle.object_meaning.specs.objects.Going.{with_register}
 use Rattle.object_meaning.specs.objects.Holding.{is_among, statement_at, answer_register, takes_answer, inside_objects, in_waiting, in_all_waiting}
 use Rattle.object_meaning.specs.objects.Calls.{locals_of, running_locals, escapes, resumed}
-use Rattle.meaning_laws.proofs.dangling.Alive.{HoldsFresh, Sane}
+use Rattle.meaning_laws.specs.objects.Good.{HoldsFresh, Sane, IsKept, WaitsAt, Waits, Holds, Good}
 use Rattle.meaning_laws.proofs.dangling.Lively.{live_back, edge_at}
 use Rattle.meaning_laws.specs.objects.Dangling.{needed}
-use Rattle.meaning_laws.proofs.dangling.Frames.{IsKept, WaitsAt, Waits, Holds, Good, set_register}
+use Rattle.meaning_laws.proofs.dangling.Frames.{set_register}
 use Rattle.meaning_laws.specs.objects.Dangling.{register}
 use Rattle.meaning_laws.proofs.dangling.Unheld.{NoHolder, none_append, none_reverse, none_first, answer_is}
 use Rattle.meaning_laws.proofs.dangling.Burying.{Loses, spared_fresh, spared_slots, spared_waits}

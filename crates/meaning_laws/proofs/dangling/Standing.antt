@@ -34,17 +34,14 @@ use Rattle.object_meaning.specs.objects.Strings.{string_at, order_of}
 use Rattle.object_meaning.specs.objects.Printing.{printed, print}
 use Rattle.object_meaning.specs.objects.Builtins.{byte_in, get_byte, put_line, filled, call_lib}
 use Rattle.object_meaning.specs.objects.Meaning.{branch}
-use Rattle.meaning_laws.proofs.dangling.Alive.{Alive, IsFresh, AreFresh, HoldsFresh, Grows, Sane, grows_same, grows_both, append_grows, append_sane, nulls_fresh, queue_grows, queue_sane}
+use Rattle.meaning_laws.specs.objects.Good.{Alive, IsFresh, AreFresh, HoldsFresh, Sane, Holds, Good}
+use Rattle.meaning_laws.specs.objects.Laws.{StaysGood}
+use Rattle.meaning_laws.proofs.dangling.Alive.{Grows, grows_same, grows_both, append_grows, append_sane, nulls_fresh, queue_grows, queue_sane}
 use Rattle.meaning_laws.proofs.dangling.Touching.{Done, then_done, Changed, copied_done, set_done}
 use Rattle.meaning_laws.proofs.dangling.Giving.{Any, string_done, order_done, Lives, printed_lives}
 use Rattle.meaning_laws.specs.objects.Dangling.{needed}
-use Rattle.meaning_laws.proofs.dangling.Frames.{Holds, Good, holds_with, ready_put, moves}
+use Rattle.meaning_laws.proofs.dangling.Frames.{holds_with, ready_put, moves}
 use Rattle.meaning_laws.proofs.dangling.Burying.{buried_holds}
-
--- where the run goes on its state is good, and where it ends that is not for want of life
-abbrev pub Stays : Core → Next → Type 0
-Stays core (runs.Goes before events after) = Good core after
-Stays core (runs.Stops before events after ending) = ending ≢ Dangling
 
 pub refused : (line : ℕ) (e : Refusal) → e ≢ ReadsDead → ended_by line e ≢ Dangling
 refused line (Trapped kind) h = λ i. cc
@@ -118,14 +115,14 @@ module _ (core : Core) (sound : IsSound core) (s : State) (func : Func) (good : 
   write_same kind at on r e v f =
       write_good s.objects s.queue s.input (grows_same s.objects) good.sane kind at on r e v f
 
-  pub answers_stays : (kind : StmKind) → At kind → GoesOn kind → (r : Option ℕ) → written kind ≡ r → (result : Result Value Refusal) → Done (HoldsFresh s.objects) result → Stays core (answers line s r result)
+  pub answers_stays : (kind : StmKind) → At kind → GoesOn kind → (r : Option ℕ) → written kind ≡ r → (result : Result Value Refusal) → Done (HoldsFresh s.objects) result → StaysGood core (answers line s r result)
   answers_stays kind at on r e (Ok v) h = write_same kind at on r e v h
   answers_stays kind at on r e (Err x) h = refused line x h
 
   abbrev pub Changes : List Object → Type 0
   Changes = Changed s.objects s.queue good.sane
 
-  pub changes_stays : (kind : StmKind) → At kind → GoesOn kind → written kind ≡ None → (result : Result (List Object) Refusal) → Done Changes result → Stays core (changes line s result)
+  pub changes_stays : (kind : StmKind) → At kind → GoesOn kind → written kind ≡ None → (result : Result (List Object) Refusal) → Done Changes result → StaysGood core (changes line s result)
   changes_stays kind at on e (Ok objects) h =
       write_good objects s.queue s.input h.0 h.1 kind at on None e (number (pos 0)) refl
   changes_stays kind at on e (Err x) h = refused line x h
@@ -141,11 +138,11 @@ module _ (core : Core) (sound : IsSound core) (s : State) (func : Func) (good : 
       let r = ready_put core func s.scopes t h (stm_of kind) at None e (number (pos 0)) refl in
       (func, moves core func func_sound s.scopes s.scopes t r (stm_of kind) at l edge (omega (arith, r.sum, same r.depth)))
 
-  pub branch_stays : (kind : StmKind) → At kind → written kind ≡ None → (b : Bool) (l : ℕ) → Contains (edges kind s.running.point) l → Contains (edges kind s.running.point) (s.running.point + 1) → ((d : ℕ) → scopes_after kind d ≡ d) → Stays core (branch b l s)
+  pub branch_stays : (kind : StmKind) → At kind → written kind ≡ None → (b : Bool) (l : ℕ) → Contains (edges kind s.running.point) l → Contains (edges kind s.running.point) (s.running.point + 1) → ((d : ℕ) → scopes_after kind d ≡ d) → StaysGood core (branch b l s)
   branch_stays kind at e true l there on same = goes_to kind at e l there same s.steps
   branch_stays kind at e false l there on same = goes_to kind at e (s.running.point + 1) on same s.steps
 
-  pub step_stays : (n : ℕ) (next : State → Next) → ((m : ℕ) → Stays core (next (record s { steps = m }))) → Stays core (with_step n s next)
+  pub step_stays : (n : ℕ) (next : State → Next) → ((m : ℕ) → StaysGood core (next (record s { steps = m }))) → StaysGood core (with_step n s next)
   step_stays zero next h = λ e. cc
   step_stays (suc n) next h = h n
 
@@ -155,7 +152,7 @@ module _ (core : Core) (sound : IsSound core) (s : State) (func : Func) (good : 
   abbrev Closes : StmKind → ℕ → ℕ → Type 0
   Closes kind total new = (d o : ℕ) → Opens func.body s.running.point d → total ≡ d + o → new ≡ scopes_after kind d + o
 
-  decided_stays : (kind : StmKind) → At kind → Contains (edges kind s.running.point) (s.running.point + 1) → (total : ℕ) → Closes kind total 0 → (before t : State) (events : List Event) → t.running.point ≡ s.running.point → Holds core func is_live total t → (o : Option ℕ) → first_held (is_held core t) t.queue ≡ o → Stays core (decided core o before events t)
+  decided_stays : (kind : StmKind) → At kind → Contains (edges kind s.running.point) (s.running.point + 1) → (total : ℕ) → Closes kind total 0 → (before t : State) (events : List Event) → t.running.point ≡ s.running.point → Holds core func is_live total t → (o : Option ℕ) → first_held (is_held core t) t.queue ≡ o → StaysGood core (decided core o before events t)
   decided_stays kind at edge total closes before t events same h (Some birth) e = λ i. cc
   decided_stays kind at edge total closes before t events same h None e =
       let b = buried_holds core func total t h e in
@@ -168,7 +165,7 @@ module _ (core : Core) (sound : IsSound core) (s : State) (func : Func) (good : 
   leave_closes total at d o opens e =
       let open_one = func_sound.scopes.closes s.running.point (stm_of stm.Leave) at d opens refl in omega (arith, open_one)
 
-  pub leave_stays : At stm.Leave → (n : ℕ) → s.scopes ≡ n → Stays core (leave core n s)
+  pub leave_stays : At stm.Leave → (n : ℕ) → s.scopes ≡ n → StaysGood core (leave core n s)
   leave_stays at zero e =
       absurd (omega (arith, leave_closes s.scopes at good.depth good.others good.opens good.sum))
   leave_stays at (suc zero) e =
@@ -185,7 +182,7 @@ module _ (core : Core) (sound : IsSound core) (s : State) (func : Func) (good : 
       (func, moves core func func_sound s.scopes (s.scopes + 1) t h (stm_of stm.Enter) at (s.running.point + 1) (0, omega arith, refl) (omega (arith, h.sum)))
 
   -- a statement that frees: its own scope is closed with a check where none is open
-  in_scope_stays : (kind : StmKind) → At kind → GoesOn kind → (before t : State) (events : List Event) → t.running.point ≡ s.running.point → Holds core func is_live t.scopes t → (n : ℕ) → t.scopes ≡ n → Stays core (in_scope core n before events t)
+  in_scope_stays : (kind : StmKind) → At kind → GoesOn kind → (before t : State) (events : List Event) → t.running.point ≡ s.running.point → Holds core func is_live t.scopes t → (n : ℕ) → t.scopes ≡ n → StaysGood core (in_scope core n before events t)
   in_scope_stays kind at on before t events same h zero e =
       let u : State = record t { scopes = 1 } in
       let i = holds_with core func is_live t.scopes t h t.objects t.queue 1 t.input t.steps (grows_same t.objects) h.sane in
@@ -197,7 +194,7 @@ module _ (core : Core) (sound : IsSound core) (s : State) (func : Func) (good : 
 
   -- Heap objects
 
-  free_named_stays : (p : Atom) → At (stm.Free p) → (result : Result ℕ Reason) → MayFree s.objects result → Stays core (free_named core line result s)
+  free_named_stays : (p : Atom) → At (stm.Free p) → (result : Result ℕ Reason) → MayFree s.objects result → StaysGood core (free_named core line result s)
   free_named_stays p at (Ok birth) h =
       let grows = queue_grows s.objects s.queue birth line good.sane h.0 h.1 in
       let sane = queue_sane s.objects s.queue birth line good.sane h.0 h.1 in
@@ -206,17 +203,17 @@ module _ (core : Core) (sound : IsSound core) (s : State) (func : Func) (good : 
       in_scope_stays (stm.Free p) at (record { edge = (0, omega arith, refl); scopes = λ d. refl }) s t [] refl u s.scopes refl
   free_named_stays p at (Err reason) h = λ e. cc
 
-  pub free_stays : (p : Atom) → At (stm.Free p) → (q : Pointer) → Stays core (free core line q s)
+  pub free_stays : (p : Atom) → At (stm.Free p) → (q : Pointer) → StaysGood core (free core line q s)
   free_stays p at pointer.Null = goes_to (stm.Free p) at refl (s.running.point + 1) (0, omega arith, refl) (λ d. refl) s.steps
   free_stays p at (pointer.At b offset) =
       free_named_stays p at (freed_at s.objects b offset) (may_free s.objects b offset)
 
-  pub made_stays : (b : Bool) (kind : StmKind) → At kind → GoesOn kind → (r : ℕ) → written kind ≡ Some r → (n : ℕ) (element : Layout) → Stays core (made b line r n element s)
+  pub made_stays : (b : Bool) (kind : StmKind) → At kind → GoesOn kind → (r : ℕ) → written kind ≡ Some r → (n : ℕ) (element : Layout) → StaysGood core (made b line r n element s)
   made_stays false kind at on r e n element = write_same kind at on (Some r) e (address pointer.Null) refl
   made_stays true kind at on r e n element =
       write_good (s.objects ++ heap_object line n element ∷ []) s.queue s.input (append_grows s.objects (heap_object line n element ∷ [])) (new_sane s.objects s.queue good.sane line n element) kind at on (Some r) e (address (start_of (length s.objects))) (new_alive s.objects s.queue good.sane line n element)
 
-  grown_stays : (kind : StmKind) → At kind → GoesOn kind → (r : ℕ) → written kind ≡ Some r → (n : ℕ) (element : Layout) (old : ℕ) → Alive s.objects old → is_heap (object_at s.objects old).sort ≡ true → (result : Result (List Object) Refusal) → Done (Changed (s.objects ++ heap_object line n element ∷ []) s.queue (new_sane s.objects s.queue good.sane line n element)) result → Stays core (grown core line r n old s (with_new line n element s) result)
+  grown_stays : (kind : StmKind) → At kind → GoesOn kind → (r : ℕ) → written kind ≡ Some r → (n : ℕ) (element : Layout) (old : ℕ) → Alive s.objects old → is_heap (object_at s.objects old).sort ≡ true → (result : Result (List Object) Refusal) → Done (Changed (s.objects ++ heap_object line n element ∷ []) s.queue (new_sane s.objects s.queue good.sane line n element)) result → StaysGood core (grown core line r n old s (with_new line n element s) result)
   grown_stays kind at on r e n element old alive heap (Ok objects) h =
       let one = s.objects ++ heap_object line n element ∷ [] in
       let first = append_grows s.objects (heap_object line n element ∷ []) in
@@ -233,7 +230,7 @@ module _ (core : Core) (sound : IsSound core) (s : State) (func : Func) (good : 
       in_scope_stays kind at on s (put t (Some r) v) (birth_of line n s) refl u s.scopes refl
   grown_stays kind at on r e n element old alive heap (Err x) h = refused line x h
 
-  grow_old_stays : (b : Bool) (kind : StmKind) → At kind → GoesOn kind → (r : ℕ) → written kind ≡ Some r → (old : ℕ) → MayFree s.objects (Ok old) → (n : ℕ) (element : Layout) → Stays core (grow_old b core line r old n element s)
+  grow_old_stays : (b : Bool) (kind : StmKind) → At kind → GoesOn kind → (r : ℕ) → written kind ≡ Some r → (old : ℕ) → MayFree s.objects (Ok old) → (n : ℕ) (element : Layout) → StaysGood core (grow_old b core line r old n element s)
   grow_old_stays false kind at on r e old h n element = write_same kind at on (Some r) e (address pointer.Null) refl
   grow_old_stays true kind at on r e old h n element =
       let one = s.objects ++ heap_object line n element ∷ [] in
@@ -241,11 +238,11 @@ module _ (core : Core) (sound : IsSound core) (s : State) (func : Func) (good : 
       let first = append_grows s.objects (heap_object line n element ∷ []) in
       grown_stays kind at on r e n element old h.0 h.1 _ (copied_done one s.queue sane (start_of (length s.objects)) (start_of old) (min (object_at s.objects old).size n) (new_alive s.objects s.queue good.sane line n element) (first.alive old h.0))
 
-  grow_named_stays : (fits : ℕ → Bool) (kind : StmKind) → At kind → GoesOn kind → (r : ℕ) → written kind ≡ Some r → (named : Result ℕ Reason) → MayFree s.objects named → (n : ℕ) (element : Layout) → Stays core (grow_named core fits line r named n element s)
+  grow_named_stays : (fits : ℕ → Bool) (kind : StmKind) → At kind → GoesOn kind → (r : ℕ) → written kind ≡ Some r → (named : Result ℕ Reason) → MayFree s.objects named → (n : ℕ) (element : Layout) → StaysGood core (grow_named core fits line r named n element s)
   grow_named_stays fits kind at on r e (Ok old) h n element = grow_old_stays (fits n) kind at on r e old h n element
   grow_named_stays fits kind at on r e (Err reason) h n element = λ i. cc
 
-  pub grow_stays : (fits : ℕ → Bool) (kind : StmKind) → At kind → GoesOn kind → (r : ℕ) → written kind ≡ Some r → (p : Pointer) (n : ℕ) (element : Layout) → Stays core (grow core fits line r p n element s)
+  pub grow_stays : (fits : ℕ → Bool) (kind : StmKind) → At kind → GoesOn kind → (r : ℕ) → written kind ≡ Some r → (p : Pointer) (n : ℕ) (element : Layout) → StaysGood core (grow core fits line r p n element s)
   grow_stays fits kind at on r e pointer.Null n element = made_stays (fits n) kind at on r e n element
   grow_stays fits kind at on r e (pointer.At b offset) n element =
       grow_named_stays fits kind at on r e (freed_at s.objects b offset) (may_free s.objects b offset) n element
@@ -255,7 +252,7 @@ module _ (core : Core) (sound : IsSound core) (s : State) (func : Func) (good : 
   abbrev pub Arguments : List Value → Type 0
   Arguments values = (k : ℕ) → IsFresh s.objects (pointer_at values k)
 
-  filled_stays : (kind : StmKind) → At kind → GoesOn kind → (r : Option ℕ) → written kind ≡ r → (p : Pointer) → IsFresh s.objects p → (result : Result (List Object) Refusal) → Done Changes result → Stays core (filled line r p result s)
+  filled_stays : (kind : StmKind) → At kind → GoesOn kind → (r : Option ℕ) → written kind ≡ r → (p : Pointer) → IsFresh s.objects p → (result : Result (List Object) Refusal) → Done Changes result → StaysGood core (filled line r p result s)
   filled_stays kind at on r e p f (Ok objects) h =
       write_good objects s.queue s.input h.0 h.1 kind at on r e (address p) (fresh_again p f) where
         fresh_again : (p : Pointer) → IsFresh s.objects p → IsFresh objects p
@@ -263,27 +260,27 @@ module _ (core : Core) (sound : IsSound core) (s : State) (func : Func) (good : 
         fresh_again (pointer.At b offset) i = h.0.alive b i
   filled_stays kind at on r e p f (Err x) h = refused line x h
 
-  get_stays : (kind : StmKind) → At kind → GoesOn kind → (r : Option ℕ) → written kind ≡ r → (input : List ℕ) → Stays core (get_byte r input s)
+  get_stays : (kind : StmKind) → At kind → GoesOn kind → (r : Option ℕ) → written kind ≡ r → (input : List ℕ) → StaysGood core (get_byte r input s)
   get_stays kind at on r e [] = write_same kind at on r e (number (negsuc 0)) refl
   get_stays kind at on r e (byte ∷ rest) =
       write_good s.objects s.queue rest (grows_same s.objects) good.sane kind at on r e (number (pos byte)) refl
 
-  puts_stays : (kind : StmKind) → At kind → GoesOn kind → (r : Option ℕ) → written kind ≡ r → (result : Result (List ℕ) Refusal) → Done Any result → Stays core (if_done line s result (λ text. put_line r text s))
+  puts_stays : (kind : StmKind) → At kind → GoesOn kind → (r : Option ℕ) → written kind ≡ r → (result : Result (List ℕ) Refusal) → Done Any result → StaysGood core (if_done line s result (λ text. put_line r text s))
   puts_stays kind at on r e (Ok text) h = write_same kind at on r e (number (pos 0)) refl
   puts_stays kind at on r e (Err x) h = refused line x h
 
-  print_lives : (kind : StmKind) → At kind → GoesOn kind → (r : ℕ) → written kind ≡ Some r → (bytes : List ℕ) (why : Option Refusal) → Lives s.objects s.queue good.sane why → Stays core (print line r bytes why s)
+  print_lives : (kind : StmKind) → At kind → GoesOn kind → (r : ℕ) → written kind ≡ Some r → (bytes : List ℕ) (why : Option Refusal) → Lives s.objects s.queue good.sane why → StaysGood core (print line r bytes why s)
   print_lives kind at on r e bytes None h = write_same kind at on (Some r) e _ refl
   print_lives kind at on r e bytes (Some x) h = refused line x h
 
-  pub print_stays : (kind : StmKind) → At kind → GoesOn kind → (r : ℕ) → written kind ≡ Some r → (pieces : List Piece) (values : List Value) → Arguments values → Stays core (print line r (printed s.objects pieces values).bytes (printed s.objects pieces values).refused s)
+  pub print_stays : (kind : StmKind) → At kind → GoesOn kind → (r : ℕ) → written kind ≡ Some r → (pieces : List Piece) (values : List Value) → Arguments values → StaysGood core (print line r (printed s.objects pieces values).bytes (printed s.objects pieces values).refused s)
   print_stays kind at on r e pieces values f =
       print_lives kind at on r e _ (printed s.objects pieces values).refused (printed_lives s.objects s.queue good.sane pieces values f)
 
   lib_on : (name : LibName) (r : Option ℕ) (args : List Atom) → Contains (edges (stm.Lib name r args) s.running.point) (s.running.point + 1) → GoesOn (stm.Lib name r args)
   lib_on name r args edge = record { edge = edge; scopes = λ d. refl }
 
-  pub lib_stays : (name : LibName) (r : Option ℕ) (args : List Atom) → At (stm.Lib name r args) → (values : List Value) → Arguments values → Stays core (call_lib line name r values s)
+  pub lib_stays : (name : LibName) (r : Option ℕ) (args : List Atom) → At (stm.Lib name r args) → (values : List Value) → Arguments values → StaysGood core (call_lib line name r values s)
   lib_stays lib.Exit r args at values f = λ e. cc
   lib_stays lib.Abort r args at values f = λ e. cc
   lib_stays lib.Memcpy r args at values f =

@@ -7,8 +7,8 @@ use Rattle.core_tree.specs.declared.program.Core.{Core}
 use Rattle.core_tree.specs.Sound.{IsSound}
 use Rattle.object_meaning.specs.objects.Going.{Next}
 use Rattle.object_meaning.specs.objects.Meaning.{Run, step, first_call, begun, meaning, enough}
-use Rattle.meaning_laws.proofs.dangling.Frames.{Good}
-use Rattle.meaning_laws.proofs.dangling.Standing.{Stays}
+use Rattle.meaning_laws.specs.objects.Good.{Good}
+use Rattle.meaning_laws.specs.objects.Laws.{StaysGood}
 use Rattle.meaning_laws.proofs.dangling.Acting.{step_stays_at}
 use Rattle.meaning_laws.proofs.dangling.Beginning.{begins}
 
@@ -18,7 +18,7 @@ module _ (core : Core) (sound : IsSound core) (heap : ℕ) where
   Going None s = Good core s
   Going (Some e) s = e ≢ Dangling
 
-  going_next : (trace : List Event) (n : Next) → Stays core n → Going (runs.led trace n).ended (runs.led trace n).state
+  going_next : (trace : List Event) (n : Next) → StaysGood core n → Going (runs.led trace n).ended (runs.led trace n).state
   going_next trace (runs.Goes before events after) h = h
   going_next trace (runs.Stops before events after e) h = h
 

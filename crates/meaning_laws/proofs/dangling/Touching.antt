@@ -16,7 +16,8 @@ use Rattle.hs_base.specs.Freeing.{is_heap}
 use Rattle.hs_base.specs.Object.{Object, object_at, is_dead}
 use Rattle.object_meaning.specs.objects.Values.{is_stale, holds_stale}
 use Rattle.object_meaning.specs.objects.Memory.{loaded, loaded_pointer, stored, stored_pointer, pointers_in_range, copied}
-use Rattle.meaning_laws.proofs.dangling.Alive.{Alive, IsFresh, AreFresh, HoldsFresh, Grows, Sane, set_grows, set_sane, grows_same, nulls_fresh}
+use Rattle.meaning_laws.specs.objects.Good.{Alive, IsFresh, AreFresh, HoldsFresh, Sane}
+use Rattle.meaning_laws.proofs.dangling.Alive.{Grows, set_grows, set_sane, grows_same, nulls_fresh}
 
 -- P of what an operation answers; it is not refused for want of life
 abbrev pub Done : {A : Type 0} → (A → Type 0) → Result A Refusal → Type 0

@@ -8,7 +8,7 @@ use Rattle.hs_base.specs.Freeing.{pointers_to, first_held, check_numbers, buried
 use Rattle.hs_base.specs.State.{State}
 use Rattle.hs_base.specs.Trace.{Event}
 use Rattle.object_meaning.specs.objects.Holding.{is_among, inside_objects}
-use Rattle.meaning_laws.proofs.dangling.Alive.{Sane}
+use Rattle.meaning_laws.specs.objects.Good.{Sane}
 use Rattle.meaning_laws.proofs.dangling.Unheld.{NoHolder, none_first}
 use Rattle.flat_code.specs.declared.instructions.Instr.{Instr}
 use Rattle.flat_code.specs.declared.instructions.Op.{Op}

@@ -11,7 +11,7 @@ use Rattle.hs_base.specs.Freeing.{is_heap, is_pointer_to, buried, buried_standin
 use Rattle.hs_base.specs.Object.{Object, Standing, Live, Queued, Dead, is_dead, is_queued, no_object, object_at}
 use Rattle.c_types.specs.Layouts.{AreSlots}
 use Rattle.object_meaning.specs.objects.Holding.{is_among, inside_objects}
-use Rattle.meaning_laws.proofs.dangling.Alive.{Sane}
+use Rattle.meaning_laws.specs.objects.Good.{Sane}
 use Rattle.meaning_laws.proofs.dangling.Unheld.{NoHolder, unheld_object}
 use Rattle.meaning_laws.proofs.dangling.Burying.{at_buried, buried_loses}
 use Rattle.meaning_laws.specs.code.Objects.{IsThere, IsPointer, IsByte, IsObject, AreObjects, IsQueue}

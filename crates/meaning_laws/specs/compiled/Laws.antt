@@ -1,8 +1,9 @@
 -- Laws of compiled code.
-use Rattle.std.specs.Prelude.{◌≡◌, ℕ, Bool, List, Some}
+use Rattle.std.specs.Prelude.{◌≡◌, ◌≤◌, ◌+◌, ◌*◌, ℕ, Bool, List, length, Some}
+use Rattle.std.specs.List.{sum_by}
 use Rattle.hs_base.specs.Trace.{Event, Ending}
 use Rattle.core_tree.specs.declared.program.Core.{Core}
-use Rattle.core_tree.specs.Sound.{IsSound}
+use Rattle.core_tree.specs.Sound.{IsSound, code_size}
 use Rattle.flat_code.specs.WellFormed.{IsShort, IsWellFormed}
 use Rattle.flat_code.specs.declared.program.Code.{Code}
 use Rattle.object_meaning.specs.compiled.Compiled.{IsCompiled}
@@ -17,6 +18,11 @@ use Rattle.meaning_laws.specs.compiled.Testing.{tested_core, tested_code}
 abbrev pub CodesAreWellFormed : Type 0
 CodesAreWellFormed =
     (core : Core) (pins : Pins) (code : Code) → IsSound core → AreExact core pins → AreAscending pins → IsCompiled core pins code → IsShort code.layouts → IsShort code.formats → IsWellFormed code
+
+-- it has few instructions: at most 14 for each unit of the size of its core, one for each function and one at the start
+abbrev pub CodesAreFew : Type 0
+CodesAreFew =
+    (core : Core) (pins : Pins) (code : Code) → IsCompiled core pins code → length code.instrs ≤ 14 * sum_by code_size core.funcs + length core.funcs + 1
 
 -- compiled code means what its core means, with the same number for each object
 abbrev pub CodeMeansCore : Type 0

@@ -1,5 +1,5 @@
 -- Laws of the counted meaning: it has the runs of the object meaning, and its numbers count.
-use Rattle.std.specs.Prelude.{ℕ, Bool, List, []}
+use Rattle.std.specs.Prelude.{◌≡◌, ℕ, Bool, List, [], Some}
 use Rattle.hs_base.specs.Trace.{Event, Ending}
 use Rattle.hs_base.specs.Runs as runs
 use Rattle.core_tree.specs.declared.program.Core.{Core}
@@ -27,3 +27,8 @@ testing fits refused step trace s = runs.tested fits refused trace (step trace s
 abbrev pub TestedRunsAreCounted : Type 0
 TestedRunsAreCounted =
     (core : Core) (pins : Pins) → IsSound core → AreExact core pins → (fits : List Event → Event → Bool) (refused : Event → Ending) (input : List ℕ) (n heap k : ℕ) → SameRun pins (runs.after (testing fits refused (object.step core heap)) (runs.led [] (runs.tested fits refused [] (object.first_call core input n))) k) (runs.after (testing fits refused (counted.step core pins heap)) (runs.led [] (runs.tested fits refused [] (counted.first_call core input n))) k)
+
+-- a run of the core that stops so has ended, from whichever state it goes on
+abbrev pub TestedRunsEnd : Type 0
+TestedRunsEnd =
+    (core : Core) → IsSound core → (fits : List Event → Event → Bool) (refused : Event → Ending) (heap : ℕ) (r : object.Run) → (ending : Ending) × ((runs.after (testing fits refused (object.step core heap)) r (object.enough core r.state)).ended ≡ Some ending)

@@ -1,6 +1,7 @@
 -- Laws of runs.
-use Rattle.std.specs.Prelude.{◌≡◌, ◌≢◌, ℕ, Bool, true, false, List, [], Some, None, slice_get, IsTrue}
+use Rattle.std.specs.Prelude.{◌≡◌, ◌≢◌, ◌<◌, ℕ, Bool, true, false, List, [], Some, None, slice_get, IsTrue}
 use Rattle.hs_base.specs.Runs as runs
+use Rattle.hs_base.specs.State.{State}
 use Rattle.hs_base.specs.Trace.{Ending, Exit, Trap, Spent, BadFree, Escape, Dangling, OutOfStack}
 use Rattle.core_tree.specs.declared.statements.Stm.{Stm}
 use Rattle.core_tree.specs.declared.statements.StmKind.{StmKind}
@@ -8,8 +9,45 @@ use Rattle.core_tree.specs.declared.statements.StmKind.TheVariants as stm
 use Rattle.core_tree.specs.declared.program.Func.{Func}
 use Rattle.core_tree.specs.declared.program.Core.{Core}
 use Rattle.core_tree.specs.Sound.{IsSound}
+use Rattle.object_meaning.specs.objects.Going.{Next}
+use Rattle.object_meaning.specs.objects.Holding.{statement_at}
+use Rattle.object_meaning.specs.objects.Meaning.{act, begun, enough, first_call, meaning, step, step_by}
 use Rattle.meaning_laws.specs.objects.Dangling.{NothingDangles}
-use Rattle.object_meaning.specs.objects.Meaning.{begun, meaning, step}
+use Rattle.meaning_laws.specs.objects.Good.{Good}
+
+-- One statement
+
+-- where the run goes on its state is good, and where it ends no pointer to a dead object was read
+abbrev pub StaysGood : Core → Next → Type 0
+StaysGood core (runs.Goes before events after) = Good core after
+StaysGood core (runs.Stops before events after ending) = ending ≢ Dangling
+
+-- where the run goes on from a state, fewer statements are left
+abbrev pub LeavesLess : Core → State → Next → Type 0
+LeavesLess core s (runs.Goes before events after) = enough core after < enough core s
+LeavesLess core s (runs.Stops before events after ending) = Unit {0}
+
+-- a good state is at a statement, which is made: no operand of it is stale
+abbrev pub StatementIsMade : Type 0
+StatementIsMade =
+    (core : Core) → IsSound core → (s : State) → Good core s → (stm : Stm) × (statement_at core s.running ≡ Some stm) × ((fits : ℕ → Bool) → step_by core fits s ≡ act core fits stm.line stm.kind s)
+
+-- it leads to a good state, or ends the run, whichever sizes have a place
+abbrev pub StatementStaysGood : Type 0
+StatementStaysGood =
+    (core : Core) → IsSound core → (s : State) → Good core s → (fits : ℕ → Bool) → StaysGood core (step_by core fits s)
+
+-- and where the run goes on, less is left
+abbrev pub StatementLeavesLess : Type 0
+StatementLeavesLess =
+    (core : Core) → IsSound core → (s : State) → (fits : ℕ → Bool) → LeavesLess core s (step_by core fits s)
+
+-- the first call of main leads to a good state, or ends the run
+abbrev pub CoreBeginsWell : Type 0
+CoreBeginsWell =
+    (core : Core) → IsSound core → (input : List ℕ) (n : ℕ) → StaysGood core (first_call core input n)
+
+-- Whole runs
 
 -- the run of a sound core has ended, and not by reading a pointer to a dead object or for want of a statement
 abbrev pub RunsEnd : Type 0

@@ -1,5 +1,9 @@
 use Rattle.meaning_laws.proofs.form.Formed.{formed}
+use Rattle.meaning_laws.proofs.form.Lengths.{few_instructions}
 use Rattle.meaning_laws.proofs.laws.codes_are_well_formed.Goals as goal
 
-pub returns : goal.returns
-returns c = formed
+pub returns-clause-formed : goal.returns-clause-formed
+returns-clause-formed c = formed
+
+pub returns-clause-few : goal.returns-clause-few
+returns-clause-few c = λ core pins code is. few_instructions core code is

@@ -22,25 +22,25 @@ statements-preserved g c =
     record {
       input = faults.0 ∙ c.statements.invariant.input;
       out = faults.1 ∙ c.statements.invariant.out;
-      good = good_next c.args.core.now c.requires.sound (fits_in c.statements.held) c.statements.machine c.one_step.new.machine c.statements.invariant.good moves;
+      good = good_next c.statement_stays_good.ensures c.args.core.now c.requires.sound (fits_in c.statements.held) c.statements.machine c.one_step.new.machine c.statements.invariant.good moves;
       told = λ left taken n h i begins. reached_more c.args.core.now left n c.args.held.now.heap taken c.statements.machine c.one_step.new.machine c.statements.held _ _ _ _ (c.statements.invariant.told left taken n h i begins) told c.one_step.new.held placed;
     }
 
 pub statements-smaller : goal.statements-smaller
 statements-smaller g c =
     let moves = rw c.in-Ok.is at c.one_step.ensures.moves in
-    less_next c.args.core.now c.requires.sound (fits_in c.statements.held) c.statements.machine c.one_step.new.machine moves
+    less_next c.statement_leaves_less.ensures c.args.core.now c.requires.sound (fits_in c.statements.held) c.statements.machine c.one_step.new.machine moves
 
 pub answer-requires : goal.answer-requires
 answer-requires g c = λ e.
     let moves = rw (c.in-Err.is, e) at c.one_step.ensures.moves in
-    never c.args.core.now c.requires.sound (fits_in c.statements.held) c.statements.machine c.one_step.new.machine c.statements.invariant.good moves
+    never c.statement_stays_good.ensures c.args.core.now c.requires.sound (fits_in c.statements.held) c.statements.machine c.one_step.new.machine c.statements.invariant.good moves
 
 pub returns-in-Err-clause-told : goal.returns-in-Err-clause-told
 returns-in-Err-clause-told g c = λ left taken n h i begins.
     let told = rw c.in-Err.is at c.one_step.ensures.told in
-    let no : c.in-Err.halt ≢ halt.Dangling = λ e. let moves = rw (c.in-Err.is, e) at c.one_step.ensures.moves in never c.args.core.now c.requires.sound (fits_in c.statements.held) c.statements.machine c.one_step.new.machine c.statements.invariant.good moves in
-    rw c.answer.ensures (reached_end c.args.core.now left n c.args.held.now.heap taken c.statements.machine c.one_step.new.machine c.statements.held _ _ _ _ (c.statements.invariant.told left taken n h i begins) c.requires.sound c.in-Err.halt no told)
+    let no : c.in-Err.halt ≢ halt.Dangling = λ e. let moves = rw (c.in-Err.is, e) at c.one_step.ensures.moves in never c.statement_stays_good.ensures c.args.core.now c.requires.sound (fits_in c.statements.held) c.statements.machine c.one_step.new.machine c.statements.invariant.good moves in
+    rw c.answer.ensures (reached_end c.run_ends.ensures c.args.core.now left n c.args.held.now.heap taken c.statements.machine c.one_step.new.machine c.statements.held _ _ _ _ (c.statements.invariant.told left taken n h i begins) c.requires.sound c.in-Err.halt no told)
 
 pub returns-in-Err-clause-faults : goal.returns-in-Err-clause-faults
 returns-in-Err-clause-faults g c =

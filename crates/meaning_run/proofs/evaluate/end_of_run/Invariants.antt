@@ -1,6 +1,6 @@
 use Rattle.std.proofs.Common.{◌≡◌, ℕ, List, Some}
 use Rattle.object_meaning.specs.objects.Meaning.{enough}
-use Rattle.meaning_laws.proofs.dangling.Frames.{Good}
+use Rattle.meaning_laws.specs.objects.Good.{Good}
 use Rattle.meaning_run.specs.Meant.{Begins}
 use Rattle.meaning_run.proofs.Reached.{Reached}
 use Rattle.meaning_run.proofs.evaluate.end_of_run.Given as goal

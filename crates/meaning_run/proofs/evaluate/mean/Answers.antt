@@ -15,7 +15,7 @@ start-requires-clause-statics g c = statics_short c.args.core.now c.requires.sou
 
 pub end_of_run-requires-clause-good : goal.end_of_run-requires-clause-good
 end_of_run-requires-clause-good g c =
-    starts_good c.args.core.now c.requires.sound c.in_ok-machine.machine c.args.budget _ (omega arith) c.in_ok-machine.ensures
+    starts_good c.core_begins_well.ensures c.args.core.now c.requires.sound c.in_ok-machine.machine c.args.budget _ (omega arith) c.in_ok-machine.ensures
 
 pub returns-clause-told : goal.returns-clause-told
 returns-clause-told g c = λ left taken h i.
