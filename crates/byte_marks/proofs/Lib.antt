@@ -1,3 +1,2 @@
 mod Marking
-mod Ones
 mod Padded

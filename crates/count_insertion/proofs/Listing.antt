@@ -12,7 +12,7 @@ use Rattle.core_tree.specs.declared.statements.Stm.{Stm}
 use Rattle.core_tree.specs.declared.statements.StmKind.{StmKind}
 use Rattle.core_tree.specs.declared.statements.StmKind.TheVariants.{Call, Realloc, Free, Leave}
 use Rattle.core_tree.specs.Lives.{IsLive, is_live}
-use Rattle.core_tree.proofs.Paths.{live_by_paths}
+use Rattle.local_liveness.specs.Tables.{LiveByPaths}
 use Rattle.object_meaning.specs.declared.pins.Pin.{Pin}
 use Rattle.object_meaning.specs.counted.Pinning.{holds_pointer, holds_on, counts_at}
 use Rattle.local_liveness.specs.Tables.{IsTableOf}
@@ -132,9 +132,9 @@ module _ (func : Func) (regs : List Register) (point r : ℕ) (reg : Register) (
       let there : slice_get regs r ≡ Some reg = slice_get-get_or regs r reg lt ∙ ap Some (sym at) in
       ap (λ o. option_map_or (λ (k : Register). k.pointer) o false) (subst (λ rs. slice_get rs r ≡ Some reg) e there)
 
-  pub holds_where : (live : Bool) → reg.pointer ≡ true → (IsTrue live ↔ IsLive func.body point r) → live ≡ holds_on func point r
-  holds_where live h l =
-      same_bool live (is_live func.body point r) (λ t. (live_by_paths func.body point r).1 (l.0 t)) (λ t. l.1 ((live_by_paths func.body point r).0 t))
+  pub holds_where : LiveByPaths → (live : Bool) → reg.pointer ≡ true → (IsTrue live ↔ IsLive func.body point r) → live ≡ holds_on func point r
+  holds_where paths live h l =
+      same_bool live (is_live func.body point r) (λ t. (paths func.body point r).1 (l.0 t)) (λ t. l.1 ((paths func.body point r).0 t))
       ∙ sym (ap (λ b. b && is_live func.body point r) (register_is ∙ h))
 
   pub holds_nowhere : reg.pointer ≡ false → reg.pointer ≡ holds_on func point r

@@ -6,7 +6,7 @@ ghost use Rattle.local_liveness.specs.Tables.{IsTableOf};
 ghost use Rattle.count_insertion.specs.Inserted.{AreTables, may_count, pins_below, func_pins};
 
 use crate::copies::core_copy;
-use core_tree::{Core, Func, Stm, StmKind};
+use core_tree::{Core, Func, Stm, StmKind, live_by_paths};
 use hs_base::{Items, NoMemory};
 use local_liveness::{LiveTable, live_at};
 use object_meaning::Pin;
@@ -33,6 +33,7 @@ fn holds_on(func: &Func, table: &LiveTable, point: u32, reg: u32) -> bool
     requires reg { reg < length func.now.regs }
     ensures { result ≡ holds_on func.now point reg }
 {
+    live_by_paths();
     func.regs.as_slice()[reg as usize].pointer && table.is_live(point, reg)
 }
 

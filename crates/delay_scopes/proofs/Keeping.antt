@@ -8,8 +8,7 @@ use Rattle.hs_base.specs.Place.{Block}
 use Rattle.heap_blocks.specs.declared.headers.Header.{Header}
 use Rattle.heap_blocks.specs.Bytes.{ChangesOnly}
 use Rattle.heap_blocks.specs.Held.{HeapModel, AreApart, HasHeaders, Holds, address_of}
-use Rattle.heap_blocks.proofs.Heading.{header_kept}
-use Rattle.heap_blocks.proofs.Staying.{headers_beside, headers_within}
+use Rattle.heap_blocks.specs.Laws.{AHeaderStays, HeadersStayBeside, HeadersStayWithin}
 use Rattle.delay_scopes.specs.Queue.{ScopesModel, HasQueue, KeepsQueue, header_of}
 use Rattle.delay_scopes.proofs.Starts.{start_block, swapped}
 
@@ -50,31 +49,31 @@ header_beside_write base a b addr at n is room low high (inl same) = inl (omega 
 header_beside_write base a b addr at n is room low high (inr (inl h)) = inl (omega arith)
 header_beside_write base a b addr at n is room low high (inr (inr h)) = inr (omega arith)
 
-pub kept_within : (scopes : ScopesModel) (heap : HeapModel) (before after : List ℕ) (held : List Block) (queue : List ℕ) (b : Block) (addr n : ℕ) → KeepsQueue scopes heap before held queue → Contains held b → ChangesOnly before after addr n
+pub kept_within : AHeaderStays → HeadersStayWithin → (scopes : ScopesModel) (heap : HeapModel) (before after : List ℕ) (held : List Block) (queue : List ℕ) (b : Block) (addr n : ℕ) → KeepsQueue scopes heap before held queue → Contains held b → ChangesOnly before after addr n
     → address_of heap b.place ≤ addr → addr + n ≤ heap.base + b.place + b.length → KeepsQueue scopes heap after held queue
-kept_within scopes heap before after held queue b addr n kept is_held changed low high = record {
+kept_within stays within scopes heap before after held queue b addr n kept is_held changed low high = record {
   holds = kept.holds;
-  headers = headers_within heap held b before after addr n kept.holds is_held kept.headers changed low high;
+  headers = within heap held b before after addr n kept.holds is_held kept.headers changed low high;
   queued = queue_stays scopes heap.base before after held held queue kept.queued
       (All-from_get_or (λ a. header_of after a ≡ header_of before a) queue 0 (λ i below.
       let a = get_or queue i 0 in
       let start = (kept.queued.queued i 0 below).start in
       let own = start_block heap held a kept.holds start in
-      header_kept after before (a - 32) addr n changed (header_beside_write heap.base start.block b a addr n start.address (omega (arith, own.room)) low high (same_or_apart heap held start.block b kept.holds start.contains is_held))))
+      stays before after (a - 32) addr n changed (header_beside_write heap.base start.block b a addr n start.address (omega (arith, own.room)) low high (same_or_apart heap held start.block b kept.holds start.contains is_held))))
       (λ c in_c. in_c);
 }
 
-pub kept_beside : (scopes : ScopesModel) (heap : HeapModel) (before after : List ℕ) (held : List Block) (queue : List ℕ) (addr n : ℕ) → KeepsQueue scopes heap before held queue → ChangesOnly before after addr n
+pub kept_beside : AHeaderStays → HeadersStayBeside → (scopes : ScopesModel) (heap : HeapModel) (before after : List ℕ) (held : List Block) (queue : List ℕ) (addr n : ℕ) → KeepsQueue scopes heap before held queue → ChangesOnly before after addr n
     → (addr + n ≤ heap.base) ⊎ (heap.base + heap.len ≤ addr) → KeepsQueue scopes heap after held queue
-kept_beside scopes heap before after held queue addr n kept changed beside = record {
+kept_beside stays all_stay scopes heap before after held queue addr n kept changed beside = record {
   holds = kept.holds;
-  headers = headers_beside heap held before after addr n kept.holds kept.headers changed beside;
+  headers = all_stay heap held before after addr n kept.holds kept.headers changed beside;
   queued = queue_stays scopes heap.base before after held held queue kept.queued
       (All-from_get_or (λ a. header_of after a ≡ header_of before a) queue 0 (λ i below.
       let a = get_or queue i 0 in
       let start = (kept.queued.queued i 0 below).start in
       let own = start_block heap held a kept.holds start in
-      header_kept after before (a - 32) addr n changed
+      stays before after (a - 32) addr n changed
       (⊎_elim (λ (h : addr + n ≤ heap.base). inr (omega (arith, start.address))) (λ (h : heap.base + heap.len ≤ addr). inl (omega (arith, start.address, own.within, own.room))) beside)))
       (λ c in_c. in_c);
 }
@@ -94,9 +93,9 @@ header_beside_block : (base : ℕ) (a b : Block) (addr at : ℕ) → addr ≡ ba
 header_beside_block base a b addr at is here room (inl h) = inl (omega arith)
 header_beside_block base a b addr at is here room (inr h) = inr (omega arith)
 
-pub kept_placed : (scopes : ScopesModel) (heap heap' : HeapModel) (before after : List ℕ) (held : List Block) (queue : List ℕ) (b : Block) → KeepsQueue scopes heap before held queue → heap'.base ≡ heap.base → Holds heap' (held ++ b ∷ [])
+pub kept_placed : AHeaderStays → (scopes : ScopesModel) (heap heap' : HeapModel) (before after : List ℕ) (held : List Block) (queue : List ℕ) (b : Block) → KeepsQueue scopes heap before held queue → heap'.base ≡ heap.base → Holds heap' (held ++ b ∷ [])
     → HasHeaders heap'.base after (held ++ b ∷ []) → ChangesOnly before after (heap.base + b.place) b.length → KeepsQueue scopes heap' after (held ++ b ∷ []) queue
-kept_placed scopes heap heap' before after held queue b kept base holds headers changed = record {
+kept_placed stays scopes heap heap' before after held queue b kept base holds headers changed = record {
   holds = holds;
   headers = headers;
   queued = subst (λ n. HasQueue scopes n after (held ++ b ∷ []) queue) (sym base)
@@ -105,7 +104,7 @@ kept_placed scopes heap heap' before after held queue b kept base holds headers 
       let a = get_or queue i 0 in
       let start = (kept.queued.queued i 0 below).start in
       let own = start_block heap held a kept.holds start in
-      header_kept after before (a - 32) (heap.base + b.place) b.length changed
+      stays before after (a - 32) (heap.base + b.place) b.length changed
       (header_beside_block heap.base start.block b a (heap.base + b.place) start.address refl (omega (arith, own.room)) (apart_from_last heap' held start.block b holds start.contains))))
       (λ c in_c. Contains-append_left held (b ∷ []) c in_c));
 }

@@ -12,4 +12,3 @@ mod Returning
 mod Ready
 mod Others
 mod Keeping
-mod Trying

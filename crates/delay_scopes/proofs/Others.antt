@@ -9,11 +9,11 @@ use Rattle.byte_memory.specs.Bytes.{part}
 use Rattle.hs_base.specs.Place.{Block, block_size, without_block}
 use Rattle.heap_blocks.specs.Heads.{header_at}
 use Rattle.heap_blocks.specs.Held.{HeapModel, AreApart, Holds, IsBlock}
+use Rattle.heap_blocks.specs.Laws.{AHeaderIsItsBytes}
 use Rattle.delay_scopes.specs.Queue.{ScopesModel, KeepsQueue, header_of}
 use Rattle.delay_scopes.specs.Freed.{AreBeside}
 use Rattle.delay_scopes.specs.Pointers.{into_granule}
 use Rattle.delay_scopes.specs.Check.{ChangesWithin, births_of, granules_of, left_to}
-use Rattle.delay_scopes.proofs.Returning.{header_from_parts}
 use Rattle.delay_scopes.proofs.Starts.{birth_is, length_is, start_block, swapped}
 use Rattle.delay_scopes.proofs.Working.{sum_by_both}
 
@@ -62,10 +62,10 @@ module _ (scopes : ScopesModel) (heap : HeapModel) (before after : List ℕ) (he
       (blocks_apart heap held b start.block kept.holds left.0 start.contains other)))
 
   -- its header
-  pub left_header_stays : (b : Block) → Contains (fold without_block held (births_of before queue)) b → header_at after (heap.base + b.place) ≡ header_at before (heap.base + b.place)
-  left_header_stays b contains =
+  pub left_header_stays : AHeaderIsItsBytes → (b : Block) → Contains (fold without_block held (births_of before queue)) b → header_at after (heap.base + b.place) ≡ header_at before (heap.base + b.place)
+  left_header_stays bytes_say b contains =
       let own = All-contains (IsBlock heap.len) held b kept.holds.blocks (left_of_held held (births_of before queue) b contains).0 in
-      header_from_parts before after (heap.base + b.place) (λ from k low high. left_block_stays b from k contains low (omega (arith, own.room)))
+      bytes_say before after (heap.base + b.place) (λ from k low high. left_block_stays b from k contains low (omega (arith, own.room)))
 
   -- bytes beside the heap
   pub beside_heap_stays : (from k : ℕ) → (from + k ≤ heap.base) ⊎ (heap.base + heap.len ≤ from) → part after from k ≡ part before from k

@@ -11,9 +11,7 @@ use Rattle.heap_blocks.specs.declared.headers.Header.{Header}
 use Rattle.heap_blocks.specs.Bytes.{ChangesOnly}
 use Rattle.heap_blocks.specs.Heads.{header_at}
 use Rattle.heap_blocks.specs.Held.{HeapModel, AreApart, HasHeaders, IsBlock}
-use Rattle.heap_blocks.proofs.Heading.{header_kept}
-use Rattle.heap_blocks.proofs.Pieces.{changes_widened}
-use Rattle.heap_blocks.proofs.Staying.{headers_written}
+use Rattle.heap_blocks.specs.Laws.{AHeaderStays, ChangesWiden, HeadersMayBeWritten}
 use Rattle.delay_scopes.specs.Queue.{ScopesModel, HasQueue, IsQueued, IsStart, KeepsQueue, appended, block_in, header_of}
 use Rattle.delay_scopes.specs.Freed.{IsQueuedNow, linked_header, queued_header}
 use Rattle.delay_scopes.proofs.Counting.{room_for_more}
@@ -64,18 +62,18 @@ module _ (scopes : ScopesModel) (heap : HeapModel) (before : List ℕ) (held : L
         new_here (omega (arith, start.address)) (omega (arith, start.address, block.within, block.room)) in
         omega (arith, kept.queued.many)
 
-    module _ (middle : List ℕ) (wrote : header_at middle (addr - 32) ≡ queued_header (header_at before (addr - 32)) line) (changed : ChangesOnly before middle (addr - 32 + 20) 12) where
+    module _ (stays : AHeaderStays) (written : HeadersMayBeWritten) (widen : ChangesWiden) (middle : List ℕ) (wrote : header_at middle (addr - 32) ≡ queued_header (header_at before (addr - 32)) line) (changed : ChangesOnly before middle (addr - 32 + 20) 12) where
       header_first : (a : ℕ) → IsStart heap.base held a → addr ≢ a → header_of middle a ≡ header_of before a
       header_first a s other =
-          header_kept middle before (a - 32) (addr - 32 + 20) 12 changed
+          stays before middle (a - 32) (addr - 32 + 20) 12 changed
           (elim (apart_from a addr s start (λ e. other (sym e))) [ inl h ↦ inl (omega arith) | inr h ↦ inr (omega (arith, start.address)) ])
 
       written_again : (old new : List ℕ) (a : ℕ) (h : Header) (at n : ℕ) → IsStart heap.base held a → heap.base + heap.len ≤ length old → HasHeaders heap.base old held → ChangesOnly old new at n → a - 32 ≤ at → at + n ≤ a → header_of new a ≡ h → h.birth ≡ (header_of old a).birth → h.size ≡ (header_of old a).size
           → HasHeaders heap.base new held
       written_again old new a h at n s within headers change low high is birth size =
           let place : a - 32 ≡ heap.base + s.block.place = omega (arith, s.address) in
-          headers_written heap held s.block old new h kept.holds s.contains headers
-          (subst (λ p. ChangesOnly old new p 32) place (changes_widened old new at n (a - 32) 32 change low (omega (arith, s.address))))
+          written heap held s.block old new h kept.holds s.contains headers
+          (subst (λ p. ChangesOnly old new p 32) place (widen old new at n (a - 32) 32 change low (omega (arith, s.address))))
           (ap (header_at new) (sym place) ∙ is)
           (birth ∙ birth_is heap held a kept.holds s old headers within)
           (ap block_size size ∙ length_is heap held a kept.holds s old headers within)
@@ -89,7 +87,7 @@ module _ (scopes : ScopesModel) (heap : HeapModel) (before : List ℕ) (held : L
         -- the last header changed but for one field, and no other
         header_second : (some : 0 < scopes.waiting) (a : ℕ) → IsStart heap.base held a → a ≢ get_or queue (length queue - 1) 0 → header_of after a ≡ header_of middle a
         header_second some a s other =
-            header_kept after middle (a - 32) (scopes.last + 28) 4 (beside some)
+            stays middle after (a - 32) (scopes.last + 28) 4 (beside some)
             (elim (apart_from a (get_or queue (length queue - 1) 0) s (last_start some) other) [
               | inl h ↦ inl (omega (arith, kept.queued.last))
               | inr h ↦ inr (omega (arith, kept.queued.last, (last_start some).address))

@@ -9,7 +9,7 @@ use Rattle.std.proofs.lemmas.Option.{none-some, same_Some}
 use Rattle.hs_base.specs.Place.{Block, block_size}
 use Rattle.heap_blocks.specs.Heads.{header_at}
 use Rattle.heap_blocks.specs.Held.{HeapModel, AreApart, HasAddress, HasHeader, HasHeaders, Holds, IsBlock, address_of, has_address, owner_of}
-use Rattle.heap_blocks.proofs.Owning.{held_owns}
+use Rattle.heap_blocks.specs.Laws.{OwnersAreFound}
 use Rattle.delay_scopes.specs.Queue.{IsStart, header_of}
 use Rattle.delay_scopes.specs.Walks.{IsInside}
 
@@ -44,10 +44,10 @@ module _ (heap : HeapModel) (held : List Block) (addr : ℕ) (holds : Holds heap
   start_block = All-contains (IsBlock heap.len) held start.block holds.blocks start.contains
 
   -- a start is its own owner
-  pub owner_of_start : owner_of heap held addr ≡ Some addr
-  owner_of_start =
+  pub owner_of_start : OwnersAreFound → owner_of heap held addr ≡ Some addr
+  owner_of_start found =
       let has : HasAddress heap addr start.block = (omega (arith, start.address), omega (arith, start.address, start_block.room)) in
-      held_owns heap held start.block addr holds start.contains has ∙ ap Some (sym start.address)
+      found heap held start.block addr holds start.contains has ∙ ap Some (sym start.address)
 
   module _ (bytes : List ℕ) (headers : HasHeaders heap.base bytes held) (inside : heap.base + heap.len ≤ length bytes) where
     pub block_is : addr - 32 ≡ heap.base + start.block.place

@@ -11,12 +11,17 @@ ghost use Rattle.delay_scopes.specs.Queue.{HasQueue, KeepsQueue, ScopesModel, he
 ghost use Rattle.delay_scopes.specs.Pointers.{into_granule};
 ghost use Rattle.delay_scopes.specs.Check.{ChangesWithin, births_of, granules_of, left_to};
 
+use heap_blocks::laws::{a_header_stays, headers_stay};
+
 /// The queue is kept where bytes of an object behind its header change, bytes beside the heap do, or a block is placed.
 pub fn queues_are_kept()
     ensures within { (scopes : ScopesModel) (heap : HeapModel) (before after : List ℕ) (held : List Block) (queue : List ℕ) (b : Block) (addr n : ℕ) → KeepsQueue scopes heap before held queue → Contains held b → ChangesOnly before after addr n → address_of heap b.place ≤ addr → addr + n ≤ heap.base + b.place + b.length → KeepsQueue scopes heap after held queue }
     ensures beside { (scopes : ScopesModel) (heap : HeapModel) (before after : List ℕ) (held : List Block) (queue : List ℕ) (addr n : ℕ) → KeepsQueue scopes heap before held queue → ChangesOnly before after addr n → (addr + n ≤ heap.base) ⊎ (heap.base + heap.len ≤ addr) → KeepsQueue scopes heap after held queue }
     ensures placed { (scopes : ScopesModel) (heap heap' : HeapModel) (before after : List ℕ) (held : List Block) (queue : List ℕ) (b : Block) → KeepsQueue scopes heap before held queue → heap'.base ≡ heap.base → Holds heap' (held ++ b ∷ []) → HasHeaders heap'.base after (held ++ b ∷ []) → ChangesOnly before after (heap.base + b.place) b.length → KeepsQueue scopes heap' after (held ++ b ∷ []) queue }
-{}
+{
+    a_header_stays();
+    headers_stay();
+}
 
 /// A queue stays where the headers of its objects do, while other blocks may be held.
 pub fn queues_stay()
@@ -29,7 +34,9 @@ pub fn other_bytes_stay()
     ensures left { (scopes : ScopesModel) (heap : HeapModel) (before after : List ℕ) (held : List Block) (queue : List ℕ) → KeepsQueue scopes heap before held queue → heap.base + heap.len ≤ length before → ChangesWithin queue before after → (b : Block) (from k : ℕ) → Contains (fold without_block held (births_of before queue)) b → heap.base + b.place ≤ from → from + k ≤ heap.base + b.place + b.length → part after from k ≡ part before from k }
     ensures header { (scopes : ScopesModel) (heap : HeapModel) (before after : List ℕ) (held : List Block) (queue : List ℕ) → KeepsQueue scopes heap before held queue → heap.base + heap.len ≤ length before → ChangesWithin queue before after → (b : Block) → Contains (fold without_block held (births_of before queue)) b → header_at after (heap.base + b.place) ≡ header_at before (heap.base + b.place) }
     ensures beside { (scopes : ScopesModel) (heap : HeapModel) (before after : List ℕ) (held : List Block) (queue : List ℕ) → KeepsQueue scopes heap before held queue → heap.base + heap.len ≤ length before → ChangesWithin queue before after → (from k : ℕ) → (from + k ≤ heap.base) ⊎ (heap.base + heap.len ≤ from) → part after from k ≡ part before from k }
-{}
+{
+    a_header_stays();
+}
 
 /// What is left to an object is the total of the counts of its block, less the words that are addresses in it.
 pub fn what_is_left_is_a_difference()

@@ -7,6 +7,7 @@ ghost use Rattle.delay_scopes.specs.Walks.{MayRelease};
 
 use crate::scopes::Scopes;
 use byte_memory::{FlatBytes, Steps};
+use heap_blocks::laws::{a_header_stays, blocks_stay_held};
 use heap_blocks::{HEADER_SIZE, Header, Heap};
 use std::sync::ledger::Ledger;
 
@@ -22,6 +23,8 @@ impl Scopes {
         ensures released { (held : List Block) (queue : List ℕ) → MayRelease self.now heap.old bytes.old held queue → IsReleased heap.old heap.new bytes.old bytes.new held queue }
         ensures work { steps.new ≤ steps.old + 5 * self.now.waiting }
     {
+        a_header_stays();
+        blocks_stay_held();
         let mut block = self.first;
         for _place in 0..self.waiting {
             let next = Header::read_next(bytes, block, steps);

@@ -13,6 +13,7 @@ ghost use Rattle.delay_scopes.specs.Check.{IsReady, IsReadyForSome, IsReleased, 
 use adjusters::Adjuster;
 use byte_memory::{FlatBytes, Steps};
 use count_table::Counts;
+use heap_blocks::laws::{a_header_stays, changes_widen, headers_may_be_written, owners_are_found};
 use heap_blocks::{HEADER_SIZE, Header, Heap, STATE_QUEUED};
 use hs_base::{BadFree, Items, Line, Reason};
 use std::marker::Model;
@@ -27,6 +28,7 @@ fn is_start<L: Ledger>(heap: &Heap, bytes: &FlatBytes, addr: u32, steps: &mut St
     ensures reach { heap.now.base + heap.now.len < 2 ^ 32 }
     ensures work { steps.new ≤ steps.old + 4 }
 {
+    owners_are_found();
     heap.owner(bytes, addr, steps) == Some(addr)
 }
 
@@ -113,6 +115,9 @@ impl Scopes {
         ensures err { OnErr result ((self.new ≡ self.old) × (bytes.new ≡ bytes.old)) }
         ensures work { steps.new ≤ steps.old + 9 }
     {
+        a_header_stays();
+        headers_may_be_written();
+        changes_widen();
         if !is_start(heap, bytes, addr, steps) {
             return Err(BadFree {
                 reason: Reason::NotStart,

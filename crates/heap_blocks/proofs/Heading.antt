@@ -1,6 +1,6 @@
 -- The header that seven writes leave.
 use Rattle.std.proofs.Common.{◌≡◌, ◌≤◌, ◌<◌, ◌+◌, ◌-◌, ◌^◌, ◌⊎◌, inl, inr, ℕ, List, length, sym, ap, ◌∙◌, subst, arith}
-use Rattle.byte_memory.specs.Bytes.{word, put_word}
+use Rattle.byte_memory.specs.Bytes.{part, word, put_word}
 use Rattle.byte_memory.proofs.Words.{word_same, length-put_word}
 use Rattle.heap_blocks.specs.declared.headers.Header.{Header}
 use Rattle.heap_blocks.specs.Bytes.{ChangesOnly}
@@ -51,11 +51,11 @@ header_written b0 b1 b2 b3 b4 b5 b6 b7 block h inside s1 s2 s3 s4 s5 s6 s7 e1 e2
       subst (λ n. ChangesOnly b0 b7 block n) width w1.outside,
     )
 
--- a header is the same where its bytes are
-pub header_kept : (after before : List ℕ) (block at n : ℕ) → ChangesOnly before after at n → (block + 32 ≤ at) ⊎ (at + n ≤ block) → header_at after block ≡ header_at before block
-header_kept after before block at n changed beside =
+-- a header whose bytes are the same
+pub header_from_parts : (before after : List ℕ) (block : ℕ) → ((from k : ℕ) → block ≤ from → from + k ≤ block + 32 → part after from k ≡ part before from k) → header_at after block ≡ header_at before block
+header_from_parts before after block parts =
     let same : (from k : ℕ) → block ≤ from → from + k ≤ block + 32 → word after from k ≡ word before from k =
-    λ from k low high. word_from_part after before from k (elim beside [ inl h ↦ changed.below from k (omega arith) | inr h ↦ changed.above from k (omega arith) ]) in
+    λ from k low high. word_from_part after before from k (parts from k low high) in
     λ i. record {
       birth = same block 8 (omega arith) (omega arith) i;
       size = same (block + 8) 4 (omega arith) (omega arith) i;
@@ -65,6 +65,11 @@ header_kept after before block at n changed beside =
       freed = same (block + 24) 4 (omega arith) (omega arith) i;
       next = same (block + 28) 4 (omega arith) (omega arith) i;
     }
+
+-- a header is the same where its bytes are
+pub header_kept : (after before : List ℕ) (block at n : ℕ) → ChangesOnly before after at n → (block + 32 ≤ at) ⊎ (at + n ≤ block) → header_at after block ≡ header_at before block
+header_kept after before block at n changed beside =
+    header_from_parts before after block (λ from k low high. elim beside [ inl h ↦ changed.below from k (omega arith) | inr h ↦ changed.above from k (omega arith) ])
 
 -- the header that the writes of a block that is queued leave
 pub queued_written : (b0 b1 b2 b3 : List ℕ) (block freed : ℕ) → block + 32 ≤ length b0 → freed < 2 ^ 32

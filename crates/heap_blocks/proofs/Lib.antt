@@ -4,7 +4,6 @@ mod Marking
 mod Fitting
 mod Holing
 mod Holding
-mod Rigs
 mod Returning
 pub mod Owning
 mod Placing

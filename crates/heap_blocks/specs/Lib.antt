@@ -3,3 +3,4 @@ pub mod Heads
 pub mod Runs
 pub mod Held
 pub mod Rows
+pub mod Laws

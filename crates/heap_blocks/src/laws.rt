@@ -1,12 +1,10 @@
 //! Laws of blocks that are held, for those who keep a heap and write bytes between its calls.
 
-ghost use Rattle.std.specs.Prelude.{◌≡◌, ℕ, ◌+◌, ◌≤◌, ◌⊎◌, List, [], ◌∷◌, ◌++◌, Contains, cond, nat_le, slice_get, take};
+ghost use Rattle.std.specs.Prelude.{◌≡◌, ℕ, ◌+◌, List, [], ◌∷◌, ◌++◌, cond, nat_le, slice_get, take};
 ghost use Rattle.hs_base.specs.Place.{Block, block_size, blocks_after, with_block, without_block};
 ghost use Rattle.hs_base.specs.Trace.{Event};
-ghost use Rattle.heap_blocks.specs.Bytes.{ChangesOnly};
-ghost use Rattle.heap_blocks.specs.Heads.{header_at};
-ghost use Rattle.heap_blocks.specs.declared.headers.Header.{Header};
-ghost use Rattle.heap_blocks.specs.Held.{HasHeaders, HaveOwnBirths, HeapModel, Holds, address_of, fit_of};
+ghost use Rattle.heap_blocks.specs.Held.{HaveOwnBirths, HeapModel, Holds, fit_of};
+ghost use Rattle.heap_blocks.specs.Laws.{AHeaderIsItsBytes, AHeaderStays, BlocksStayHeld, ChangesWiden, HeadersMayBeWritten, HeadersStayBeside, HeadersStayWithin, OwnersAreFound};
 ghost use Rattle.heap_blocks.specs.Rows.{GivesNoneBack, StandInRow, row_length};
 
 /// Blocks that are placed one after another from an empty heap on, with none given back, stand one behind the other with
@@ -36,16 +34,32 @@ pub fn places_in_rows_are_sums()
 
 /// The headers of a heap stay where bytes beside the heap change, and where bytes of an object behind its header do.
 pub fn headers_stay()
-    ensures beside { (heap : HeapModel) (held : List Block) (before after : List ℕ) (addr n : ℕ) → Holds heap held → HasHeaders heap.base before held → ChangesOnly before after addr n → (addr + n ≤ heap.base) ⊎ (heap.base + heap.len ≤ addr) → HasHeaders heap.base after held }
-    ensures within { (heap : HeapModel) (held : List Block) (b : Block) (before after : List ℕ) (addr n : ℕ) → Holds heap held → Contains held b → HasHeaders heap.base before held → ChangesOnly before after addr n → address_of heap b.place ≤ addr → addr + n ≤ heap.base + b.place + b.length → HasHeaders heap.base after held }
+    ensures beside { HeadersStayBeside }
+    ensures within { HeadersStayWithin }
 {}
 
 /// The header of one block may be written again with its birth and its size: the headers of all blocks are there then.
 pub fn headers_may_be_written()
-    ensures { (heap : HeapModel) (held : List Block) (b : Block) (before after : List ℕ) (h : Header) → Holds heap held → Contains held b → HasHeaders heap.base before held → ChangesOnly before after (heap.base + b.place) 32 → header_at after (heap.base + b.place) ≡ h → h.birth ≡ b.birth → block_size h.size ≡ b.length → HasHeaders heap.base after held }
+    ensures { HeadersMayBeWritten }
 {}
 
-/// A header is the same where no byte of it changes.
+/// A header is the same where no byte of it changes: where bytes beside it do, and where each part of it is the same.
 pub fn a_header_stays()
-    ensures { (before after : List ℕ) (block addr n : ℕ) → ChangesOnly before after addr n → (block + 32 ≤ addr) ⊎ (addr + n ≤ block) → header_at after block ≡ header_at before block }
+    ensures changed { AHeaderStays }
+    ensures bytes { AHeaderIsItsBytes }
+{}
+
+/// What changes only some bytes changes only those of a range around them.
+pub fn changes_widen()
+    ensures { ChangesWiden }
+{}
+
+/// A block is still held where one of another birth is given back.
+pub fn blocks_stay_held()
+    ensures { BlocksStayHeld }
+{}
+
+/// The owner of an address is the held block that has it.
+pub fn owners_are_found()
+    ensures { OwnersAreFound }
 {}

@@ -5,4 +5,3 @@ mod Scanning
 pub mod Pieces
 mod Trees
 mod Refreshing
-mod Setting

@@ -6,7 +6,7 @@ use Rattle.std.proofs.lemmas.List.Elements.{filter-append}
 use Rattle.core_tree.specs.declared.statements.Stm.{Stm}
 use Rattle.core_tree.specs.Listing.{spaced, register_word}
 use Rattle.core_tree.specs.Lives.{IsLive, is_live}
-use Rattle.core_tree.proofs.Paths.{live_by_paths}
+use Rattle.local_liveness.specs.Tables.{LiveByPaths}
 
 -- one number more
 pub range_more : (n a : ℕ) → range_with_len a (suc n) ≡ range_with_len a n ++ (a + n) ∷ []
@@ -21,9 +21,9 @@ up_to_more n =
     ap (range_with_len 0) (add-one n) ∙ range_more n 0 ∙ ap (λ x. range_with_len 0 n ++ x ∷ []) e
 
 -- an answer that is yes exactly where a path exists is that of the test
-pub same_answer : (body : List Stm) (point r : ℕ) (answer : Bool) → (IsTrue answer ↔ IsLive body point r) → answer ≡ is_live body point r
-same_answer body point r answer exact =
-    decided answer (is_live body point r) (λ h. (live_by_paths body point r).1 (exact.0 h)) (λ h. exact.1 ((live_by_paths body point r).0 h))
+pub same_answer : LiveByPaths → (body : List Stm) (point r : ℕ) (answer : Bool) → (IsTrue answer ↔ IsLive body point r) → answer ≡ is_live body point r
+same_answer paths body point r answer exact =
+    decided answer (is_live body point r) (λ h. (paths body point r).1 (exact.0 h)) (λ h. exact.1 ((paths body point r).0 h))
   where
     decided : (a b : Bool) → (IsTrue a → IsTrue b) → (IsTrue b → IsTrue a) → a ≡ b
     decided true true f g = refl

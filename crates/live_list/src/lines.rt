@@ -5,7 +5,7 @@ ghost use Rattle.core_tree.specs.Listing.{register_word};
 ghost use Rattle.local_liveness.specs.Tables.{IsTableOf};
 ghost use Rattle.live_list.specs.Listing.{func_lines, live_listing, name_line, point_line, point_lines, register_words};
 
-use core_tree::{Core, Func};
+use core_tree::{Core, Func, live_by_paths};
 use hs_base::{Items, NoMemory};
 use itoa::Buffer;
 use local_liveness::{LiveTable, live_at};
@@ -53,6 +53,7 @@ fn put_registers(
     requires point { point < length func.now.body }
     ensures { IfOk result (λ _. text.new.items ≡ text.old.items ++ register_words func.now point) }
 {
+    live_by_paths();
     let registers = count(func.regs.len())?;
     for register in 0..registers {
         if table.is_live(point, register) {

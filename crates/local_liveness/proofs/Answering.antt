@@ -6,10 +6,9 @@ use Rattle.std.proofs.lemmas.List.{get_or-map, get_or_past, get_or_read, length-
 use Rattle.std.proofs.lemmas.List.FromFn.{get_or-map-range_with_len, length-map-range_with_len}
 use Rattle.core_tree.specs.declared.program.Func.{Func}
 use Rattle.core_tree.specs.declared.statements.Stm.{Stm}
-use Rattle.core_tree.proofs.Paths.{live_by_paths}
 use Rattle.local_liveness.specs.Rows.{has, row_at, bits_of, table_of}
 use Rattle.local_liveness.specs.Sweeps.{IsFilled}
-use Rattle.local_liveness.specs.Tables.{says, IsTableOf}
+use Rattle.local_liveness.specs.Tables.{says, IsTableOf, LiveByPaths}
 
 -- a row of a table has a bit for each bit of its words
 row_here : (rows : List (List ℕ)) (point : ℕ) → point < length rows → row_at (table_of rows) point ≡ bits_of (row_at rows point)
@@ -49,9 +48,9 @@ answered rows table row point r answer view row_is inside is =
     ∙ ap (λ (t : List (List Bool)). says t point r) view
 
 pub table_is :
-    (func : Func) (body : List Stm) (words : ℕ) (rows : List (List ℕ)) → body ≡ func.body → words ≡ div_ceil (length func.regs) 64 → IsFilled body words rows →
+    LiveByPaths → (func : Func) (body : List Stm) (words : ℕ) (rows : List (List ℕ)) → body ≡ func.body → words ≡ div_ceil (length func.regs) 64 → IsFilled body words rows →
     IsTableOf (table_of rows) func
-table_is func body words rows same all filled =
+table_is paths func body words rows same all filled =
     let f : IsFilled func.body words rows = subst (λ (b : List Stm). IsFilled b words rows) same filled in
     record {
       points = length-map rows bits_of ∙ f.points;
@@ -68,5 +67,5 @@ table_is func body words rows same all filled =
           let less : r < 64 * words = omega arith in
           let said = says_is rows point r inside in
           let live = f.exact point r less in
-          (λ h. (live_by_paths func.body point r).0 (sym live ∙ sym said ∙ h), λ l. said ∙ live ∙ (live_by_paths func.body point r).1 l);
+          (λ h. (paths func.body point r).0 (sym live ∙ sym said ∙ h), λ l. said ∙ live ∙ (paths func.body point r).1 l);
     }

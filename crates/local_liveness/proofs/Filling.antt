@@ -9,7 +9,7 @@ use Rattle.std.proofs.lemmas.Option.{slice_get_past}
 use Rattle.core_tree.specs.declared.statements.Stm.{Stm}
 use Rattle.core_tree.specs.Statements.{edges, reads_at, writes_at, edges_at}
 use Rattle.core_tree.specs.Lives.{live_within, is_live}
-use Rattle.core_tree.proofs.Paths.{live_by_paths}
+use Rattle.local_liveness.specs.Tables.{LiveByPaths}
 use Rattle.local_liveness.specs.Rows.{has, row_at, AreWide}
 use Rattle.local_liveness.specs.Sweeps.{is_wanted, AreLive, Follows, Fills, IsFilled}
 use Rattle.local_liveness.proofs.Bits.{has_past, has_zeros}
@@ -152,24 +152,24 @@ same_bools false true f g = g refl
 same_bools false false f g = refl
 
 filled :
-    (body : List Stm) (words : ℕ) (rows : List (List ℕ)) → length rows ≡ length body → AreWide words rows → ((r : ℕ) → r < 64 * words → AreLive body rows r) →
+    LiveByPaths → (body : List Stm) (words : ℕ) (rows : List (List ℕ)) → length rows ≡ length body → AreWide words rows → ((r : ℕ) → r < 64 * words → AreLive body rows r) →
     ((r : ℕ) → r < 64 * words → (p : ℕ) → live_within body r (length body) p ≡ true → has (row_at rows p) r ≡ true) → IsFilled body words rows
 unfolding is_live
-filled body words rows points wide live found = record {
+filled paths body words rows points wide live found = record {
   points = points;
   wide = wide;
-  exact = λ p r less. same_bools (has (row_at rows p) r) (is_live body p r) (λ h. (live_by_paths body p r).1 (live r less p h)) (found r less p);
+  exact = λ p r less. same_bools (has (row_at rows p) r) (is_live body p r) (λ h. (paths body p r).1 (live r less p h)) (found r less p);
 }
 
 -- as many sweeps as there are points find all
-pub filled_all : (body : List Stm) (words n : ℕ) (rows : List (List ℕ)) (width : ℕ) → n ≡ length body → Filled body words n rows width → IsFilled body words rows
-filled_all body words n rows width all f =
-    filled body words rows f.points f.wide f.live (λ r less p h. f.found r less p (ap (λ m. live_within body r m p) all ∙ h))
+pub filled_all : LiveByPaths → (body : List Stm) (words n : ℕ) (rows : List (List ℕ)) (width : ℕ) → n ≡ length body → Filled body words n rows width → IsFilled body words rows
+filled_all paths body words n rows width all f =
+    filled paths body words rows f.points f.wide f.live (λ r less p h. f.found r less p (ap (λ m. live_within body r m p) all ∙ h))
 
 -- and a sweep that adds nothing is the last
 pub filled_closed :
-    (body : List Stm) (words n : ℕ) (a b : List (List ℕ)) (width : ℕ) → Filled body words n a width → Fills body width 0 a b → b ≡ a → IsFilled body words b
-filled_closed body words n a b width f fills_width same =
+    LiveByPaths → (body : List Stm) (words n : ℕ) (a b : List (List ℕ)) (width : ℕ) → Filled body words n a width → Fills body width 0 a b → b ≡ a → IsFilled body words b
+filled_closed paths body words n a b width f fills_width same =
     let fills : Fills body words 0 a a = subst (λ rows. Fills body words 0 a rows) same (subst (λ w. Fills body w 0 a b) f.front fills_width) in
     subst (λ rows. IsFilled body words rows) (sym same)
-    (filled body words a f.points f.wide f.live (λ r less p h. closed body words a fills r less (length body) p h))
+    (filled paths body words a f.points f.wide f.live (λ r less p h. closed body words a fills r less (length body) p h))

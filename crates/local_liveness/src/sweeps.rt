@@ -7,7 +7,7 @@ ghost use Rattle.local_liveness.specs.Rows.{AreWide};
 ghost use Rattle.local_liveness.specs.Sweeps.{Follows, Fills, IsFilled};
 
 use crate::row::Row;
-use core_tree::Stm;
+use core_tree::{Stm, live_by_paths};
 
 /// Adds to the row of a point what is live in front of another one, to which it leads; past the last statement nothing is.
 /// Says whether that was more. `front` is overwritten.
@@ -100,6 +100,7 @@ pub(crate) fn fill(body: &[Stm], rows: &mut [Row], front: &mut Row)
     requires { rows.old ≡ replicate (length body.now) (replicate (length front.old) 0) }
     ensures { IsFilled body.now (length front.old) rows.new }
 {
+    live_by_paths();
     for _ in 0..body.len() {
         if !sweep(body, rows, front) {
             return;

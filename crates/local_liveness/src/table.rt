@@ -8,7 +8,7 @@ ghost use Rattle.local_liveness.specs.Tables.{says, IsTableOf};
 
 use crate::row::Row;
 use crate::sweeps::fill;
-use core_tree::Func;
+use core_tree::{Func, live_by_paths};
 use hs_base::NoMemory;
 use std::alloc::Global;
 use std::marker::Model;
@@ -64,6 +64,7 @@ fn empty_rows(alloc: Global, points: usize, words: usize) -> Result<Vec<Row>, No
 pub fn live_at(alloc: Global, func: &Func) -> Result<LiveTable, NoMemory>
     ensures { IfOk result (λ table. IsTableOf table func.now) }
 {
+    live_by_paths();
     let body = func.body.as_slice();
     let words = func.regs.len().div_ceil(64);
     let mut rows = empty_rows(alloc, body.len(), words)?;

@@ -14,7 +14,7 @@ use Rattle.core_tree.specs.declared.statements.StmKind.TheVariants as kinds
 use Rattle.core_tree.specs.declared.program.Static.{Static}
 use Rattle.core_tree.specs.LayoutsOfTypes.{IsLayoutOfType}
 use Rattle.core_tree.specs.Sorts.{IsTyped, TakesFormat}
-use Rattle.core_tree.proofs.TypeLayouts.{type_layout_sound}
+use Rattle.c_types.specs.Layouts.{IsSound as IsSoundLayout}
 use Rattle.core_tree.specs.declared.statements.Stm.{Stm}
 use Rattle.core_tree.specs.declared.program.Func.{Func}
 use Rattle.core_tree.specs.declared.program.Core.{Core}
@@ -130,31 +130,35 @@ pub no_none : (o : Option Stm) → IsSome o → None ≡ o → ⊥
 no_none None h e = cc
 no_none (Some stm) h e = cc
 
+-- layouts of types are sound: a law of `core_tree`
+abbrev LayoutsAreSound : Type 0
+LayoutsAreSound = (l : Layout) → IsLayoutOfType l → IsSoundLayout l
+
 all_one : (P : Layout → Type 0) (t : Layout) → P t → All P (t ∷ [])
 all_one P t p zero d b = p
 all_one P t p (suc k) d b = absurd (omega arith)
 
-element : (t : Layout) → All (λ size. (pos 1 ≤ℤ size) × (size ≤ℤ pos 268435456)) (pos t.size ∷ []) → All IsLayoutOfType (t ∷ []) → IsElement t
-element t sizes layouts =
+element : LayoutsAreSound → (t : Layout) → All (λ size. (pos 1 ≤ℤ size) × (size ≤ℤ pos 268435456)) (pos t.size ∷ []) → All IsLayoutOfType (t ∷ []) → IsElement t
+element sound t sizes layouts =
     let le = (sizes 0 (pos 0) (omega arith)).0 in
     record {
       some = omega (arith, ints, le);
-      slots = (type_layout_sound t (layouts 0 t (omega arith))).slots;
+      slots = (sound t (layouts 0 t (omega arith))).slots;
     }
 
-pub elements_of : (kind : StmKind) → HasNumbers kind → All IsLayoutOfType (element_layouts kind) → All IsElement (element_layouts kind)
-elements_of (kinds.Malloc r n t) h e = all_one IsElement t (element t h.sizes e)
-elements_of (kinds.Calloc r m n t) h e = all_one IsElement t (element t h.sizes e)
-elements_of (kinds.Realloc r p n t) h e = all_one IsElement t (element t h.sizes e)
-elements_of _ h e = λ k d b. absurd (omega arith)
+pub elements_of : LayoutsAreSound → (kind : StmKind) → HasNumbers kind → All IsLayoutOfType (element_layouts kind) → All IsElement (element_layouts kind)
+elements_of layouts (kinds.Malloc r n t) h e = all_one IsElement t (element layouts t h.sizes e)
+elements_of layouts (kinds.Calloc r m n t) h e = all_one IsElement t (element layouts t h.sizes e)
+elements_of layouts (kinds.Realloc r p n t) h e = all_one IsElement t (element layouts t h.sizes e)
+elements_of layouts _ h e = λ k d b. absurd (omega arith)
 
 pub numbers_at : (core : Core) → IsSound core → (s : State) → Good core s → (stm : Stm) → Some stm ≡ statement_at core s.running → HasNumbers stm.kind
 numbers_at core sound s good stm h = let f = function_of core sound s good stm h in f.3.numbers s.running.point stm f.2
 
-pub elements_at : (core : Core) → IsSound core → (s : State) → Good core s → (stm : Stm) → Some stm ≡ statement_at core s.running → All IsElement (element_layouts stm.kind)
-elements_at core sound s good stm h =
+pub elements_at : LayoutsAreSound → (core : Core) → IsSound core → (s : State) → Good core s → (stm : Stm) → Some stm ≡ statement_at core s.running → All IsElement (element_layouts stm.kind)
+elements_at layouts core sound s good stm h =
     let f = function_of core sound s good stm h in
-    elements_of stm.kind (f.3.numbers s.running.point stm f.2) (f.3.elements s.running.point stm f.2)
+    elements_of layouts stm.kind (f.3.numbers s.running.point stm f.2) (f.3.elements s.running.point stm f.2)
 
 takes_format : (core : Core) (func : Func) (args : List Atom) (k : ℕ) (o : Option (List ℕ)) → slice_get func.formats k ≡ o → TakesFormat core func args o → IsFormat (slice_index_or func.formats k []) (pieces_of (slice_index_or func.formats k []))
 takes_format core func args k None e h = absurd h

@@ -12,7 +12,7 @@ ghost use Rattle.meaning_run.specs.Meant.{MeanAnswers, MeanCounts, HasNoLimit, B
 
 use crate::halt::Halt;
 use crate::machine::Machine;
-use core_tree::{Core, Func, StmKind};
+use core_tree::{Core, Func, StmKind, layouts_of_types};
 use hs_base::{End, Line, NoMemory, Sink, Source};
 use meaning_laws::{core_begins_well, run_ends, statement_is_made, statement_leaves_less, statement_stays_good};
 use meaning_state::HeldBlocks;
@@ -129,6 +129,7 @@ fn one_step<I: Source, O: Sink>(
     ensures faults { Counted result (I.faults input.old) (I.faults input.new) (O.faults out.old) (O.faults out.new) }
     ensures moves { (left : List ℕ) × Moves (step_by core.now (fits_in held.old) (with_input left machine.old)) machine.new result }
 {
+    layouts_of_types();
     statement_is_made();
     let Some(stm) = machine.statement(core) else {
         unreachable!()

@@ -2,7 +2,6 @@ pub mod SlotCounts
 pub mod Texts
 pub mod Refused
 pub mod Turns
-pub mod Holders
 pub mod Tables
 pub mod Pieces
 pub mod Far

@@ -8,7 +8,7 @@ pub loop-register-preserved : goal.loop-register-preserved
 loop-register-preserved c =
     let body = c.args.func.now.body in
     let told : c.is_live.result ≡ is_live body c.args.point c.loop-register.register =
-    same_answer body c.args.point c.loop-register.register c.is_live.result (c.is_live.ensures.live c.args.func.now c.requires.table) in
+    same_answer c.live_by_paths.ensures body c.args.point c.loop-register.register c.is_live.result (c.is_live.ensures.live c.args.func.now c.requires.table) in
     elim c.if-is_live.branch [
       | then-is_live+in_ok-put_register w ↦
           ap (λ (t : Vec ℕ Global). t.items) w.text-is

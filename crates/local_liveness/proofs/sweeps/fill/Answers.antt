@@ -13,8 +13,8 @@ loop-preserved c =
 pub returns-then-not-sweep : goal.returns-then-not-sweep
 returns-then-not-sweep c =
     let none : c.sweep.result ≡ false = search rules in
-    filled_closed c.args.body.now (length c.args.front.now) c.loop.counter c.loop.rows c.sweep.new.rows (length c.loop.front) c.loop.invariant c.sweep.ensures.fills
+    filled_closed c.live_by_paths.ensures c.args.body.now (length c.args.front.now) c.loop.counter c.loop.rows c.sweep.new.rows (length c.loop.front) c.loop.invariant c.sweep.ensures.fills
     (c.sweep.ensures.same none)
 
 pub returns : goal.returns
-returns c = filled_all c.args.body.now (length c.args.front.now) c.loop.counter c.loop.rows (length c.loop.front) (omega arith) c.loop.invariant
+returns c = filled_all c.live_by_paths.ensures c.args.body.now (length c.args.front.now) c.loop.counter c.loop.rows (length c.loop.front) (omega arith) c.loop.invariant

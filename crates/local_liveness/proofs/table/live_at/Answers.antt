@@ -9,5 +9,5 @@ use Rattle.local_liveness.proofs.table.live_at.Goals as goal
 pub returns : goal.returns
 returns c =
     subst (λ (rows : List (List ℕ)). IsTableOf (table_of rows) c.args.func.now) (sym (take_at c.fill.new.rows _ c.in_ok-rows.rows.len (omega arith)))
-    (table_is c.args.func.now c.as_slice-body.result.now (length c.in_ok-front.front) c.fill.new.rows c.as_slice-body.ensures
+    (table_is c.live_by_paths.ensures c.args.func.now c.as_slice-body.result.now (length c.in_ok-front.front) c.fill.new.rows c.as_slice-body.ensures
     (ap length c.in_ok-front.ensures ∙ length-replicate c.div_ceil-words.result 0 ∙ c.div_ceil-words.ensures ∙ ap (λ n. div_ceil n 64) c.len.ensures) c.fill.ensures)

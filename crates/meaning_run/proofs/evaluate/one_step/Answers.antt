@@ -43,7 +43,7 @@ pub act_alone-requires-clause-numbers : goal.act_alone-requires-clause-numbers
 act_alone-requires-clause-numbers g c = numbers_at c.args.core.now c.requires.sound c.args.machine.now c.requires.good c.in-Some.stm.now c.in-Some.ensures.is
 
 pub act_alone-requires-clause-elements : goal.act_alone-requires-clause-elements
-act_alone-requires-clause-elements g c = elements_at c.args.core.now c.requires.sound c.args.machine.now c.requires.good c.in-Some.stm.now c.in-Some.ensures.is
+act_alone-requires-clause-elements g c = elements_at c.layouts_of_types.ensures.sound c.args.core.now c.requires.sound c.args.machine.now c.requires.good c.in-Some.stm.now c.in-Some.ensures.is
 
 pub returns-in_default-kind-clause-told : goal.returns-in_default-kind-clause-told
 returns-in_default-kind-clause-told g c = λ left taken h i.

@@ -46,6 +46,7 @@ returns-clause-queued g c = λ held queue kept.
     let start = (c.is_start.ensures.start held kept.holds).0 c.if-not-is_start.false in
     kept_after c.args.self.now c.args.heap.now c.args.bytes.now held queue c.args.addr c.args.line kept start c.requires.reach c.is_start.ensures.reach
     (λ e. c.if-read_state-eq-STATE_QUEUED.false (c.read_state.ensures.state ∙ e))
+    c.a_header_stays.ensures.changed c.headers_may_be_written.ensures c.changes_widen.ensures
     c.write_queued.new.bytes c.write_queued.ensures.header c.write_queued.ensures.outside
     c.append.new.self c.append.new.bytes c.append.ensures.appended c.append.ensures.alone c.append.ensures.link c.append.ensures.outside
 
@@ -56,5 +57,6 @@ returns-clause-bytes g c =
     let start = (c.is_start.ensures.start held kept.holds).0 c.if-not-is_start.false in
     queued_now c.args.self.now c.args.heap.now c.args.bytes.now held c.requires.kept.1 c.args.addr c.args.line kept start c.requires.reach c.is_start.ensures.reach
     (λ e. c.if-read_state-eq-STATE_QUEUED.false (c.read_state.ensures.state ∙ e))
+    c.a_header_stays.ensures.changed c.headers_may_be_written.ensures c.changes_widen.ensures
     c.write_queued.new.bytes c.write_queued.ensures.header c.write_queued.ensures.outside
     c.append.new.self c.append.new.bytes c.append.ensures.appended c.append.ensures.alone c.append.ensures.link c.append.ensures.outside

@@ -34,7 +34,7 @@ pub release-requires-clause-object : goal.release-requires-clause-object
 release-requires-clause-object g c =
     let many : c.self.inside.waiting ≡ c.args.self.now.waiting = ap (λ (s : ScopesModel). s.waiting) c.self.view_is in
     let below : c.loop-place._place < c.args.self.now.waiting = omega (arith, c.loop-place-test.true) in
-    held_here c.args.self.now c.args.heap.now c.args.bytes.now c.requires.0 c.requires.1 c.requires.2 c.loop-place.heap c.loop-place.bytes c.loop-place._place c.loop-place.block below (c.loop-place.invariant.released c.requires.0 c.requires.1 c.requires.2) (c.loop-place.block + 32) refl
+    held_here c.args.self.now c.args.heap.now c.args.bytes.now c.requires.0 c.requires.1 c.requires.2 c.loop-place.heap c.loop-place.bytes c.loop-place._place c.loop-place.block below (c.loop-place.invariant.released c.requires.0 c.requires.1 c.requires.2) c.a_header_stays.ensures.bytes c.blocks_stay_held.ensures (c.loop-place.block + 32) refl
 
 pub loop-place-preserved : goal.loop-place-preserved
 loop-place-preserved g c = record {
@@ -42,7 +42,7 @@ loop-place-preserved g c = record {
       let many : c.self.inside.waiting ≡ c.args.self.now.waiting = ap (λ (s : ScopesModel). s.waiting) c.self.view_is in
       let below : c.loop-place._place < c.args.self.now.waiting = omega (arith, c.loop-place-test.true) in
       release_more c.args.self.now c.args.heap.now c.args.bytes.now held queue may c.loop-place.heap c.loop-place.bytes c.loop-place._place c.loop-place.block below (c.loop-place.invariant.released held queue may)
-      c.release.new.self c.release.new.bytes (c.loop-place.block + 32) c.read_next-next.result refl c.read_next-next.ensures.next c.release.ensures.bounds c.release.ensures.held c.release.ensures.headers c.release.ensures.outside;
+      c.a_header_stays.ensures.bytes c.blocks_stay_held.ensures c.release.new.self c.release.new.bytes (c.loop-place.block + 32) c.read_next-next.result refl c.read_next-next.ensures.next c.release.ensures.bounds c.release.ensures.held c.release.ensures.headers c.release.ensures.outside;
   work = omega (arith, c.loop-place.invariant.work, c.read_next-next.ensures.steps, c.release.ensures.most);
 }
 

@@ -1,0 +1,54 @@
+-- Laws of blocks that are held, and of their headers.
+use Rattle.std.specs.Prelude.{◌≡◌, ◌≢◌, ◌+◌, ◌≤◌, ◌⊎◌, ℕ, List, Contains, Some}
+use Rattle.byte_memory.specs.Bytes.{part}
+use Rattle.hs_base.specs.Place.{Block, block_size, without_block}
+use Rattle.heap_blocks.specs.declared.headers.Header.{Header}
+use Rattle.heap_blocks.specs.Bytes.{ChangesOnly}
+use Rattle.heap_blocks.specs.Heads.{header_at}
+use Rattle.heap_blocks.specs.Held.{HasAddress, HasHeaders, HeapModel, Holds, address_of, owner_of}
+
+-- Bytes
+
+-- what changes only some bytes changes only those of a range around them
+abbrev pub ChangesWiden : Type 0
+ChangesWiden =
+    (before after : List ℕ) (x m addr n : ℕ) → ChangesOnly before after x m → addr ≤ x → x + m ≤ addr + n → ChangesOnly before after addr n
+
+-- Headers
+
+-- a header is the same where no byte of it changes
+abbrev pub AHeaderStays : Type 0
+AHeaderStays =
+    (before after : List ℕ) (block addr n : ℕ) → ChangesOnly before after addr n → (block + 32 ≤ addr) ⊎ (addr + n ≤ block) → header_at after block ≡ header_at before block
+
+-- it is what its bytes say
+abbrev pub AHeaderIsItsBytes : Type 0
+AHeaderIsItsBytes =
+    (before after : List ℕ) (block : ℕ) → ((from k : ℕ) → block ≤ from → from + k ≤ block + 32 → part after from k ≡ part before from k) → header_at after block ≡ header_at before block
+
+-- all headers stay where bytes beside the heap change
+abbrev pub HeadersStayBeside : Type 0
+HeadersStayBeside =
+    (heap : HeapModel) (held : List Block) (before after : List ℕ) (addr n : ℕ) → Holds heap held → HasHeaders heap.base before held → ChangesOnly before after addr n → (addr + n ≤ heap.base) ⊎ (heap.base + heap.len ≤ addr) → HasHeaders heap.base after held
+
+-- and where bytes of an object behind its header do
+abbrev pub HeadersStayWithin : Type 0
+HeadersStayWithin =
+    (heap : HeapModel) (held : List Block) (b : Block) (before after : List ℕ) (addr n : ℕ) → Holds heap held → Contains held b → HasHeaders heap.base before held → ChangesOnly before after addr n → address_of heap b.place ≤ addr → addr + n ≤ heap.base + b.place + b.length → HasHeaders heap.base after held
+
+-- the header of one block may be written again with its birth and its size
+abbrev pub HeadersMayBeWritten : Type 0
+HeadersMayBeWritten =
+    (heap : HeapModel) (held : List Block) (b : Block) (before after : List ℕ) (h : Header) → Holds heap held → Contains held b → HasHeaders heap.base before held → ChangesOnly before after (heap.base + b.place) 32 → header_at after (heap.base + b.place) ≡ h → h.birth ≡ b.birth → block_size h.size ≡ b.length → HasHeaders heap.base after held
+
+-- Blocks
+
+-- a block is still held where one of another birth is given back
+abbrev pub BlocksStayHeld : Type 0
+BlocksStayHeld =
+    (held : List Block) (b : Block) (birth : ℕ) → Contains held b → b.birth ≢ birth → Contains (without_block held birth) b
+
+-- the owner of an address is the held block that has it
+abbrev pub OwnersAreFound : Type 0
+OwnersAreFound =
+    (heap : HeapModel) (held : List Block) (b : Block) (addr : ℕ) → Holds heap held → Contains held b → HasAddress heap addr b → owner_of heap held addr ≡ Some (address_of heap b.place)
