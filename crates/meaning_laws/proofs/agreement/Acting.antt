@@ -57,11 +57,7 @@ use Rattle.meaning_laws.proofs.agreement.Scopes.{enter_follows, leave_follows}
 use Rattle.meaning_laws.proofs.agreement.Freeing.{free_follows, grow_follows}
 use Rattle.meaning_laws.proofs.agreement.Calling.{call_follows}
 use Rattle.meaning_laws.proofs.agreement.Returns.{give_follows}
-
--- the function that is called is there
-called : (core : Core) (func : Func) (args : List Atom) (o : Option Func) → TakesCall core func args o → (g : Func) × (o ≡ Some g)
-called core func args None h = absurd h
-called core func args (Some g) h = (g, refl)
+use Rattle.meaning_laws.proofs.dangling.Acting.{called}
 
 layout_is : (code : Code) (k : ℕ) (element : Layout) → slice_get code.layouts k ≡ Some element → layout_in code k ≡ element
 layout_is code k element e = ap (λ o. option_map_or (λ (l : Layout). l) o no_layout) e

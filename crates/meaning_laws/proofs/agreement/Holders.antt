@@ -25,7 +25,7 @@ use Rattle.object_meaning.specs.code.Checking.{in_pins}
 use Rattle.object_meaning.specs.compiled.Compiled.{IsCompiled}
 use Rattle.meaning_laws.proofs.counts.Pins.{HasSorts}
 use Rattle.meaning_laws.proofs.counts.Sorting.{CallsIt, Calls, InOrder, same_func}
-use Rattle.meaning_laws.proofs.counts.Listed.{AreListed, held_by_pins, holders_by_pins}
+use Rattle.meaning_laws.proofs.counts.Listed.{AreListed, held_by_pins, holders_by_pins, turned}
 use Rattle.meaning_laws.proofs.agreement.Moved.{waiting_frame, moved}
 use Rattle.meaning_laws.proofs.agreement.Sited.{pins_waiting}
 
@@ -33,12 +33,6 @@ use Rattle.meaning_laws.proofs.agreement.Sited.{pins_waiting}
 abbrev held_in : ℕ → Frame → List ℕ → List Holder
 held_in x frame registers =
     map (λ r. holder.Register frame.func r) (filter (λ r. is_pointer_to x (pointer_of_register frame r)) registers)
-
-turned : (f : Frame → List Holder) (frame : Frame) (waiting : List Frame) → flat_map f (reverse (frame ∷ waiting)) ≡ flat_map f (reverse waiting) ++ f frame
-turned f frame waiting =
-    ap (flat_map f) (reverse-append (frame ∷ []) waiting)
-    ∙ flat_map-append f (reverse waiting) (frame ∷ [])
-    ∙ ap (λ hs. flat_map f (reverse waiting) ++ hs) (append-nil (f frame))
 
 module _ (core : Core) (pins : Pins) (code : Code) (compiled : IsCompiled core pins code) (x : ℕ) where
   one_waiting : (callee : ℕ) (frame : Frame) → CallsIt core callee frame → in_pins code x (waiting_frame core frame) ≡ held_by_pins pins x frame

@@ -37,25 +37,13 @@ use Rattle.meaning_laws.proofs.counts.Pins.{HasSorts}
 use Rattle.meaning_laws.proofs.counts.Sorting.{FitsIn, plain_fits, value_fits, argument_sorts, CallsIt, Calls, Orderly, InOrder, same_func, with_order}
 use Rattle.meaning_laws.proofs.counts.Agreeing.{Agrees, Alters, alters_agree, step_plain}
 use Rattle.meaning_laws.proofs.counts.Checks.{some_is_positive, first_same, pinned_is, held_all_waiting}
+use Rattle.meaning_laws.proofs.dangling.Returning.{in_range, out_range}
 
 -- Lists of births
 
-out_range : (a n b : ℕ) → b < a → is_among (range_with_len a n) b ≡ false
-out_range a zero b lt = refl
-out_range a (suc n) b lt =
-    or_from (nat_eq a b) (is_among (range_with_len (a + 1) n) b) (ne_eqb a b (λ e. omega (arith, e, lt))) (out_range (a + 1) n b (omega (arith, lt)))
-
-once_range : (a n : ℕ) → Once (range_with_len a n)
+pub once_range : (a n : ℕ) → Once (range_with_len a n)
 once_range a zero = tt
 once_range a (suc n) = (out_range (a + 1) n a (omega arith), once_range (a + 1) n)
-
-in_range : (a n b : ℕ) → is_among (range_with_len a n) b ≡ true → (k : ℕ) × (k < n) × (b ≡ a + k)
-in_range a zero b h = absurd (false≢true h)
-in_range a (suc n) b h =
-    ⊎_elim
-    (λ here. let e = eqb-true a b here in (0, omega arith, omega (arith, e)))
-    (λ there. let r = in_range (a + 1) n b there in (suc r.0, omega (arith, r.1), omega (arith, r.2)))
-    (or_cases (nat_eq a b) (is_among (range_with_len (a + 1) n) b) h)
 
 none_among : (registers : List ℕ) → ((r : ℕ) → is_among registers r ≡ false) → registers ≡ []
 none_among [] h = refl

@@ -31,11 +31,7 @@ use Rattle.meaning_laws.proofs.counts.Objects.{living_split, buried_living}
 use Rattle.meaning_laws.proofs.counts.Pins.{HasSorts, once_from, those_among, held_registers}
 use Rattle.meaning_laws.proofs.counts.Sorting.{CallsIt, Calls, InOrder}
 use Rattle.meaning_laws.proofs.counts.Agreeing.{Agrees, Alters, alters_agree}
-
-queued_lives : (st : Standing) → is_queued st ≡ true → is_dead st ≡ false
-queued_lives Live h = refl
-queued_lives (Queued line) h = refl
-queued_lives Dead h = absurd (false≢true h)
+use Rattle.meaning_laws.proofs.dangling.Returning.{queued_lives}
 
 -- Numbers and lists
 

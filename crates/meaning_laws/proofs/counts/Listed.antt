@@ -108,6 +108,13 @@ holder_within func r h = by_option (slice_get func.regs r) refl h where
   by_option None e h = absurd (true≢false (sym h))
   by_option (Some reg) e h = slice_get_within func.regs r reg e
 
+-- what frames hold, oldest first, where one is newer than all
+pub turned : (f : Frame → List Holder) (frame : Frame) (waiting : List Frame) → flat_map f (reverse (frame ∷ waiting)) ≡ flat_map f (reverse waiting) ++ f frame
+turned f frame waiting =
+    ap (flat_map f) (reverse-append (frame ∷ []) waiting)
+    ∙ flat_map-append f (reverse waiting) (frame ∷ [])
+    ∙ ap (λ hs. flat_map f (reverse waiting) ++ hs) (append-nil (f frame))
+
 module _ (core : Core) (pins : Pins) (listed : AreListed core pins) (x : ℕ) where
   module _ (frame : Frame) (func : Func) (here : slice_get core.funcs frame.func ≡ Some func) (stm : Stm) (at : slice_get func.body frame.point ≡ Some stm) (sorts : HasSorts func frame.regs) where
     abbrev points : ℕ → Bool
@@ -150,12 +157,6 @@ module _ (core : Core) (pins : Pins) (listed : AreListed core pins) (x : ℕ) wh
       ap (λ b. b && not (takes_answer answer r)) (live_is frame w.func w.here called w.at w.sorts r)
       ∙ ap (λ a. is_live w.func.body frame.point r && not (takes_answer a r)) same
       ∙ sym (ap (λ b. b && is_live w.func.body frame.point r && not (takes_answer w.answer r)) h))
-
-  turned : (f : Frame → List Holder) (frame : Frame) (waiting : List Frame) → flat_map f (reverse (frame ∷ waiting)) ≡ flat_map f (reverse waiting) ++ f frame
-  turned f frame waiting =
-      ap (flat_map f) (reverse-append (frame ∷ []) waiting)
-      ∙ flat_map-append f (reverse waiting) (frame ∷ [])
-      ∙ ap (λ hs. flat_map f (reverse waiting) ++ hs) (append-nil (f frame))
 
   all_by_pins : (callee : ℕ) (waiting : List Frame) → Calls core callee waiting → in_all_waiting core x waiting ≡ flat_map (held_by_pins pins x) (reverse waiting)
   all_by_pins callee [] h = refl

@@ -44,7 +44,7 @@ found (x ∷ xs) zero lt = (x, refl)
 found (x ∷ xs) (suc k) lt = found xs k (omega arith)
 
 -- the function that is called is there
-called : (core : Core) (func : Func) (args : List Atom) (o : Option Func) → TakesCall core func args o → (g : Func) × (o ≡ Some g)
+pub called : (core : Core) (func : Func) (args : List Atom) (o : Option Func) → TakesCall core func args o → (g : Func) × (o ≡ Some g)
 called core func args None h = absurd h
 called core func args (Some g) h = (g, refl)
 

@@ -82,7 +82,7 @@ counts_rest : (b : Bool) (n : ℕ) → 0 < cond b 1 0 + n → b ≡ false → 0 
 counts_rest true n h e = absurd (cc)
 counts_rest false n h e = omega (arith, h)
 
-main_within : (funcs : List Func) → 0 < count_by is_main funcs → first_main funcs < length funcs
+pub main_within : (funcs : List Func) → 0 < count_by is_main funcs → first_main funcs < length funcs
 main_within [] h = h
 main_within (func ∷ funcs) h =
     within_by (is_main func) funcs (first_main funcs) (λ e. main_within funcs (counts_rest (is_main func) (count_by is_main funcs) (subst (λ k. 0 < k) (sum_by-cons (λ x. cond (is_main x) 1 0) func funcs) h) e))

@@ -78,7 +78,7 @@ was_live Live h = (refl, refl)
 was_live (Queued line) h = absurd (true≢false h)
 was_live Dead h = absurd (true≢false h)
 
-none_queued : (st : Standing) → is_queued (buried_standing st) ≡ false
+pub none_queued : (st : Standing) → is_queued (buried_standing st) ≡ false
 none_queued Live = refl
 none_queued (Queued line) = refl
 none_queued Dead = refl

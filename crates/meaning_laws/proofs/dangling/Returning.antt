@@ -64,7 +64,7 @@ are_dead objects (x ∷ locals) b h =
     (λ there. are_dead (ended_one objects x) locals b there)
     (or_cases (nat_eq x b) (is_among locals b) h)
 
-ended_length : (objects : List Object) (locals : List ℕ) → length (ended objects locals) ≡ length objects
+pub ended_length : (objects : List Object) (locals : List ℕ) → length (ended objects locals) ≡ length objects
 ended_length objects [] = refl
 ended_length objects (x ∷ locals) = ended_length (ended_one objects x) locals ∙ length-set objects x _
 
@@ -80,12 +80,12 @@ ended_loses objects locals = record {
   longer = omega (arith, ended_length objects locals);
 }
 
-before_range : (a n b : ℕ) → b < a → is_among (range_with_len a n) b ≡ false
-before_range a zero b lt = refl
-before_range a (suc n) b lt =
-    or_from (nat_eq a b) (is_among (range_with_len (a + 1) n) b) (ne_eqb a b (λ e. omega (arith, e))) (before_range (a + 1) n b (omega arith))
+pub out_range : (a n b : ℕ) → b < a → is_among (range_with_len a n) b ≡ false
+out_range a zero b lt = refl
+out_range a (suc n) b lt =
+    or_from (nat_eq a b) (is_among (range_with_len (a + 1) n) b) (ne_eqb a b (λ e. omega (arith, e))) (out_range (a + 1) n b (omega arith))
 
-in_range : (a n b : ℕ) → is_among (range_with_len a n) b ≡ true → (k : ℕ) × (k < n) × (b ≡ a + k)
+pub in_range : (a n b : ℕ) → is_among (range_with_len a n) b ≡ true → (k : ℕ) × (k < n) × (b ≡ a + k)
 in_range a zero b h = absurd (false≢true h)
 in_range a (suc n) b h =
     ⊎_elim
@@ -93,7 +93,7 @@ in_range a (suc n) b h =
     (λ there. let r = in_range (a + 1) n b there in let e = r.2 in (suc r.0, omega (arith, r.1), omega (arith, e)))
     (or_cases (nat_eq a b) (is_among (range_with_len (a + 1) n) b) h)
 
-queued_lives : (st : Standing) → is_queued st ≡ true → is_dead st ≡ false
+pub queued_lives : (st : Standing) → is_queued st ≡ true → is_dead st ≡ false
 queued_lives Live h = absurd (false≢true h)
 queued_lives (Queued line) h = refl
 queued_lives Dead h = absurd (false≢true h)
@@ -120,7 +120,7 @@ module _ (core : Core) (func : Func) (wanted : List Stm → ℕ → ℕ → Bool
 
   kept : (b : ℕ) → b < s.running.first_local → IsKept s.objects b → IsKept left b
   kept b lt k =
-      let spared = loses.spared b k.0 (before_range s.running.first_local _ b lt) in (spared.0, spared.1 ∙ k.1)
+      let spared = loses.spared b k.0 (out_range s.running.first_local _ b lt) in (spared.0, spared.1 ∙ k.1)
 
   parts : (b : ℕ) → is_among locals b ≡ true → (is_pointer_to b (pointer_in answer) ≡ false) × NoHolder (inside_objects locals b s.objects) × NoHolder (in_all_waiting core b s.waiting)
   parts b i =

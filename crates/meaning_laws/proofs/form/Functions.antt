@@ -20,28 +20,14 @@ use Rattle.object_meaning.specs.counted.Pinning.{Pins}
 use Rattle.object_meaning.specs.compiled.Handing.{instr}
 use Rattle.object_meaning.specs.compiled.Compiled.{IsCompiled}
 use Rattle.meaning_laws.proofs.form.Handed.{fresh_start}
-use Rattle.meaning_laws.proofs.form.Places.{element, place_inside}
+use Rattle.meaning_laws.proofs.form.Places.{place_inside}
 use Rattle.meaning_laws.proofs.form.Returns.{each_answer}
 use Rattle.meaning_laws.proofs.form.Scopes.{scopes_kept}
 use Rattle.meaning_laws.proofs.form.Sorts.{kinds_are}
 use Rattle.meaning_laws.proofs.form.Spots.{owner, end_is}
 use Rattle.meaning_laws.proofs.form.Typing.{is_there}
-
-abbrev one_if : Bool → ℕ
-one_if b = cond b 1 0
-
--- one function is named main, and so it is there
-pub main_inside : (funcs : List Func) → 0 < count_by is_main funcs → first_main funcs < length funcs
-main_inside [] h = absurd (omega arith)
-main_inside (func ∷ funcs) h =
-    let more = sum_by-cons (λ (f : Func). one_if (is_main f)) func funcs in
-    elim (is_main func) as (λ b. is_main func ≡ b → cond b 0 (first_main funcs + 1) < length (func ∷ funcs)) [
-      | true ↦ λ e. omega arith
-      | false ↦ λ e.
-          let none = ap one_if e in
-          let rest : first_main funcs < length funcs = main_inside funcs (omega (arith, more, none)) in omega (arith, rest)
-    ]
-    refl
+use Rattle.meaning_laws.proofs.dangling.Acting.{found as element}
+use Rattle.meaning_laws.proofs.dangling.Beginning.{main_within}
 
 layouts_there : (layouts : List Layout) (ns : List ℕ) (mems : List Mem) → map (slice_get layouts) ns ≡ map (λ (m : Mem). Some m.layout) mems → All (λ n. IsSome (slice_get layouts n)) ns
 layouts_there layouts [] mems h = All-nil (λ n. IsSome (slice_get layouts n))
@@ -71,7 +57,7 @@ module _ (core : Core) {pins : Pins} (code : Code) (sound : IsSound core) (is : 
       }
 
   pub main_func : (func : Func) × (slice_get core.funcs (main_of core) ≡ Some func)
-  main_func = element core.funcs (main_of core) (main_inside core.funcs (omega (arith, sound.one_main)))
+  main_func = element core.funcs (main_of core) (main_within core.funcs (omega (arith, sound.one_main)))
 
   pub starts : (i : Instr) × (main : ℕ) × (entry : Entry) × (slice_get code.instrs 0 ≡ Some i) × IsStart code i main entry
   starts =

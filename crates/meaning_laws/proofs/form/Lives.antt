@@ -23,9 +23,10 @@ use Rattle.object_meaning.specs.compiled.Handing.{hand_of, handed_atoms}
 use Rattle.object_meaning.specs.compiled.Compiled.{IsCompiled}
 use Rattle.meaning_laws.proofs.form.Doing.{doing, as_doing, same_edges}
 use Rattle.meaning_laws.proofs.form.Flow.{hand_edges}
-use Rattle.meaning_laws.proofs.form.Places.{element, place, place_more}
+use Rattle.meaning_laws.proofs.form.Places.{place, place_more}
 use Rattle.meaning_laws.proofs.form.Reading.{hand_reads, hand_writes_nothing, does_not_read, same_writes, reads_handed, handed_reads}
 use Rattle.meaning_laws.proofs.form.Scopes.{contains_one, contains_map}
+use Rattle.meaning_laws.proofs.dangling.Acting.{found as element}
 
 contains_mapped : {X Y : Type 0} (f : X → Y) (xs : List X) (x : X) → Contains xs x → Contains (map f xs) (f x)
 contains_mapped f xs x h = (h.0, omega (arith, length-map xs f, h.1), get_or-map f xs h.0 x (f x) h.1 ∙ ap f h.2)

@@ -7,18 +7,13 @@ use Rattle.core_tree.specs.declared.statements.Stm.{Stm}
 use Rattle.object_meaning.specs.compiled.Handing.{handed_atoms, code_length}
 use Rattle.object_meaning.specs.compiled.Places.{body_length, first_of, place_of}
 use Rattle.meaning_laws.proofs.form.Parts.{part_at, before_more, before_all, before_later, before_end, one_part}
+use Rattle.meaning_laws.proofs.dangling.Acting.{found as element}
 
 abbrev pub weight : Stm → ℕ
 weight stm = code_length stm.kind
 
 abbrev pub func_length : Func → ℕ
 func_length func = body_length func.body
-
--- the element at a place inside a list
-pub element : {X : Type 0} (xs : List X) (k : ℕ) → k < length xs → (x : X) × (slice_get xs k ≡ Some x)
-element [] k h = absurd (omega arith)
-element (x ∷ xs) zero h = (x, refl)
-element (x ∷ xs) (suc k) h = element xs k (omega arith)
 
 module _ (core : Core) where
   pub first_more : (f : ℕ) (func : Func) → slice_get core.funcs f ≡ Some func → first_of core (f + 1) ≡ first_of core f + body_length func.body

@@ -14,7 +14,8 @@ use Rattle.object_meaning.specs.counted.Pinning.{Pins}
 use Rattle.object_meaning.specs.compiled.Handing.{hand_of, handed_atoms}
 use Rattle.object_meaning.specs.compiled.Compiled.{IsCompiled}
 use Rattle.meaning_laws.proofs.form.Doing.{doing, as_doing, Numbers}
-use Rattle.meaning_laws.proofs.form.Places.{element, place}
+use Rattle.meaning_laws.proofs.form.Places.{place}
+use Rattle.meaning_laws.proofs.dangling.Acting.{found as element}
 
 -- the instruction hands the operand of a number over
 abbrev pub Hands : StmKind → ℕ → Instr → Type 0

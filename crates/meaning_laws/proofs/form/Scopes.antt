@@ -25,7 +25,8 @@ use Rattle.object_meaning.specs.compiled.Compiled.{IsCompiled, IsEntry}
 use Rattle.meaning_laws.proofs.form.Doing.{doing, same_scopes, same_edges}
 use Rattle.meaning_laws.proofs.form.Flow.{hand_edges, hand_scopes, hand_closes_nothing}
 use Rattle.meaning_laws.proofs.form.Roles.{Hands, DoesAll, role}
-use Rattle.meaning_laws.proofs.form.Places.{element, place, place_more, same_point}
+use Rattle.meaning_laws.proofs.form.Places.{place, place_more, same_point}
+use Rattle.meaning_laws.proofs.dangling.Acting.{found as element}
 
 pub contains_one : (x y : ℕ) → Contains (x ∷ []) y → x ≡ y
 contains_one x y h = let e : h.0 ≡ 0 = omega (arith, h.1) in rw e at h.2

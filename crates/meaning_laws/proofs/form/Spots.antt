@@ -17,8 +17,9 @@ use Rattle.object_meaning.specs.compiled.Handing.{hand_of, handed_atoms}
 use Rattle.object_meaning.specs.compiled.Places.{first_of}
 use Rattle.object_meaning.specs.compiled.Compiled.{IsCompiled, IsEntry}
 use Rattle.meaning_laws.proofs.form.Doing.{doing, Numbers}
-use Rattle.meaning_laws.proofs.form.Places.{element, place, InStatement, in_statement}
+use Rattle.meaning_laws.proofs.form.Places.{place, InStatement, in_statement}
 use Rattle.meaning_laws.proofs.form.Roles.{Hands, DoesAll, role}
+use Rattle.meaning_laws.proofs.dangling.Acting.{found as element}
 
 module _ (core : Core) {pins : Pins} (code : Code) (is : IsCompiled core pins code) where
   -- the function of an entry

@@ -21,8 +21,8 @@ use Rattle.flat_code.specs.declared.program.StaticInit.{StaticInit}
 use Rattle.flat_code.specs.WellFormed.{IsFirst, IsTarget, static_size}
 use Rattle.object_meaning.specs.counted.Pinning.{Pins}
 use Rattle.object_meaning.specs.compiled.Compiled.{IsCompiled, IsStatic}
-use Rattle.meaning_laws.proofs.form.Places.{element}
-use Rattle.meaning_laws.proofs.form.Tables.{holds_at}
+use Rattle.meaning_laws.proofs.dangling.Acting.{found as element}
+use Rattle.meaning_laws.proofs.soundness.Lists.{all_at}
 
 -- lists whose elements have the same weights have the same sum
 same_sums : {X Y : Type 0} (f : X → ℕ) (g : Y → ℕ) (xs : List X) (ys : List Y) → length xs ≡ length ys → ((k : ℕ) (x : X) (y : Y) → slice_get xs k ≡ Some x → slice_get ys k ≡ Some y → f x ≡ g y) → sum_by f xs ≡ sum_by g ys
@@ -78,7 +78,7 @@ module _ (core : Core) {pins : Pins} (code : Code) (sound : IsSound core) (is : 
       let x = element core.statics k (omega (arith, is.few_statics)) in
       let init = slice_index_or code.statics k d in
       let same = same_static k x.0 init x.1 at_code in
-      let kept = holds_at (cores.IsStatic core) core.statics k x.0 sound.statics x.1 in
+      let kept = all_at (cores.IsStatic core) core.statics k x.0 sound.statics x.1 in
       let first = first_is x.0 init kept same in
       subst (λ (o : Option Layout). IsSomeAnd o (IsFirst code init)) (sym same.layout) first
 

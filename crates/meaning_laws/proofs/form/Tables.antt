@@ -26,14 +26,11 @@ use Rattle.object_meaning.specs.counted.Pinning.{Pins}
 use Rattle.object_meaning.specs.compiled.Compiled.{IsCompiled, IsLayoutIn, IsFormatIn, format_of}
 use Rattle.meaning_laws.proofs.form.Functions.{main_func}
 use Rattle.meaning_laws.proofs.form.Places.{first_more, in_function, InStatement, in_statement}
+use Rattle.meaning_laws.proofs.soundness.Lists.{all_at}
 
 -- some element of a list, with its place
 pub found_at : {X : Type 0} (P : X → Type 0) (xs : List X) → Any P xs → (k : ℕ) × (x : X) × (slice_get xs k ≡ Some x) × P x
 found_at P xs h = (h.0, h.1, slice_get-get_or xs h.0 h.1 h.2 ∙ ap (λ x. Some x) h.3, h.4)
-
-pub holds_at : {X : Type 0} (P : X → Type 0) (xs : List X) (k : ℕ) (x : X) → All P xs → slice_get xs k ≡ Some x → P x
-holds_at P xs k x all h =
-    subst P (get_or_from_slice_get xs k x x h) (all k x (slice_get_within xs k x h))
 
 module _ (core : Core) {pins : Pins} (code : Code) (sound : IsSound core) (is : IsCompiled core pins code) where
   -- Layouts
@@ -41,12 +38,12 @@ module _ (core : Core) {pins : Pins} (code : Code) (sound : IsSound core) (is : 
   static_type : (layout : Layout) → Any (λ (static : Static). static.layout ≡ layout) core.statics → IsLayoutOfType layout
   static_type layout h =
       let w = found_at (λ (static : Static). static.layout ≡ layout) core.statics h in
-      subst IsLayoutOfType w.3 (holds_at (IsStatic core) core.statics w.0 w.1 sound.statics w.2).layout
+      subst IsLayoutOfType w.3 (all_at (IsStatic core) core.statics w.0 w.1 sound.statics w.2).layout
 
   mem_type : (f : ℕ) (func : Func) → slice_get core.funcs f ≡ Some func → (layout : Layout) → Any (λ (mem : Mem). mem.layout ≡ layout) func.mems → IsLayoutOfType layout
   mem_type f func here layout h =
       let w = found_at (λ (mem : Mem). mem.layout ≡ layout) func.mems h in
-      subst IsLayoutOfType w.3 (holds_at (λ (mem : Mem). IsLayoutOfType mem.layout) func.mems w.0 w.1 (sound.functions f func here).mems w.2)
+      subst IsLayoutOfType w.3 (all_at (λ (mem : Mem). IsLayoutOfType mem.layout) func.mems w.0 w.1 (sound.functions f func here).mems w.2)
 
   element_type : (f : ℕ) (func : Func) → slice_get core.funcs f ≡ Some func → (layout : Layout) → Any (λ (stm : Stm). Contains (element_layouts stm.kind) layout) func.body → IsLayoutOfType layout
   element_type f func here layout h =
@@ -86,7 +83,7 @@ module _ (core : Core) {pins : Pins} (code : Code) (sound : IsSound core) (is : 
   statement_format func kind format h same = absurd (cc)
 
   short_format : (func : Func) (kind : StmKind) (format : List ℕ) → All IsShort func.formats → format_of func kind ≡ Some format → IsShort format
-  short_format func (stm.Printf r k args) format h same = holds_at IsShort func.formats k format h same
+  short_format func (stm.Printf r k args) format h same = all_at IsShort func.formats k format h same
   short_format func kind format h same = absurd (cc)
 
   abbrev Writes : List ℕ → Func → Type 0

@@ -13,11 +13,12 @@ use Rattle.c_types.specs.Layouts.{AreSlots}
 use Rattle.object_meaning.specs.objects.Holding.{is_among, inside_objects}
 use Rattle.meaning_laws.specs.objects.Good.{Sane}
 use Rattle.meaning_laws.proofs.dangling.Unheld.{NoHolder, unheld_object}
-use Rattle.meaning_laws.proofs.dangling.Burying.{at_buried, buried_loses}
+use Rattle.meaning_laws.proofs.dangling.Burying.{at_buried, buried_loses, none_queued}
 use Rattle.meaning_laws.specs.code.Objects.{IsThere, IsPointer, IsByte, IsObject, AreObjects, IsQueue}
 use Rattle.meaning_laws.proofs.soundness.Becoming.{Becomes, pointer_becomes}
 use Rattle.meaning_laws.proofs.soundness.Queues.{distinct_none}
 use Rattle.meaning_laws.proofs.soundness.Touching.{object_is}
+use Rattle.meaning_laws.proofs.dangling.Returning.{ended_length}
 
 -- the objects of some births die, and each other is the same
 pub record Drops (old new : List Object) (dying : List ℕ) : Type 0 where
@@ -58,11 +59,6 @@ module _ (old new : List Object) (dying : List ℕ) (d : Drops old new dying) (n
 
 -- Burying
 
-never_queued : (st : Standing) → is_queued (buried_standing st) ≡ false
-never_queued Live = refl
-never_queued (Queued line) = refl
-never_queued Dead = refl
-
 module _ (objects : List Object) (queue : List ℕ) (sane : Sane objects queue) where
   in_buried : (P : Object → Type 0) (b : ℕ) → P (record (object_at objects b) { standing = buried_standing (object_at objects b).standing }) → P (object_at (buried objects) b)
   in_buried P b h = subst P (sym (at_buried objects b)) h
@@ -89,12 +85,12 @@ module _ (objects : List Object) (queue : List ℕ) (sane : Sane objects queue) 
         queued = λ b q. absurd (false≢true (sym (unqueued b) ∙ q));
       } where
         unqueued : (b : ℕ) → is_queued (object_at (buried objects) b).standing ≡ false
-        unqueued b = in_buried (λ (o : Object). is_queued o.standing ≡ false) b (never_queued (object_at objects b).standing)
+        unqueued b = in_buried (λ (o : Object). is_queued o.standing ≡ false) b (none_queued (object_at objects b).standing)
 
   -- none is left
   pub buried_queue : IsQueue (buried objects) []
   buried_queue = record {
-    exact = λ b. in_buried (λ (o : Object). false ≡ is_queued o.standing) b (sym (never_queued (object_at objects b).standing));
+    exact = λ b. in_buried (λ (o : Object). false ≡ is_queued o.standing) b (sym (none_queued (object_at objects b).standing));
     once = distinct_none;
   }
 
@@ -130,11 +126,6 @@ at_ended P objects (x ∷ locals) b out in' =
     let same : object_at (ended_one objects x) b ≡ object_at objects b = get_or-set_other objects x b (dead_at objects x) no_object n in
     at_ended P (ended_one objects x) locals b (λ o. subst P (sym same) (out (or_from (nat_eq x b) (is_among locals b) (ne_eqb x b (λ i. n (sym i))) o))) (λ i. subst P (ap (λ (o : Object). let dead : Object = record o { standing = Dead } in dead) (sym same)) (in' (or_right (nat_eq x b) (is_among locals b) i))))
     (cases_eq b x)
-
-ended_length : (objects : List Object) (locals : List ℕ) → length (ended objects locals) ≡ length objects
-ended_length objects [] = refl
-ended_length objects (x ∷ locals) =
-    ended_length (ended_one objects x) locals ∙ length-set objects x (dead_at objects x)
 
 module _ (objects : List Object) (locals : List ℕ) where
   -- the locals are those that die

@@ -13,17 +13,13 @@ use Rattle.meaning_laws.proofs.dangling.Alive.{at_set, is_within, among_left, am
 use Rattle.meaning_laws.proofs.counts.Objects.{same_bool}
 use Rattle.meaning_laws.specs.code.Objects.{IsThere, IsPointer, IsObject, AreObjects, IsQueue}
 use Rattle.meaning_laws.proofs.soundness.Becoming.{Grows, Alike, Born, none_born, not_stale}
+use Rattle.meaning_laws.proofs.dangling.Returning.{queued_lives as standing_lives}
 use Rattle.meaning_laws.proofs.soundness.Lists.{all_or}
 use Rattle.meaning_laws.proofs.soundness.Touching.{object_grows, object_is, slots_point}
 
 -- what is queued is not dead
-lives : (st : Standing) → is_queued st ≡ true → is_dead st ≡ false
-lives Live q = refl
-lives (Queued line) q = refl
-lives Dead q = sym q
-
 pub queued_lives : (objects : List Object) (b : ℕ) → is_queued (object_at objects b).standing ≡ true → is_dead (object_at objects b).standing ≡ false
-queued_lives objects b q = lives (object_at objects b).standing q
+queued_lives objects b q = standing_lives (object_at objects b).standing q
 
 -- the objects and the queue are as the holders of an object want them
 pub sane_of : (objects : List Object) (queue : List ℕ) → AreObjects objects → IsQueue objects queue → Sane objects queue

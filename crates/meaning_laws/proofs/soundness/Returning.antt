@@ -43,28 +43,10 @@ use Rattle.meaning_laws.proofs.soundness.Pinned.{by_register, pins_cons}
 use Rattle.meaning_laws.proofs.soundness.Ready.{Ready, ready_at}
 use Rattle.meaning_laws.proofs.soundness.Frames.{Holds, onto, holds_put, moves, waiting_become}
 use Rattle.meaning_laws.proofs.soundness.Checks.{none_held, no_holder}
+use Rattle.meaning_laws.proofs.dangling.Returning.{in_range, out_range}
+use Rattle.meaning_laws.proofs.counts.Calling.{once_range}
 
 -- Births one after another
-
--- what is before them is not
-out_range : (a n b : ℕ) → b < a → is_among (range_with_len a n) b ≡ false
-out_range a zero b lt = refl
-out_range a (suc n) b lt =
-    or_from (nat_eq a b) (is_among (range_with_len (a + 1) n) b) (ne_eqb a b (λ e. omega (arith, e))) (out_range (a + 1) n b (omega arith))
-
--- each once
-once_range : (a n : ℕ) → Once (range_with_len a n)
-once_range a zero = tt
-once_range a (suc n) = (out_range (a + 1) n a (omega arith), once_range (a + 1) n)
-
--- what is among them
-in_range : (a n b : ℕ) → is_among (range_with_len a n) b ≡ true → (k : ℕ) × (k < n) × (b ≡ a + k)
-in_range a zero b h = absurd (false≢true h)
-in_range a (suc n) b h =
-    ⊎_elim
-    (λ here. let e = eqb-true a b here in (0, omega arith, omega (arith, e)))
-    (λ there. let r = in_range (a + 1) n b there in let e = r.2 in (suc r.0, omega (arith, r.1), omega (arith, e)))
-    (or_cases (nat_eq a b) (is_among (range_with_len (a + 1) n) b) h)
 
 -- each of them is among them
 range_has : (a n k : ℕ) → k < n → is_among (range_with_len a n) (a + k) ≡ true

@@ -41,6 +41,10 @@ append-requires-clause-room g c =
     room_in_queue c.args.self.now c.args.heap.now c.args.bytes.now c.requires.kept.0 c.requires.kept.1 c.args.addr c.args.line c.requires.kept.2 start c.requires.reach c.is_start.ensures.reach
     (λ e. c.if-read_state-eq-STATE_QUEUED.false (c.read_state.ensures.state ∙ e))
 
+pub returns-clause-answer : goal.returns-clause-answer
+returns-clause-answer g c = λ held holds.
+    ((c.is_start.ensures.start held holds).0 c.if-not-is_start.false, (λ e. c.if-read_state-eq-STATE_QUEUED.false (c.read_state.ensures.state ∙ e)))
+
 pub returns-clause-queued : goal.returns-clause-queued
 returns-clause-queued g c = λ held queue kept.
     let start = (c.is_start.ensures.start held kept.holds).0 c.if-not-is_start.false in
