@@ -6,6 +6,8 @@ ghost use Rattle.meaning_laws.specs.compiled.Laws.{CodeMeansCore, CodesAreFew, C
 ghost use Rattle.meaning_laws.specs.counted.Laws.{CountsAreHolders, EachStateIsCounted, TestedRunsAreCounted, TestedRunsEnd};
 ghost use Rattle.meaning_laws.specs.objects.Laws.{CoreBeginsWell, NothingEverDangles, PlainRunsEndPlainly, RunsEnd, StatementIsMade, StatementLeavesLess, StatementStaysGood};
 
+use core_tree::{layouts_of_types, live_by_paths};
+
 /// The meaning of a sound core has ended, for every input, number of steps and size of the heap, and it did not end by
 /// reading a pointer to an object that is dead. So no run touches what was freed: a free that would leave such a pointer
 /// ends the run instead.
@@ -127,7 +129,10 @@ pub fn code_runs_end()
 pub fn codes_are_well_formed()
     ensures formed { CodesAreWellFormed }
     ensures few { CodesAreFew }
-{}
+{
+    layouts_of_types();
+    live_by_paths();
+}
 
 /// The run of the code of a sound core with exact pins, which ascend at each point, is the run of the core by numbers, for
 /// every input, number of steps and size of the heap: the same trace, the same end, the same number for each object, and the

@@ -83,6 +83,21 @@ module _ (objects : List Object) where
   pub truth_is_fresh : (b : Bool) → HoldsFresh objects (truth b)
   truth_is_fresh b = truth_fresh b
 
+-- What is printed
+
+pub item_cond : (b : Bool) (one other : Result (List ℕ) Refusal) → Done Any one → Done Any other → Done Any (cond b one other)
+item_cond true one other h i = h
+item_cond false one other h i = i
+
+-- what is printed is not refused for want of life
+abbrev pub Lives : Option Refusal → Type 0
+Lives None = Unit {0}
+Lives (Some e) = e ≢ ReadsDead
+
+pub front_lives : (text : Result (List ℕ) Refusal) (rest : Printed) → Done Any text → Lives rest.refused → Lives (in_front text rest).refused
+front_lives (Ok text) rest h i = i
+front_lives (Err e) rest h i = h
+
 -- Strings
 
 module _ (objects : List Object) (queue : List ℕ) (sane : Sane objects queue) where
@@ -125,10 +140,6 @@ module _ (objects : List Object) (queue : List ℕ) (sane : Sane objects queue) 
   abbrev pub FreshValues : List Value → Type 0
   FreshValues values = (k : ℕ) → IsFresh objects (pointer_at values k)
 
-  item_cond : (b : Bool) (one other : Result (List ℕ) Refusal) → Done Any one → Done Any other → Done Any (cond b one other)
-  item_cond true one other h i = h
-  item_cond false one other h i = i
-
   item_done : (piece : Piece) (values : List Value) → FreshValues values → Done Any (item_text objects piece values)
   item_done (Plain text) values h = tt
   item_done (Item left zeros width conv kind) values h =
@@ -141,15 +152,6 @@ module _ (objects : List Object) (queue : List ℕ) (sane : Sane objects queue) 
   behind_values : (piece : Piece) (values : List Value) → FreshValues values → FreshValues (arguments_behind piece values)
   behind_values (Plain text) values h = h
   behind_values (Item left zeros width conv kind) values h = dropped values h
-
-  -- what is printed is not refused for want of life
-  abbrev pub Lives : Option Refusal → Type 0
-  Lives None = Unit {0}
-  Lives (Some e) = e ≢ ReadsDead
-
-  front_lives : (text : Result (List ℕ) Refusal) (rest : Printed) → Done Any text → Lives rest.refused → Lives (in_front text rest).refused
-  front_lives (Ok text) rest h i = i
-  front_lives (Err e) rest h i = h
 
   pub printed_lives : (pieces : List Piece) (values : List Value) → FreshValues values → Lives (printed objects pieces values).refused
   printed_lives [] values h = tt

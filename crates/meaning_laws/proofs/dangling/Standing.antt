@@ -269,7 +269,7 @@ module _ (core : Core) (sound : IsSound core) (s : State) (func : Func) (good : 
   puts_stays kind at on r e (Ok text) h = write_same kind at on r e (number (pos 0)) refl
   puts_stays kind at on r e (Err x) h = refused line x h
 
-  print_lives : (kind : StmKind) → At kind → GoesOn kind → (r : ℕ) → written kind ≡ Some r → (bytes : List ℕ) (why : Option Refusal) → Lives s.objects s.queue good.sane why → StaysGood core (print line r bytes why s)
+  print_lives : (kind : StmKind) → At kind → GoesOn kind → (r : ℕ) → written kind ≡ Some r → (bytes : List ℕ) (why : Option Refusal) → Lives why → StaysGood core (print line r bytes why s)
   print_lives kind at on r e bytes None h = write_same kind at on (Some r) e _ refl
   print_lives kind at on r e bytes (Some x) h = refused line x h
 

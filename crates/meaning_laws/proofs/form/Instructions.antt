@@ -23,6 +23,7 @@ use Rattle.meaning_laws.proofs.form.Flow.{hand_leads, hand_leads_on, hand_starts
 use Rattle.meaning_laws.proofs.form.Handed.{handed_all}
 use Rattle.meaning_laws.proofs.form.Handing.{each_hand}
 use Rattle.meaning_laws.proofs.form.Returns.{answered}
+use Rattle.meaning_laws.proofs.form.Pinned.{LiveByPaths}
 use Rattle.meaning_laws.proofs.form.Sites.{hand_site, does_site}
 use Rattle.meaning_laws.proofs.form.Sorts.{hands_over, handed_is}
 use Rattle.meaning_laws.proofs.form.Spots.{Spot, places, start, last, atoms, each_instr}
@@ -49,7 +50,7 @@ one_in_range [] k a all h = absurd (none-some a h)
 one_in_range (x ∷ atoms) zero a all h = subst InRange (same_Some x a h) all.0
 one_in_range (x ∷ atoms) (suc k) a all h = one_in_range atoms k a all.1 h
 
-module _ (core : Core) {pins : Pins} (code : Code) (sound : IsSound core) (exact : AreExact core pins) (ascending : AreAscending pins) (is : IsCompiled core pins code) where
+module _ (paths : LiveByPaths) (core : Core) {pins : Pins} (code : Code) (sound : IsSound core) (exact : AreExact core pins) (ascending : AreAscending pins) (is : IsCompiled core pins code) where
   hands_what_is_there : (s : Spot core code is) (k : ℕ) (a : Atom) → slice_get (atoms core code is s) k ≡ Some a → HandsOrTakes code s.entry (start core code is s + k) (hand_of a) (hands (hand_of a).op)
   hands_what_is_there s k a h =
       let typed = (sound.functions s.f s.func s.here).typed s.point s.stm s.found in
@@ -99,7 +100,7 @@ module _ (core : Core) {pins : Pins} (code : Code) (sound : IsSound core) (exact
         inside = leads_inside core code sound is s n;
         ahead = leads_ahead core code sound is s n;
         afresh = leads_afresh core code sound is s n;
-        site = does_site core code sound is exact ascending s n;
+        site = does_site core code sound is paths exact ascending s n;
       }
 
   pub instructions : EachInstr code (IsInstr code)

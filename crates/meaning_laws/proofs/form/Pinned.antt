@@ -1,6 +1,6 @@
 -- The pins of a statement are the registers that count at the last of its instructions.
 use Rattle.std.proofs.Common.{◌≡◌, ℕ, ◌≢◌, ◌&&◌, Bool, true, false, not, cond, Option, Some, None, refl, sym, ◌∙◌, ap}
-use Rattle.std.specs.Prelude.{slice_get, option_map, nat_eq, IsTrue}
+use Rattle.std.specs.Prelude.{◌↔◌, List, slice_get, option_map, nat_eq, IsTrue}
 use Rattle.std.specs.Option.{option_map_or}
 use Rattle.std.proofs.lemmas.Bool.{both_ways, and_parts, and_from, ne_eqb, eqb-false, not-true, not_from_false}
 use Rattle.core_tree.specs.declared.program.Core.{Core}
@@ -8,11 +8,11 @@ use Rattle.core_tree.specs.declared.program.Func.{Func}
 use Rattle.core_tree.specs.declared.program.Reg.{Reg}
 use Rattle.core_tree.specs.declared.statements.StmKind.{StmKind}
 use Rattle.core_tree.specs.declared.statements.StmKind.TheVariants as stm
-use Rattle.core_tree.specs.Lives.{is_live}
+use Rattle.core_tree.specs.declared.statements.Stm.{Stm}
+use Rattle.core_tree.specs.Lives.{IsLive, is_live}
 use Rattle.core_tree.specs.Sorts.{Sort, Integer, Pointer}
 use Rattle.core_tree.specs.Sorts as core_sorts
 use Rattle.core_tree.specs.Sound.{IsSound}
-use Rattle.core_tree.proofs.Paths.{live_by_paths}
 use Rattle.object_meaning.specs.objects.Holding.{takes_answer}
 use Rattle.object_meaning.specs.counted.Pinning.{Pins, pins_of, holds_pointer, holds_on, counts_at, AreExact}
 use Rattle.flat_code.specs.declared.instructions.Instr.{Instr}
@@ -76,14 +76,18 @@ same_counts func point (stm.Free p) r h = and_true (holds_on func point r)
 same_counts func point stm.Leave r h = and_true (holds_on func point r)
 same_counts func point kind r h = absurd (both_ways false refl h)
 
-module _ (core : Core) {pins : Pins} (code : Code) (sound : IsSound core) (is : IsCompiled core pins code) (s : Spot core code is) (n : ℕ) where
+-- the test of liveness says what paths say: the law `live_by_paths` of `core_tree`
+abbrev pub LiveByPaths : Type 0
+LiveByPaths = (body : List Stm) (point r : ℕ) → IsTrue (is_live body point r) ↔ IsLive body point r
+
+module _ (paths : LiveByPaths) (core : Core) {pins : Pins} (code : Code) (sound : IsSound core) (is : IsCompiled core pins code) (s : Spot core code is) (n : ℕ) where
   abbrev i : Instr
   i = doing (places core code is s) s.stm.kind n
 
   counts : (r : ℕ) → may_free s.stm.kind ≡ true → Counts code s.entry (last core code is s) i r → IsTrue (counts_at s.func s.point s.stm.kind r)
   counts r h c =
       let sort = points (slice_get s.func.regs r) (sym (register_is core code is s.f s.func s.entry s.matches r) ∙ c.sort) in
-      let live = (live_by_paths s.func.body s.point r).1 ((same_lives core code sound is s.f s.func s.here r s.point s.stm s.found).0 c.live) in
+      let live = (paths s.func.body s.point r).1 ((same_lives core code sound is s.f s.func s.here r s.point s.stm s.found).0 c.live) in
       let free = kept (awaits s.stm.kind) r (λ e. c.kept (same_answered (places core code is s) s.stm.kind n ∙ e)) in
       same_counts s.func s.point s.stm.kind r h ∙
       and_from (holds_on s.func s.point r) (not (takes_answer (awaits s.stm.kind) r)) (and_from (holds_pointer s.func r) (is_live s.func.body s.point r) sort live) free
@@ -94,7 +98,7 @@ module _ (core : Core) {pins : Pins} (code : Code) (sound : IsSound core) (is : 
       let holds = and_parts (holds_pointer s.func r) (is_live s.func.body s.point r) parts.0 in
       record {
         sort = register_is core code is s.f s.func s.entry s.matches r ∙ is_pointer (slice_get s.func.regs r) holds.0;
-        live = (same_lives core code sound is s.f s.func s.here r s.point s.stm s.found).1 ((live_by_paths s.func.body s.point r).0 holds.1);
+        live = (same_lives core code sound is s.f s.func s.here r s.point s.stm s.found).1 ((paths s.func.body s.point r).0 holds.1);
         kept = λ e. is_kept (awaits s.stm.kind) r parts.1 (sym (same_answered (places core code is s) s.stm.kind n) ∙ e);
       }
 

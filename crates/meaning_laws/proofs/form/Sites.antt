@@ -28,7 +28,7 @@ use Rattle.meaning_laws.proofs.form.Flow.{first_inside, last_inside}
 use Rattle.meaning_laws.proofs.form.Handing.{each_hand}
 use Rattle.meaning_laws.proofs.form.Places.{place_more, place_all}
 use Rattle.meaning_laws.proofs.form.Spots.{Spot, places, start, last, atoms}
-use Rattle.meaning_laws.proofs.form.Pinned.{pins_are}
+use Rattle.meaning_laws.proofs.form.Pinned.{LiveByPaths, pins_are}
 
 -- Which instructions have a site
 
@@ -168,8 +168,8 @@ module _ (core : Core) {pins : Pins} (code : Code) (sound : IsSound core) (is : 
       let there = (is.statements s.f s.point s.func s.stm s.here s.found).hands k a h in
       subst (HasSite code s.entry (start core code is s + k) (hand_of a)) (sym (hand_has_no_site a)) (has_none (start core code is s + k) (hand_of a) there (hand_has_no_site a))
 
-  pub does_site : AreExact core pins → AreAscending pins → (s : Spot core code is) (n : ℕ) → HasSite code s.entry (last core code is s) (doing (places core code is s) s.stm.kind n) (has_site (doing (places core code is s) s.stm.kind n).op)
-  does_site exact ascending s n =
+  pub does_site : LiveByPaths → AreExact core pins → AreAscending pins → (s : Spot core code is) (n : ℕ) → HasSite code s.entry (last core code is s) (doing (places core code is s) s.stm.kind n) (has_site (doing (places core code is s) s.stm.kind n).op)
+  does_site paths exact ascending s n =
       let place = places core code is s in
       let i = doing place s.stm.kind n in
       let same = frees place s.stm.kind n in
@@ -181,7 +181,7 @@ module _ (core : Core) {pins : Pins} (code : Code) (sound : IsSound core) (is : 
         | true ↦ λ h. (
           pins_of pins s.f s.point,
           ap (λ sites. site_of sites (last core code is s)) is.sites ∙ own_site_found core pins s.f s.func s.here s.point s.stm s.found h,
-          pins_are core code sound is s n exact ascending h,
+          pins_are paths core code sound is s n exact ascending h,
         )
         | false ↦ λ h. has_none (last core code is s) does.0 does.1 (stands ∙ h)
       ]

@@ -7,6 +7,7 @@ use Rattle.std.proofs.lemmas.Option.{slice_get_within, slice_get-get_or, get_or_
 use Rattle.c_print.specs.Format.{IsFormat}
 use Rattle.c_print.specs.Pieces.{pieces_of}
 use Rattle.c_types.specs.declared.layouts.Layout.{Layout}
+use Rattle.c_types.specs.Layouts.{IsSound as IsSoundLayout}
 use Rattle.core_tree.specs.declared.program.Core.{Core}
 use Rattle.core_tree.specs.declared.program.Func.{Func}
 use Rattle.core_tree.specs.declared.program.Mem.{Mem}
@@ -18,7 +19,6 @@ use Rattle.core_tree.specs.declared.statements.StmKind.TheVariants as stm
 use Rattle.core_tree.specs.LayoutsOfTypes.{IsLayoutOfType}
 use Rattle.core_tree.specs.Sorts.{TakesFormat, IsTyped}
 use Rattle.core_tree.specs.Sound.{IsSound, IsStatic, main_of, element_layouts}
-use Rattle.core_tree.proofs.TypeLayouts.{type_layout_sound, type_layout_small}
 use Rattle.object_meaning.specs.objects.Meaning.{line_of}
 use Rattle.flat_code.specs.declared.program.Code.{Code}
 use Rattle.flat_code.specs.WellFormed.{IsLayout, IsShort}
@@ -61,13 +61,13 @@ module _ (core : Core) {pins : Pins} (code : Code) (sound : IsSound core) (is : 
   layout_type : (layout : Layout) → IsLayoutIn core layout → IsLayoutOfType layout
   layout_type layout h = ⊎_elim (static_type layout) (func_type layout) h
 
-  pub layouts_are : All IsLayout code.layouts
-  layouts_are =
+  pub layouts_are : ((l : Layout) → IsLayoutOfType l → IsSoundLayout l) → ((l : Layout) → IsLayoutOfType l → l.size ≤ 268435456) → All IsLayout code.layouts
+  layouts_are sound_layout small_layout =
       All-weaker (IsLayoutIn core) IsLayout
       (λ layout h.
       let type = layout_type layout h in
-      let kept = type_layout_sound layout type in
-      record { size = type_layout_small layout type; sound = kept })
+      let kept = sound_layout layout type in
+      record { size = small_layout layout type; sound = kept })
       code.layouts is.layouts
 
   -- Formats

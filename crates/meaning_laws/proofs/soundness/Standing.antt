@@ -43,7 +43,7 @@ use Rattle.meaning_laws.specs.code.Laws.{StaysGood}
 use Rattle.meaning_laws.proofs.soundness.Numbers.{IsInteger, integer_is, natural_number, wrapped_number}
 use Rattle.meaning_laws.proofs.soundness.Becoming.{Grows, Born, grows_same, alike_grows, none_born, pointer_grows}
 use Rattle.meaning_laws.proofs.soundness.Touching.{Changed}
-use Rattle.meaning_laws.proofs.soundness.Texts.{Lives}
+use Rattle.meaning_laws.proofs.dangling.Giving.{Lives}
 use Rattle.meaning_laws.proofs.soundness.Made.{heap_is, append_grows, one_more, one_queue, one_born, new_start}
 use Rattle.meaning_laws.proofs.soundness.Queues.{alike_queue}
 use Rattle.meaning_laws.proofs.soundness.Ready.{Ready}

@@ -14,15 +14,10 @@ use Rattle.object_meaning.specs.objects.Strings.{behind, byte_behind, string_fro
 use Rattle.object_meaning.specs.objects.Printing.{Printed, item_text, arguments_behind, in_front, printed}
 use Rattle.meaning_laws.proofs.dangling.Touching.{Done, trapped, then_done}
 use Rattle.meaning_laws.proofs.dangling.Alive.{is_within}
-use Rattle.meaning_laws.proofs.dangling.Giving.{Any}
+use Rattle.meaning_laws.proofs.dangling.Giving.{Any, Lives, item_cond, front_lives}
 use Rattle.meaning_laws.specs.code.Objects.{IsPointer, AreObjects}
 use Rattle.meaning_laws.proofs.soundness.Numbers.{done_weaker, natural_number}
 use Rattle.meaning_laws.proofs.soundness.Touching.{Leads, leads, Reaches, access_integer_done, object_is}
-
--- what is printed is not refused for want of life
-abbrev pub Lives : Option Refusal → Type 0
-Lives None = Unit {0}
-Lives (Some e) = e ≢ ReadsDead
 
 less_than_one : IsNumber (negsuc 0)
 less_than_one = (omega (arith, ints), omega (arith, ints))
@@ -78,10 +73,6 @@ module _ (objects : List Object) (whole : AreObjects objects) where
   abbrev pub AllPoint : List Value → Type 0
   AllPoint values = (k : ℕ) → IsPointer objects (pointer_at values k)
 
-  item_cond : (b : Bool) (one other : Result (List ℕ) Refusal) → Done Any one → Done Any other → Done Any (cond b one other)
-  item_cond true one other h i = h
-  item_cond false one other h i = i
-
   item_done : (piece : Piece) (values : List Value) → AllPoint values → Done Any (item_text objects piece values)
   item_done (Plain text) values h = tt
   item_done (Item left zeros width conv kind) values h =
@@ -94,10 +85,6 @@ module _ (objects : List Object) (whole : AreObjects objects) where
   behind_values : (piece : Piece) (values : List Value) → AllPoint values → AllPoint (arguments_behind piece values)
   behind_values (Plain text) values h = h
   behind_values (Item left zeros width conv kind) values h = dropped values h
-
-  front_lives : (text : Result (List ℕ) Refusal) (rest : Printed) → Done Any text → Lives rest.refused → Lives (in_front text rest).refused
-  front_lives (Ok text) rest h i = i
-  front_lives (Err e) rest h i = h
 
   pub printed_lives : (pieces : List Piece) (values : List Value) → AllPoint values → Lives (printed objects pieces values).refused
   printed_lives [] values h = tt
