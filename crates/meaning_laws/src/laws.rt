@@ -125,14 +125,19 @@ pub fn code_runs_end()
 {}
 
 /// The code of a sound core with pins that are exact and ascend is well formed, where it has fewer than 2^32 layouts and
-/// formats. Its number of instructions is bounded by the size of its core.
+/// formats.
 pub fn codes_are_well_formed()
-    ensures formed { CodesAreWellFormed }
-    ensures few { CodesAreFew }
+    ensures { CodesAreWellFormed }
 {
     layouts_of_types();
     live_by_paths();
 }
+
+/// The code of a core has at most 14 instructions for each unit of the core's size, one for each function and one at the
+/// start.
+pub fn codes_are_few()
+    ensures { CodesAreFew }
+{}
 
 /// The run of the code of a sound core with exact pins, which ascend at each point, is the run of the core by numbers, for
 /// every input, number of steps and size of the heap: the same trace, the same end, the same number for each object, and the

@@ -27,9 +27,10 @@
 mod laws;
 
 pub use laws::{
-    code_means_core, code_runs_end, codes_are_well_formed, core_begins_well, counted_means_core,
-    digit_is_well_formed, instruction_is_there, main_gives_integer, nothing_dangles,
-    operand_is_handed, operands_are_there, plain_runs_end_plainly, run_begins_well, run_ends,
-    running_pins_are_fresh, statement_is_made, statement_leaves_less, statement_stays_good,
-    step_leaves_less, step_stays_good, tested_runs_end, waiting_pins_are_fresh,
+    code_means_core, code_runs_end, codes_are_few, codes_are_well_formed, core_begins_well,
+    counted_means_core, digit_is_well_formed, instruction_is_there, main_gives_integer,
+    nothing_dangles, operand_is_handed, operands_are_there, plain_runs_end_plainly,
+    run_begins_well, run_ends, running_pins_are_fresh, statement_is_made, statement_leaves_less,
+    statement_stays_good, step_leaves_less, step_stays_good, tested_runs_end,
+    waiting_pins_are_fresh,
 };
