@@ -40,7 +40,7 @@ pub returns-in-Err-clause-told : goal.returns-in-Err-clause-told
 returns-in-Err-clause-told g c = λ left taken n h i begins.
     let told = rw c.in-Err.is at c.one_step.ensures.told in
     let no : c.in-Err.halt ≢ halt.Dangling = λ e. let moves = rw (c.in-Err.is, e) at c.one_step.ensures.moves in never c.statement_stays_good.ensures c.args.core.now c.requires.sound (fits_in c.statements.held) c.statements.machine c.one_step.new.machine c.statements.invariant.good moves in
-    rw c.answer.ensures (reached_end c.run_ends.ensures c.args.core.now left n c.args.held.now.heap taken c.statements.machine c.one_step.new.machine c.statements.held _ _ _ _ (c.statements.invariant.told left taken n h i begins) c.requires.sound c.in-Err.halt no told)
+    rw c.answer.ensures (reached_end c.args.core.now left n c.args.held.now.heap taken c.statements.machine c.one_step.new.machine c.statements.held _ _ _ _ (c.statements.invariant.told left taken n h i begins) c.run_ends.ensures c.requires.sound c.in-Err.halt no told)
 
 pub returns-in-Err-clause-faults : goal.returns-in-Err-clause-faults
 returns-in-Err-clause-faults g c =
