@@ -15,7 +15,6 @@ use Rattle.core_tree.specs.declared.statements.Atom.{Atom}
 use Rattle.core_tree.specs.declared.statements.LibName.{LibName}
 use Rattle.core_tree.specs.declared.statements.StmKind.{StmKind}
 use Rattle.core_tree.specs.declared.statements.StmKind.TheVariants as stm
-use Rattle.core_tree.specs.Sorts.{TakesCall}
 use Rattle.core_tree.specs.Sound.{IsSound, LeadsOn}
 use Rattle.flat_code.specs.declared.instructions.Instr.{Instr}
 use Rattle.flat_code.specs.declared.instructions.Op.TheVariants as op

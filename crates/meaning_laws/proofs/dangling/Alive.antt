@@ -6,11 +6,10 @@ use Rattle.std.proofs.lemmas.Bool.{false≢true, true≢false, cases_lt, cases_e
 use Rattle.std.proofs.lemmas.List.{get_or_past, get_or-set_same, get_or-set_other, get_or_append_left, get_or-append-add, length-set, length-append}
 use Rattle.hs_base.specs.declared.values.Pointer.{Pointer}
 use Rattle.hs_base.specs.declared.values.Pointer.TheVariants as pointer
-use Rattle.hs_base.specs.declared.values.Value.{Value}
 use Rattle.hs_base.specs.Access.{with_object}
 use Rattle.hs_base.specs.Freeing.{is_heap, queued}
 use Rattle.hs_base.specs.Object.{Object, Queued, is_dead, is_queued, no_object, object_at}
-use Rattle.object_meaning.specs.objects.Values.{is_stale, pointer_in}
+use Rattle.object_meaning.specs.objects.Values.{is_stale}
 use Rattle.object_meaning.specs.objects.Holding.{is_among}
 
 -- each object that was alive still is, and is on the heap or not as before

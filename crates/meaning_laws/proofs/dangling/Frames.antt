@@ -1,25 +1,21 @@
 -- What holds of the state of a run before each statement, and within one before the run moves on.
-use Rattle.std.proofs.Common.{◌≡◌, ℕ, pos, ◌+◌, ◌<◌, ◌≤◌, Bool, true, false, List, [], ◌∷◌, length, get_or, set, Option, Some, None, refl, sym, ap, ◌∙◌, subst, arith, ⊎_elim}
+use Rattle.std.proofs.Common.{◌≡◌, ℕ, pos, ◌+◌, ◌<◌, Bool, false, List, [], ◌∷◌, length, get_or, set, Option, Some, None, refl, sym, ap, ◌∙◌, subst, arith, ⊎_elim}
 use Rattle.std.specs.Prelude.{slice_get, Contains}
 use Rattle.std.proofs.lemmas.Bool.{cases_lt, cases_eq, ne_eqb}
 use Rattle.std.proofs.lemmas.List.{get_or_past, get_or-set_same, get_or-set_other, length-set}
 use Rattle.hs_base.specs.declared.values.Value.{Value}
-use Rattle.hs_base.specs.Freeing.{is_heap}
-use Rattle.hs_base.specs.Object.{Object, object_at}
+use Rattle.hs_base.specs.Object.{Object}
 use Rattle.hs_base.specs.State.{State, Frame}
-use Rattle.core_tree.specs.declared.statements.Atom.{Atom}
 use Rattle.core_tree.specs.declared.statements.Stm.{Stm}
-use Rattle.core_tree.specs.declared.statements.StmKind.TheVariants as stm
 use Rattle.core_tree.specs.declared.program.Func.{Func}
 use Rattle.core_tree.specs.declared.program.Core.{Core}
 use Rattle.core_tree.specs.Statements.{written, writes, edges}
 use Rattle.core_tree.specs.Lives.{is_live}
-use Rattle.core_tree.specs.Sound.{IsFunction, Opens, goes, scopes_after}
+use Rattle.core_tree.specs.Sound.{IsFunction, goes, scopes_after}
 use Rattle.object_meaning.specs.objects.Values.{number}
-use Rattle.meaning_laws.specs.objects.Good.{Alive, HoldsFresh, Sane, IsKept, WaitsAt, Waits, Holds}
-use Rattle.meaning_laws.specs.objects.Dangling.{needed, register}
+use Rattle.meaning_laws.specs.objects.Good.{HoldsFresh, Sane, IsKept, WaitsAt, Waits, Holds}
+use Rattle.meaning_laws.specs.objects.Dangling.{needed}
 use Rattle.object_meaning.specs.objects.Going.{at_point, put}
-use Rattle.object_meaning.specs.objects.Holding.{takes_answer}
 use Rattle.meaning_laws.proofs.dangling.Alive.{Grows, fresh_grows}
 use Rattle.meaning_laws.proofs.dangling.Lively.{live_back, needed_live, edge_at}
 

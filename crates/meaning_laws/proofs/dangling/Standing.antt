@@ -11,7 +11,6 @@ use Rattle.hs_base.specs.Freeing.{is_heap, freed_at, first_held, queued}
 use Rattle.hs_base.specs.Object.{Object, is_dead, is_queued, no_object, object_at}
 use Rattle.hs_base.specs.State.{State}
 use Rattle.hs_base.specs.Trace.{Event, Dangling}
-use Rattle.hs_base.specs.Runs as runs
 use Rattle.c_types.specs.declared.layouts.Layout.{Layout}
 use Rattle.c_print.specs.declared.piece.Piece.{Piece}
 use Rattle.core_tree.specs.declared.statements.Atom.{Atom}

@@ -8,7 +8,7 @@ use Rattle.hs_base.specs.declared.values.Pointer.{Pointer}
 use Rattle.hs_base.specs.declared.values.Pointer.TheVariants as pointer
 use Rattle.hs_base.specs.Access.{with_object}
 use Rattle.hs_base.specs.Freeing.{is_heap, is_pointer_to, buried, buried_standing, ended}
-use Rattle.hs_base.specs.Object.{Object, Standing, Live, Queued, Dead, is_dead, is_queued, no_object, object_at}
+use Rattle.hs_base.specs.Object.{Object, Live, Dead, is_dead, is_queued, no_object, object_at}
 use Rattle.c_types.specs.Layouts.{AreSlots}
 use Rattle.object_meaning.specs.objects.Holding.{is_among, inside_objects}
 use Rattle.meaning_laws.specs.objects.Good.{Sane}

@@ -6,7 +6,7 @@ use Rattle.std.proofs.lemmas.List.{length-set}
 use Rattle.std.proofs.lemmas.List.Elements.{All-set, All-weaker}
 use Rattle.hs_base.specs.declared.values.Pointer.TheVariants as pointer
 use Rattle.hs_base.specs.Freeing.{is_heap, queued}
-use Rattle.hs_base.specs.Object.{Object, Standing, Live, Queued, Dead, is_dead, is_queued, object_at}
+use Rattle.hs_base.specs.Object.{Object, Live, Queued, Dead, is_dead, is_queued, object_at}
 use Rattle.object_meaning.specs.objects.Holding.{is_among}
 use Rattle.meaning_laws.specs.objects.Good.{Sane}
 use Rattle.meaning_laws.proofs.dangling.Alive.{at_set, is_within, among_left, among_last, among_cases}

@@ -4,7 +4,7 @@ use Rattle.std.proofs.Common.{◌≡◌, ◌≢◌, ℕ, zero, suc, ◌+◌, ◌
 use Rattle.std.specs.Prelude.{slice_get}
 use Rattle.std.specs.List.{range_with_len}
 use Rattle.std.specs.Option.{option_and_then, option_map_or}
-use Rattle.std.proofs.lemmas.Bool.{true≢false, false≢true, eqb-true, ne_eqb, or_cases, or_left, or_right, or_from, eq-eqb, cases_lt}
+use Rattle.std.proofs.lemmas.Bool.{true≢false, or_left, or_right, eq-eqb, cases_lt}
 use Rattle.std.proofs.lemmas.List.{length-map}
 use Rattle.hs_base.specs.declared.values.Value.{Value}
 use Rattle.hs_base.specs.Freeing.{is_pointer_to, pointers_to, pointers_inside, objects_of, end_numbers, ended}
@@ -31,7 +31,6 @@ use Rattle.object_meaning.specs.code.Pinning.{pinned}
 use Rattle.object_meaning.specs.code.Entering.{layout_in, locals_of}
 use Rattle.object_meaning.specs.code.Returning.{running_locals, answer_register, resumed, go_back, end_locals, give_back}
 use Rattle.meaning_laws.specs.counted.Counts.{inside_living}
-use Rattle.meaning_laws.proofs.counts.Weighing.{Once}
 use Rattle.meaning_laws.proofs.counts.Objects.{living_split, ended_living}
 use Rattle.meaning_laws.specs.code.Objects.{IsOfSort, IsPointer, AreObjects}
 use Rattle.meaning_laws.specs.code.Counts.{in_pins}

@@ -1,17 +1,17 @@
 -- Strings and what is printed: never refused for want of life, and no longer than an object.
-use Rattle.std.proofs.Common.{◌≢◌, ℕ, ℤ, zero, suc, negsuc, ◌+◌, ◌<◌, ◌^◌, Bool, true, false, cond, nat_eq, nat_lt, List, [], ◌∷◌, length, drop, Option, Some, None, Result, Ok, Err, arith}
+use Rattle.std.proofs.Common.{ℕ, ℤ, zero, suc, negsuc, ◌+◌, ◌<◌, ◌^◌, Bool, true, false, cond, nat_eq, nat_lt, List, [], ◌∷◌, length, drop, Result, Ok, arith}
 use Rattle.std.proofs.lemmas.Int.{ints}
 use Rattle.hs_base.specs.declared.values.Pointer.{Pointer}
 use Rattle.hs_base.specs.declared.values.Pointer.TheVariants as pointer
 use Rattle.hs_base.specs.declared.values.Value.{Value}
-use Rattle.hs_base.specs.Access.{Refusal, ReadsDead, and_then}
+use Rattle.hs_base.specs.Access.{Refusal, and_then}
 use Rattle.hs_base.specs.Object.{Object, object_at}
 use Rattle.c_print.specs.declared.piece.Piece.{Piece}
 use Rattle.c_print.specs.declared.piece.Piece.TheVariants.{Plain, Item}
 use Rattle.core_tree.specs.Sound.{IsNumber}
 use Rattle.object_meaning.specs.objects.Values.{pointer_at}
 use Rattle.object_meaning.specs.objects.Strings.{behind, byte_behind, string_from, string_at, order_from, order_of, room_at}
-use Rattle.object_meaning.specs.objects.Printing.{Printed, item_text, arguments_behind, in_front, printed}
+use Rattle.object_meaning.specs.objects.Printing.{item_text, arguments_behind, printed}
 use Rattle.meaning_laws.proofs.dangling.Touching.{Done, trapped, then_done}
 use Rattle.meaning_laws.proofs.dangling.Alive.{is_within}
 use Rattle.meaning_laws.proofs.dangling.Giving.{Any, Lives, item_cond, front_lives}
