@@ -21,7 +21,7 @@ use Rattle.core_tree.specs.declared.program.Core.{Core}
 use Rattle.core_tree.specs.Sound.{IsSound, IsFunction, HasNumbers, element_layouts}
 use Rattle.object_meaning.specs.objects.Going.{Next}
 use Rattle.object_meaning.specs.objects.Holding.{statement_in, statement_at}
-use Rattle.object_meaning.specs.objects.Meaning.{format_in, start, act, unless_reads_stale, act_at, enough, step_by}
+use Rattle.object_meaning.specs.objects.Meaning.{format_in, start, act, enough, step_by}
 use Rattle.object_meaning.specs.objects.Calls.{with_locals}
 use Rattle.meaning_laws.specs.objects.Good.{Good}
 use Rattle.meaning_laws.specs.objects.Laws.{StaysGood, LeavesLess, StatementIsMade, StatementStaysGood, StatementLeavesLess, CoreBeginsWell}

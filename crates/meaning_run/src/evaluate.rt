@@ -14,7 +14,9 @@ use crate::halt::Halt;
 use crate::machine::Machine;
 use core_tree::{Core, Func, StmKind, layouts_of_types};
 use hs_base::{End, Line, NoMemory, Sink, Source};
-use meaning_laws::{core_begins_well, run_ends, statement_is_made, statement_leaves_less, statement_stays_good};
+use meaning_laws::{
+    core_begins_well, run_ends, statement_is_made, statement_leaves_less, statement_stays_good,
+};
 use meaning_state::HeldBlocks;
 use std::alloc::Global;
 
