@@ -45,8 +45,9 @@ use Rattle.core_soundness.proofs.Agreeing.{came}
 use Rattle.core_soundness.proofs.Declaring.{tail_depth}
 use Rattle.core_soundness.proofs.Formed.{NoNodes, OneNode, IsLayer, AreLayers, IsSuffix, AreSuffixes, Shaped, Formed, AllFormed, of_typedefs, NoInits}
 use Rattle.core_soundness.proofs.Growth.{good, ok_same, never, behind_test}
-use Rattle.core_soundness.proofs.Keeping.{shows_first, typed_calm, special_still, keeps_refl, told_keeps, constant_keeps, keeps_stepped, stepped_refl, stepped_trans, stepped_names, stepped_scope, constant_calm, keeps_follows}
+use Rattle.core_soundness.proofs.Keeping.{shows_first, typed_calm, special_still, keeps_refl, told_keeps, keeps_tags, keeps_stepped, stepped_refl, stepped_trans, stepped_names, stepped_scope, constant_calm, keeps_follows}
 use Rattle.core_soundness.proofs.LocalsRun.{LocalSpoken, EntrySpoken, EntriesSpoken, DeclarationSpoken}
+use Rattle.core_soundness.proofs.Walks.{constant_keeps, with_type_keeps, begun_keeps, ended_keeps, enum_named_keeps}
 use Rattle.core_soundness.proofs.Parameters.{functions, functions_joined, functions_one, functions_reversed, counts, declared_counts, suffixes_counts}
 use Rattle.core_soundness.proofs.Scopes.{More, more_refl, with_tag_more, file_register}
 use Rattle.core_soundness.proofs.Sorting.{passed, kept_test}
@@ -75,42 +76,11 @@ left_stepped t u c d h x = record {
 
 -- tags
 
-begun_as_keeps : (sort : RecordSort) (name : List ℕ) (named : Option PlainNamed) (c : Context) → Keeps c (begun_as sort name named c).0
-begun_as_keeps sort name (Some (n.Tag type)) c = keeps_refl c
-begun_as_keeps sort name named c = told_keeps (with_new_tag sort name (asked c)).0 c (with_tag_more c.scopes name _)
-
-begun_keeps : (sort : RecordSort) (name : Option (List ℕ)) (c : Context) → Keeps c (begun sort name c).0
-begun_keeps sort None c = record { more = more_refl c.scopes; declared = refl; addressed = refl }
-begun_keeps sort (Some name) c = begun_as_keeps sort name (named_in (tag_name name) (innermost c.scopes)) c
-
-completed_keeps : (line : ℕ) (c : Context) (type : PlainType) (result : Result TagTable TagError) (z : Context × PlainType) → completed_by line c type result ≡ Ok z → Keeps c z.0
-completed_keeps line c type (Ok tags) z q = subst (λ (y : Context × PlainType). Keeps c y.0) (ok_same (record c { tags = tags }, type) z q) (record { more = more_refl c.scopes; declared = refl; addressed = refl })
-completed_keeps line c type (Err error) z q = never _ _ z q
-
-complete_keeps : (line number : ℕ) (type : PlainType) (c : Context) (list : d.Members) (z : Context × PlainType) → complete line number type c list ≡ Ok z → Keeps c z.0
-complete_keeps line number type c list z q = completed_keeps line c type (completion c.tags number list) z (behind_test (is_some (known c.tags.completed number)) DeclaredTwice line (completed_by line c type (completion c.tags number list)) z q)
-
-ended_keeps : (line : ℕ) (sort : RecordSort) (type : PlainType) (c : Context) (list : d.Members) (z : Context × PlainType) → ended line sort type c list ≡ Ok z → Keeps c z.0
-ended_keeps line r.Struct (Struct number) c list z q = complete_keeps line number (Struct number) c list z q
-ended_keeps line r.Union (Union number) c list z q = complete_keeps line number (Union number) c list z q
-ended_keeps line sort type c list z q = never _ _ z q
-
-enum_named_keeps : (line : ℕ) (name : Option (List ℕ)) (c : Context) (z : Context × PlainType) → enum_named line name c ≡ Ok z → Keeps c z.0
-enum_named_keeps line None c z q = subst (λ (y : Context × PlainType). Keeps c y.0) (ok_same (c, Int i.Int) z q) (keeps_refl c)
-enum_named_keeps line (Some name) c z q =
-    subst (λ (y : Context × PlainType). Keeps c y.0) (passed _ _ line (record c { scopes = with_name c.scopes (tag_name name) (n.Tag (Int i.Int)) }, Int i.Int) z q)
-    (record { more = with_tag_more c.scopes name (Int i.Int); declared = refl; addressed = refl })
-
-pub with_type_keeps : (answer : Checked (names.Context × PlainType)) (c : Context) (z : Context × PlainType) → ((x : names.Context × PlainType) → answer ≡ Ok x → More c.scopes x.0.scopes) → with_type answer c ≡ Ok z → Keeps c z.0
-with_type_keeps answer c z m q =
-    let x = came answer q in
-    subst (λ (y : Context × PlainType). Keeps c y.0) (ok_same (told x.value.0 c, x.value.1) z x.last) (told_keeps x.value.0 c (m x.value x.is))
-
 special_stepped : (line : ℕ) (tree : Tree) (t : Taken) (c : Context) (z : Context × PlainType) → Follows t c → with_type (special_type line tree (asked c)) c ≡ Ok z → Stepped t c (taken tree t) z.0
 special_stepped line tree t c z h q =
     let x = came (special_type line tree (asked c)) q in
     keeps_stepped t (taken tree t) c z.0 (still_names tree t (special_still line tree (asked c) x.value x.is))
-    (with_type_keeps (special_type line tree (asked c)) c z (λ y e. special_after line tree (asked c) y e) q) h
+    (with_type_keeps Keeps keeps_tags (special_type line tree (asked c)) c (special_after line tree (asked c)) z q) h
 
 maybe_names : (name : Trees) (t : Taken) → NoNodes name → SameNames t (taken (Node f.MaybeName name) t)
 unfolding taken
@@ -174,9 +144,9 @@ mutual
       let start = begun sort (maybe_name name) c in
       let m = came (members parts [] start.0) q in
       let t1 = taken (Node f.MaybeName name) t in
-      let a = named_stepped name t c start.0 g.1.1.0.0 (begun_keeps sort (maybe_name name) c) h in
+      let a = named_stepped name t c start.0 g.1.1.0.0 (begun_keeps Keeps keeps_tags sort (maybe_name name) c) h in
       let b = members_stepped parts [] t1 start.0 m.value g.1.1.1.0.1 a.follows m.is in
-      let e = kept_stepped (each parts t1) m.value.0 z.0 (ended_keeps at sort start.1 m.value.0 m.value.1 z m.last) b.follows in
+      let e = kept_stepped (each parts t1) m.value.0 z.0 (ended_keeps Keeps keeps_tags at sort start.1 m.value.0 m.value.1 z m.last) b.follows in
       stepped_names t (each parts t1) (taken (Node (f.RecordBody sort) (At at ▹ Node f.MaybeName name ▹ Node f.Members parts ▹ none)) t) c z.0 (record_taken t sort at name parts)
       (stepped_trans t t1 (each parts t1) c start.0 z.0 a (stepped_trans t1 (each parts t1) (each parts t1) start.0 m.value.0 z.0 b e))
   tag_stepped (Node (f.EnumBody trailing) (At at ▹ Node f.MaybeName name ▹ Node f.Enumerators parts ▹ none)) line t c z g h q =
@@ -184,7 +154,7 @@ mutual
       let t1 = taken (Node f.MaybeName name) t in
       let a = named_stepped name t c c g.1.1.0.0 (keeps_refl c) h in
       let b = enumerators_stepped parts (pos 0) t1 c e.value g.1.1.1.0.1 a.follows e.is in
-      let k = kept_stepped (each parts t1) e.value z.0 (enum_named_keeps at (maybe_name name) e.value z e.last) b.follows in
+      let k = kept_stepped (each parts t1) e.value z.0 (enum_named_keeps Keeps keeps_tags at (maybe_name name) e.value z e.last) b.follows in
       stepped_names t (each parts t1) (taken (Node (f.EnumBody trailing) (At at ▹ Node f.MaybeName name ▹ Node f.Enumerators parts ▹ none)) t) c z.0 (enum_taken t trailing at name parts)
       (stepped_trans t t1 (each parts t1) c c z.0 a (stepped_trans t1 (each parts t1) (each parts t1) c e.value z.0 b k))
   tag_stepped tree line t c z g h q = special_stepped line tree t c z h q
@@ -226,7 +196,7 @@ mutual
       let e = came (enumerator line name k.value.1.value k.value.0) k.last in
       let t1 = taken v t in
       let t2 = taken (Node f.Enumerator (At line ▹ Leaf (w.Name name) ▹ Node f.MaybeValue (v ▹ none) ▹ none)) t in
-      let a = calm_stepped v t c k.value.0 (constant_calm v c k.value g.0.1.1.1.0.1.0 k.is) (constant_keeps v c k.value k.is) h in
+      let a = calm_stepped v t c k.value.0 (constant_calm v c k.value g.0.1.1.1.0.1.0 k.is) (constant_keeps Keeps keeps_tags v c k.value k.is) h in
       let b = enumerator_stepped line name k.value.1.value t1 k.value.0 e.value a.follows e.is in
       let one = stepped_names t (with_one name None t1) t2 c e.value.0 (valued_enumerator_taken t line name v) (stepped_trans t t1 (with_one name None t1) c k.value.0 e.value.0 a b) in
       stepped_trans t t2 (each rest t2) c e.value.0 z one (enumerators_stepped rest e.value.1 t2 e.value.0 z g.1 one.follows e.last)

@@ -42,7 +42,7 @@ use Rattle.elaboration.specs.Rules.{with_literal}
 use Rattle.core_soundness.proofs.Growth.{grows_told, grows_refl, Reached, reached_ok, reached_after, Led, led_ok, led_unless, ObjectsStay, inner_objects, declared_objects, Passes, passes_trans, grows_passes, passes_beside, stays_beside, Grows, Settled, settled_refl, settled_trans, grows_settled, IsNoObject, with_name_objects, grows_trans, grows_emit, grows_pointer, grows_code, led_refused, led_after, led_barred, grown_literal, Stays, stays_trans, grows_stays, grows_closed, opened_stays, behind_string, good, ok_same, never, Counted, variable_bytes}
 use Rattle.core_soundness.proofs.Scopes.{Safe, first_safe, More, frees, with_name_safe, entered_safe, left_safe, FileKeeps, IsNoFunction, tied_refl, tied_file, keeps_refl, with_name_keeps, with_name_depth, Any, any_names, more_depth, any_name, all_any, Tied, get_left, get_push, get_below, tied_function, here, no_scope}
 use Rattle.core_soundness.proofs.TagSorts.{After, tag_after}
-use Rattle.core_soundness.proofs.Walks.{Steps, constant_keeps, specs_keep, layers_keep, grows_write, begun_keeps, members_keep_one, param_keeps, names_keep, suffix_keeps, found_grows, grown_valued, grows_convert}
+use Rattle.core_soundness.proofs.Walks.{Steps, constant_keeps, specs_keep, layers_keep, grows_write, param_keeps, suffix_keeps, tagging, found_grows, grown_valued, grows_convert}
 use Rattle.core_soundness.proofs.Choices.{either_way}
 
 -- what specs, declarators and the names of locals do to what is known
@@ -177,7 +177,7 @@ passes_step = record {
 }
 
 pub constant_passes : (e : Tree) (b c : Context) → Passes b c → Reached (Passes b) (constant e c)
-constant_passes e b c p z q = passes_trans b c z.0 p (constant_keeps Any Kept passes_step false e c z q p.stays.safe)
+constant_passes e b c p z q = passes_trans b c z.0 p (constant_keeps (Kept false 0) (tagging Any Kept passes_step false) e c z q p.stays.safe)
 
 pub specs_passes : (tree : Tree) (b c : Context) → Passes b c → Reached (Passes b) (specs tree c)
 specs_passes tree b c p z q = passes_trans b c z.0 p (specs_keep Any Kept passes_step false tree c (any_names tree) z q p.stays.safe)
@@ -270,20 +270,11 @@ levels_step = record {
   unlists = λ deep c h. beside_levels c _ refl refl (λ name type i e. e) refl;
 }
 
-pub begun_levels : (sort : RecordSort) (name : Option (List ℕ)) (b c : Context) → Levels b c → Levels b (begun sort name c).0
-begun_levels sort name b c p = levels_trans b c _ p (begun_keeps Any KeptObjects levels_step false sort name c (omega arith))
-
-pub member_levels : (line : ℕ) (name : Option (List ℕ)) (type : PlainType) (list : d.Members) (b c : Context) → Levels b c → Reached (Levels b) (member line name type list c)
-member_levels line name type list b c p z q = levels_trans b c z.0 p (members_keep_one Any KeptObjects levels_step false line name type list c z q (omega arith))
-
 pub param_levels : (line : ℕ) (name : Option (List ℕ)) (type : PlainType) (b c : Context) → 1 ≤ length c.scopes.inner → Levels b c → Reached (Levels b) (param line name type c)
 param_levels line name type b c deep p z q = levels_trans b c z.0 p (param_keeps Any KeptObjects levels_step line name type c (any_name name) z q deep)
 
 pub specs_level : (tree : Tree) (b c : Context) → Levels b c → Reached (Levels b) (specs tree c)
 specs_level tree b c p z q = levels_trans b c z.0 p (specs_keep Any KeptObjects levels_step false tree c (any_names tree) z q (omega arith))
-
-pub member_names_level : (parts : Trees) (line : ℕ) (base : PlainType) (list : d.Members) (b c : Context) → Levels b c → Reached (Levels b) (member_names line base parts list c)
-member_names_level parts line base list b c p z q = levels_trans b c z.0 p (names_keep Any KeptObjects levels_step false parts line base list c (all_any parts) z q (omega arith))
 
 pub layers_level : (tree : Tree) (b c : Context) → Levels b c → Reached (Levels b) (layers tree c)
 layers_level tree b c p z q = levels_trans b c z.0 p (layers_keep Any KeptObjects levels_step false tree c (any_names tree) z q (omega arith))

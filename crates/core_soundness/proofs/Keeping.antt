@@ -49,11 +49,11 @@ use Rattle.core_soundness.proofs.Agreeing.{came, found_agrees}
 use Rattle.core_soundness.proofs.Formed.{NoNodes, OneNode, IsLayer, Shaped, Formed, AllFormed, behind_stars}
 use Rattle.core_soundness.proofs.Growth.{good, ok_same, never, type_cast_unused, valued_unused, Grows, grows_refl, behind_test}
 use Rattle.core_soundness.proofs.Parameters.{functions, functions_joined, functions_one, functions_reversed, not_function}
-use Rattle.core_soundness.proofs.Scopes.{More, MoreTags, MoreAll, IsNewTag, more_refl, more_trans, more_depth, left_more}
+use Rattle.core_soundness.proofs.Scopes.{with_tag_more, More, MoreTags, MoreAll, IsNewTag, more_refl, more_trans, more_depth, left_more}
 use Rattle.core_soundness.proofs.Sorting.{kept_test, passed, unbarred}
 use Rattle.core_soundness.proofs.TagSorts.{typed_after, wanted_after}
 use Rattle.core_soundness.proofs.Taking.{declares, restores, Held, Still, AllStill, Calm, rows_held, commas_held, here_held, some_held, no_nodes_still, calm_node, calm_address, Has, Inside, left_adds, part_adds, all_taken_adds, among, Numbered, Follows, SameNames, still_names, all_still_names, part_names, drops, Keeps, Same, Fewer, HasScope, InStep, Stepped, calm_same, scope_more}
-use Rattle.core_soundness.proofs.Walks.{found_grows, grown_unused, grows_convert_integer, grows_tested, grown_valued, grows_convert}
+use Rattle.core_soundness.proofs.Walks.{Tagging, constant_keeps, found_grows, grown_unused, grows_convert_integer, grows_tested, grown_valued, grows_convert}
 use Rattle.core_soundness.proofs.Choices.{either_way}
 
 -- an expression that is typed declares nothing: tags have no braces there, and no type of a function is named (C99 6.5)
@@ -433,6 +433,10 @@ keeps_trans a b c x y = record { more = more_trans a.scopes b.scopes c.scopes x.
 pub grows_keeps : (c d : TextContext) → Grows c d → Keeps c d
 grows_keeps c d g = record { more = g.names; declared = g.kept.declared; addressed = g.kept.addressed }
 
+-- tags and constants
+pub keeps_tags : Tagging Keeps
+keeps_tags = record { stop = keeps_refl; join = keeps_trans; tells = λ t c m. record { more = m; declared = refl; addressed = refl }; retags = λ tags c. record { more = more_refl c.scopes; declared = refl; addressed = refl }; names = λ name c. record { more = with_tag_more c.scopes name _; declared = refl; addressed = refl } }
+
 pub told_keeps : (t : names.Context) (c : TextContext) → More c.scopes t.scopes → Keeps c (told t c)
 told_keeps t c m = record { more = m; declared = refl; addressed = refl }
 
@@ -490,13 +494,6 @@ pub operand_keeps : (line : ℕ) (e : Tree) (c : TextContext) (z : TextContext �
 operand_keeps line e c z q =
     let d = came (valued e (expressions.found e Void (opened e c))) q in
     keeps_trans c d.value.0 z.0 (full_keeps e Void c d.value d.is) (operand_of_keeps line e (operand d.value.1.typed.type) d.value z d.last)
-
-pub constant_keeps : (e : Tree) (c : TextContext) (z : TextContext × Constant) → constant e c ≡ Ok z → Keeps c z.0
-constant_keeps e c z q =
-    let x = came (wanted e (typed e (asked c))) q in
-    let k = came (constant_from (line_of e) x.value.1.type x.value.1.folded) x.last in
-    subst (λ (y : TextContext × Constant). Keeps c y.0) (ok_same (told x.value.0 c, k.value) z k.last)
-    (told_keeps x.value.0 c (wanted_after (asked c) e (typed e (asked c)) (typed_after e (asked c)) x.value x.is))
 
 -- more tags: no name stands for a register that did not before
 
@@ -590,7 +587,7 @@ constant_calm e c z g q =
     shows_first (Calm e) (typed e (asked c)) _ (typed_calm e (asked c) g) x.value x.is
 
 pub constant_in_step : (e : Tree) (t : Taken) (c : TextContext) (z : TextContext × Constant) → Formed e → InStep t c → constant e c ≡ Ok z → InStep (taken e t) z.0
-constant_in_step e t c z g h q = calm_step e t c z.0 (constant_calm e c z g q) (constant_keeps e c z q) h
+constant_in_step e t c z g h q = calm_step e t c z.0 (constant_calm e c z g q) (constant_keeps Keeps keeps_tags e c z q) h
 
 -- at most one expression
 

@@ -29,7 +29,7 @@ use Rattle.core_soundness.proofs.Scopes.{More, MoreTags, MoreAll, tags_refl, tag
 use Rattle.core_soundness.proofs.Sitting.{Fine, Runs, runs_refl, runs_trans, on_runs, table_grew, names_left, entered_fine, goes_runs}
 use Rattle.core_soundness.proofs.Sorting.{Grew, grew_refl, pieces_grew, goes_told, write_goes}
 use Rattle.core_soundness.proofs.TagSorts.{After}
-use Rattle.core_soundness.proofs.Walks.{Steps, specs_keep, layers_keep, params_keep, constant_keeps, suffixes_keep, suffix_keeps}
+use Rattle.core_soundness.proofs.Walks.{Steps, specs_keep, layers_keep, params_keep, constant_keeps, tagging, suffixes_keep, suffix_keeps}
 use Rattle.core_soundness.proofs.Choices.{either_way}
 
 -- parts that stand inside a scope: their parameter lists are those of prototypes, of which nothing is made (C99 6.2.1)
@@ -413,7 +413,7 @@ module _ (answer : Option Sort) where
   }
 
   pub constant_runs : (e : Tree) (b c : Context) → Runs answer b c → Reached (Runs answer b) (constant e c)
-  constant_runs e b c p z q = runs_trans answer b c z.0 p (constant_keeps Any Kept runs_step false e c z q tt p.fine)
+  constant_runs e b c p z q = runs_trans answer b c z.0 p (constant_keeps (Kept false 0) (tagging Any Kept runs_step false) e c z q tt p.fine)
 
   pub with_type_runs : (given : Checked (names.Context × PlainType)) (b c : Context) → Reached (After (asked c)) given → Runs answer b c → Reached (Runs answer b) (with_type given c)
   with_type_runs given b c g p = reached_after (Runs answer b) given (λ x h. reached_ok (Runs answer b) (told_runs x.0 b c (g x h) p))

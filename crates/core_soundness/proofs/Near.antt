@@ -41,7 +41,7 @@ use Rattle.core_soundness.proofs.Agreeing.{came}
 use Rattle.core_soundness.proofs.CodeWalk.{Writes, unused_keeps, valued_keeps, convert_integer_keeps, convert_keeps, tested_value_keeps, write_keeps}
 use Rattle.core_soundness.proofs.Growth.{Reached, reached_ok, Led, led_ok, led_unless, reached_after}
 use Rattle.core_soundness.proofs.Scopes.{Short, some_short}
-use Rattle.core_soundness.proofs.Walks.{said, weight, weights, Walks, found_keeps, Steps, constant_keeps, specs_keep, layers_keep}
+use Rattle.core_soundness.proofs.Walks.{said, weight, weights, Walks, found_keeps, Steps, constant_keeps, tagging, specs_keep, layers_keep}
 
 -- a tree weighs no more than its tokens
 
@@ -381,7 +381,7 @@ near_step = record {
 }
 
 pub constant_near : (e : Tree) (c : Context) → Reached (Near 0 c) (constant e c)
-constant_near e c = constant_keeps IsShort (λ deep n c d. Near n c d) near_step false e c
+constant_near e c = constant_keeps (Near 0) (tagging IsShort (λ deep n c d. Near n c d) near_step false) e c
 
 pub specs_near : (tree : Tree) (c : Context) → Short tree → Reached (Near (weight tree) c) (specs tree c)
 specs_near tree c h = specs_keep IsShort (λ deep n c d. Near n c d) near_step false tree c h

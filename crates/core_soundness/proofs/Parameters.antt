@@ -34,8 +34,10 @@ use Rattle.elaboration.specs.Declarators.{constant, with_type, maybe_name, begun
 use Rattle.elaboration.specs.Locals.{is_pointer, declared_as, next_is_memory, with_register, with_memory, with_named, memory_param, register_param, function_param, prototype_param, with_param}
 use Rattle.core_soundness.specs.Worlds.{type_sort, param_sorts}
 use Rattle.core_soundness.proofs.Agreeing.{came}
-use Rattle.core_soundness.proofs.Declaring.{levels_refl, begun_levels, member_levels, param_levels, specs_level, member_names_level, layers_level, suffix_levels}
-use Rattle.core_soundness.proofs.Growth.{good, bad, ok_same, never, behind_test}
+use Rattle.core_soundness.proofs.Declaring.{levels_refl, param_levels, layers_level, suffix_levels}
+use Rattle.core_soundness.proofs.Growth.{good, bad, ok_same, never, behind_test, Reached, reached_ok}
+use Rattle.core_soundness.proofs.Walks.{Tagging, Enumerates, begun_keeps, ended_keeps, enum_named_keeps, enumerators_keep, with_type_keeps, members_keep_one}
+use Rattle.core_soundness.proofs.TagSorts.{typed_after, wanted_after, special_after}
 use Rattle.core_soundness.proofs.LayersRun.{Aside, aside_refl, own_params, specs_beside, layers_beside}
 use Rattle.core_soundness.proofs.Sorting.{passed, kept_test}
 
@@ -189,59 +191,6 @@ makes_function tags (ArrayOf line length ∷ ls) base answer ps e h =
     let x = came (layered tags (ArrayOf line length) base) e in
     let m = makes_function tags ls x.value answer ps x.last h in record { single = m.single; sorts = m.sorts; plain = m.plain }
 
--- what adds no register
-
-constant_sorts : (e : Tree) (c : Context) (z : Context × Constant) → constant e c ≡ Ok z → sorts z.0 ≡ sorts c
-constant_sorts e c z q =
-    let x = came (wanted e (typed e (asked c))) q in
-    let k = came (constant_from (line_of e) x.value.1.type x.value.1.folded) x.last in
-    ap (λ (y : Context × Constant). sorts y.0) (sym (ok_same (told x.value.0 c, k.value) z k.last))
-
-with_type_sorts : (answer : Checked (names.Context × PlainType)) (c : Context) (z : Context × PlainType) → with_type answer c ≡ Ok z → sorts z.0 ≡ sorts c
-with_type_sorts answer c z q =
-    let x = came answer q in ap (λ (y : Context × PlainType). sorts y.0) (sym (ok_same (told x.value.0 c, x.value.1) z x.last))
-
-begun_as_sorts : (sort : RecordSort) (name : List ℕ) (named : Option PlainNamed) (c : Context) → sorts (begun_as sort name named c).0 ≡ sorts c
-begun_as_sorts sort name (Some (n.Tag type)) c = refl
-begun_as_sorts sort name named c = refl
-
-begun_sorts : (sort : RecordSort) (name : Option (List ℕ)) (c : Context) → sorts (begun sort name c).0 ≡ sorts c
-begun_sorts sort None c = refl
-begun_sorts sort (Some name) c = begun_as_sorts sort name (named_in (tag_name name) (innermost c.scopes)) c
-
-completed_sorts : (line : ℕ) (c : Context) (type : PlainType) (result : Result TagTable TagError) (z : Context × PlainType) → completed_by line c type result ≡ Ok z → sorts z.0 ≡ sorts c
-completed_sorts line c type (Ok tags) z q = ap (λ (y : Context × PlainType). sorts y.0) (sym (ok_same (record c { tags = tags }, type) z q))
-completed_sorts line c type (Err error) z q = never _ _ z q
-
-complete_sorts : (line number : ℕ) (type : PlainType) (c : Context) (list : d.Members) (z : Context × PlainType) → complete line number type c list ≡ Ok z → sorts z.0 ≡ sorts c
-complete_sorts line number type c list z q = completed_sorts line c type (completion c.tags number list) z (behind_test (is_some (known c.tags.completed number)) DeclaredTwice line (completed_by line c type (completion c.tags number list)) z q)
-
-ended_sorts : (line : ℕ) (sort : RecordSort) (type : PlainType) (c : Context) (list : d.Members) (z : Context × PlainType) → ended line sort type c list ≡ Ok z → sorts z.0 ≡ sorts c
-ended_sorts line r.Struct (Struct number) c list z q = complete_sorts line number (Struct number) c list z q
-ended_sorts line r.Union (Union number) c list z q = complete_sorts line number (Union number) c list z q
-ended_sorts line sort type c list z q = never _ _ z q
-
-declared_sorts : (line : ℕ) (name : List ℕ) (v : PlainNamed) (c z : Context) → declared_as line name v c ≡ Ok z → sorts z ≡ sorts c
-declared_sorts line name v c z q = ap sorts (sym (passed _ _ line (record c { scopes = after_declaration c.scopes name v }) z q))
-
-enumerator_sorts : (line : ℕ) (name : List ℕ) (v : ℤ) (c : Context) (z : Context × ℤ) → enumerator line name v c ≡ Ok z → sorts z.0 ≡ sorts c
-enumerator_sorts line name v c z q =
-    let x = came (declared_as line name (n.Constant i.Int (wrapped I32 v)) c) q in
-    ap (λ (y : Context × ℤ). sorts y.0) (sym (ok_same (x.value, wrapped I32 v +ℤ pos 1) z x.last)) ∙ declared_sorts line name (n.Constant i.Int (wrapped I32 v)) c x.value x.is
-
-enum_named_sorts : (line : ℕ) (name : Option (List ℕ)) (c : Context) (z : Context × PlainType) → enum_named line name c ≡ Ok z → sorts z.0 ≡ sorts c
-enum_named_sorts line None c z q = ap (λ (y : Context × PlainType). sorts y.0) (sym (ok_same (c, Int i.Int) z q))
-enum_named_sorts line (Some name) c z q = ap (λ (y : Context × PlainType). sorts y.0) (sym (passed _ _ line (record c { scopes = with_name c.scopes (tag_name name) (n.Tag (Int i.Int)) }, Int i.Int) z q))
-
--- a member is no function
-member_sorts : (line : ℕ) (name : Option (List ℕ)) (type : PlainType) (list : d.Members) (c : Context) (z : Context × d.Members) → member line name type list c ≡ Ok z → (sorts z.0 ≡ sorts c) × (is_function type ≡ false)
-member_sorts line name type list c z q =
-    let last : Checked (Context × d.Members) = then (with_member line name type list) (λ more. good (c, more)) in
-    let a = behind_test (is_function type) LeftOut line (unless (has_no_size c.tags type) Incomplete line last) z q in
-    let b = behind_test (has_no_size c.tags type) Incomplete line last z a in
-    let x = came (with_member line name type list) b in
-    (ap (λ (y : Context × d.Members). sorts y.0) (sym (ok_same (c, x.value) z x.last)), kept_test (is_function type) LeftOut line (unless (has_no_size c.tags type) Incomplete line last) z q)
-
 -- a parameter has a register
 write_sorts : (line : ℕ) (type : PlainType) (spot : Spot) (a : Atom) (c : Context) → sorts (write line type spot a c) ≡ sorts c
 unfolding write
@@ -312,64 +261,8 @@ no_layers c z e = subst (Layered c) e (record { sorts_of = []; adds = adds_none 
 single_none : (c : Context) (z : Context × Layer) → sorts z.0 ≡ sorts c → functions (z.1 ∷ []) ≡ 0 → Single c z
 single_none c z e h = record { sorts_of = []; adds = adds_none c z.0 e; counts = record { none = λ k. refl; one = λ k. absurd (omega (arith, h, k)) } }
 
--- with no function among the layers nothing is added
-unadded : (c : Context) (z : Context × List Layer) → Layered c z → functions z.1 ≡ 0 → sorts z.0 ≡ sorts c
-unadded c z h e = h.adds.added ∙ ap (λ (l : List Sort). sorts c ++ l) (h.counts.none e) ∙ append-nil (sorts c)
-
 mutual
-  unfolding specs words_type tag_type members member_names enumerators layers suffix_layers suffix_layer params
-
-  pub specs_sorts : (tree : Tree) (c : Context) (z : Context × PlainType) → length c.scopes.inner ≡ 0 → specs tree c ≡ Ok z → sorts z.0 ≡ sorts c
-  specs_sorts (Node f.Specs (At line ▹ words)) c z flat q = words_sorts words line words c z flat q
-  specs_sorts tree c z flat q = never _ _ z q
-
-  words_sorts : (rest : Trees) (line : ℕ) (words : Trees) (c : Context) (z : Context × PlainType) → length c.scopes.inner ≡ 0 → words_type line words rest c ≡ Ok z → sorts z.0 ≡ sorts c
-  words_sorts none line words c z flat q = ap (λ (y : Context × PlainType). sorts y.0) (sym (ok_same (c, word_type words) z q))
-  words_sorts (Leaf word ▹ rest) line words c z flat q = words_sorts rest line words c z flat q
-  words_sorts (At at ▹ rest) line words c z flat q = words_sorts rest line words c z flat q
-  words_sorts (Node form parts ▹ rest) line words c z flat q = tag_sorts (Node form parts) line c z flat q
-
-  tag_sorts : (tree : Tree) (line : ℕ) (c : Context) (z : Context × PlainType) → length c.scopes.inner ≡ 0 → tag_type line tree c ≡ Ok z → sorts z.0 ≡ sorts c
-  tag_sorts (Node (f.RecordBody sort) (At at ▹ Node f.MaybeName name ▹ Node f.Members parts ▹ none)) line c z flat q =
-      let start = begun sort (maybe_name name) c in
-      let m = came (members parts [] start.0) q in
-      ended_sorts at sort start.1 m.value.0 m.value.1 z m.last ∙ members_sorts parts [] start.0 m.value ((begun_levels sort (maybe_name name) c c (levels_refl c)).depth ∙ flat) m.is ∙ begun_sorts sort (maybe_name name) c
-  tag_sorts (Node (f.EnumBody trailing) (At at ▹ Node f.MaybeName name ▹ Node f.Enumerators parts ▹ none)) line c z flat q =
-      let e = came (enumerators parts (pos 0) c) q in
-      enum_named_sorts at (maybe_name name) e.value z e.last ∙ enumerators_sorts parts (pos 0) c e.value e.is
-  tag_sorts tree line c z flat q = with_type_sorts (special_type line tree (asked c)) c z q
-
-  members_sorts : (parts : Trees) (list : d.Members) (c : Context) (z : Context × d.Members) → length c.scopes.inner ≡ 0 → members parts list c ≡ Ok z → sorts z.0 ≡ sorts c
-  members_sorts none list c z flat q = ap (λ (y : Context × d.Members). sorts y.0) (sym (ok_same (c, list) z q))
-  members_sorts (Node f.Member (At line ▹ words ▹ Node f.MemberNames declarators ▹ none) ▹ rest) list c z flat q =
-      let base = came (specs words c) q in
-      let m = came (member_names line base.value.1 declarators list base.value.0) base.last in
-      let flat1 = (specs_level words c c (levels_refl c) base.value base.is).depth ∙ flat in
-      let flat2 = (member_names_level declarators line base.value.1 list base.value.0 base.value.0 (levels_refl base.value.0) m.value m.is).depth ∙ flat1 in
-      members_sorts rest m.value.1 m.value.0 z flat2 m.last ∙ member_names_sorts declarators line base.value.1 list base.value.0 m.value flat1 m.is ∙ specs_sorts words c base.value flat base.is
-  members_sorts (tree ▹ rest) list c z flat q = never _ _ z q
-
-  member_names_sorts : (parts : Trees) (line : ℕ) (base : PlainType) (list : d.Members) (c : Context) (z : Context × d.Members) → length c.scopes.inner ≡ 0 → member_names line base parts list c ≡ Ok z → sorts z.0 ≡ sorts c
-  member_names_sorts none line base list c z flat q = ap (λ (y : Context × d.Members). sorts y.0) (sym (ok_same (c, list) z q))
-  member_names_sorts (declarator ▹ rest) line base list c z flat q =
-      let l = came (layers declarator c) q in
-      let t = came (with_layers l.value.0.tags l.value.1 base) l.last in
-      let m = came (member line (name_of declarator) t.value list l.value.0) t.last in
-      let s = member_sorts line (name_of declarator) t.value list l.value.0 m.value m.is in
-      let flat1 = (layers_level declarator c c (levels_refl c) l.value l.is).depth ∙ flat in
-      let flat2 = (member_levels line (name_of declarator) t.value list l.value.0 l.value.0 (levels_refl l.value.0) m.value m.is).depth ∙ flat1 in
-      member_names_sorts rest line base m.value.1 m.value.0 z flat2 m.last ∙ s.0 ∙ unadded c l.value (layers_added declarator c l.value flat l.is) (not_function l.value.0.tags l.value.1 base t.value t.is s.1)
-
-  enumerators_sorts : (parts : Trees) (next : ℤ) (c z : Context) → enumerators parts next c ≡ Ok z → sorts z ≡ sorts c
-  enumerators_sorts none next c z q = ap sorts (sym (ok_same c z q))
-  enumerators_sorts (Node f.Enumerator (At line ▹ Leaf (w.Name name) ▹ Node f.MaybeValue none ▹ none) ▹ rest) next c z q =
-      let e = came (enumerator line name next c) q in
-      enumerators_sorts rest e.value.1 e.value.0 z e.last ∙ enumerator_sorts line name next c e.value e.is
-  enumerators_sorts (Node f.Enumerator (At line ▹ Leaf (w.Name name) ▹ Node f.MaybeValue (v ▹ none) ▹ none) ▹ rest) next c z q =
-      let k = came (constant v c) q in
-      let e = came (enumerator line name k.value.1.value k.value.0) k.last in
-      enumerators_sorts rest e.value.1 e.value.0 z e.last ∙ enumerator_sorts line name k.value.1.value k.value.0 e.value e.is ∙ constant_sorts v c k.value k.is
-  enumerators_sorts (tree ▹ rest) next c z q = never _ _ z q
+  unfolding layers suffix_layers suffix_layer params
 
   pub layers_added : (tree : Tree) (c : Context) (z : Context × List Layer) → length c.scopes.inner ≡ 0 → layers tree c ≡ Ok z → Layered c z
   layers_added (Node (f.Pointer consts) (At line ▹ declarator ▹ none)) c z flat q =
@@ -428,147 +321,116 @@ mutual
       (adds_trans c p.value.0 m.value.0 (type_sort p.value.1 ∷ []) (param_sorts m.value.1) here (params_added rest p.value.0 m.value more m.is))
   params_added (tree ▹ rest) c z deep q = never _ _ z q
 
--- what declares no parameter and no local, and has no parameter list: specs, and layers with no function among them
+-- specs, and layers with no function among them, add no parameter and have no list: what tags and constants keep, they keep
 
--- how many parameters and locals are declared, which are taken the address of, and the parameters of the list that ended last
+-- a member is no function
+member_plain : (line : ℕ) (name : Option (List ℕ)) (type : PlainType) (list : d.Members) (c : Context) (z : Context × d.Members) → member line name type list c ≡ Ok z → is_function type ≡ false
+member_plain line name type list c z q =
+    kept_test (is_function type) LeftOut line (unless (has_no_size c.tags type) Incomplete line (then (with_member line name type list) (λ more. good (c, more)))) z q
+
+module _ (R : Context → Context → Type 0) (tag : Tagging R) (adds : Enumerates R) where
+  mutual
+    unfolding specs words_type tag_type members member_names layers suffix_layers suffix_layer
+
+    pub specs_plain : (tree : Tree) (c : Context) → Reached (R c) (specs tree c)
+    specs_plain (Node f.Specs (At line ▹ words)) c z q = words_plain words line words c z q
+    specs_plain tree c z q = never _ _ z q
+
+    words_plain : (rest : Trees) (line : ℕ) (words : Trees) (c : Context) → Reached (R c) (words_type line words rest c)
+    words_plain none line words c z q = reached_ok (R c) (tag.stop c) z q
+    words_plain (Leaf word ▹ rest) line words c z q = words_plain rest line words c z q
+    words_plain (At at ▹ rest) line words c z q = words_plain rest line words c z q
+    words_plain (Node form parts ▹ rest) line words c z q = tag_plain (Node form parts) line c z q
+
+    tag_plain : (tree : Tree) (line : ℕ) (c : Context) → Reached (R c) (tag_type line tree c)
+    tag_plain (Node (f.RecordBody sort) (At at ▹ Node f.MaybeName name ▹ Node f.Members parts ▹ none)) line c z q =
+        let start = begun sort (maybe_name name) c in
+        let m = came (members parts [] start.0) q in
+        tag.join c start.0 z.0 (begun_keeps R tag sort (maybe_name name) c) (tag.join start.0 m.value.0 z.0 (members_plain parts [] start.0 m.value m.is) (ended_keeps R tag at sort start.1 m.value.0 m.value.1 z m.last))
+    tag_plain (Node (f.EnumBody trailing) (At at ▹ Node f.MaybeName name ▹ Node f.Enumerators parts ▹ none)) line c z q =
+        let e = came (enumerators parts (pos 0) c) q in
+        tag.join c e.value z.0 (enumerators_keep R tag adds parts (pos 0) c e.value e.is) (enum_named_keeps R tag at (maybe_name name) e.value z e.last)
+    tag_plain tree line c z q = with_type_keeps R tag (special_type line tree (asked c)) c (special_after line tree (asked c)) z q
+
+    members_plain : (parts : Trees) (list : d.Members) (c : Context) → Reached (R c) (members parts list c)
+    members_plain none list c z q = reached_ok (R c) (tag.stop c) z q
+    members_plain (Node f.Member (At line ▹ words ▹ Node f.MemberNames declarators ▹ none) ▹ rest) list c z q =
+        let base = came (specs words c) q in
+        let m = came (member_names line base.value.1 declarators list base.value.0) base.last in
+        tag.join c base.value.0 z.0 (specs_plain words c base.value base.is)
+        (tag.join base.value.0 m.value.0 z.0 (member_names_plain declarators line base.value.1 list base.value.0 m.value m.is) (members_plain rest m.value.1 m.value.0 z m.last))
+    members_plain (tree ▹ rest) list c z q = never _ _ z q
+
+    member_names_plain : (parts : Trees) (line : ℕ) (base : PlainType) (list : d.Members) (c : Context) → Reached (R c) (member_names line base parts list c)
+    member_names_plain none line base list c z q = reached_ok (R c) (tag.stop c) z q
+    member_names_plain (declarator ▹ rest) line base list c z q =
+        let l = came (layers declarator c) q in
+        let t = came (with_layers l.value.0.tags l.value.1 base) l.last in
+        let m = came (member line (name_of declarator) t.value list l.value.0) t.last in
+        let one = layers_plain declarator c l.value l.is (not_function l.value.0.tags l.value.1 base t.value t.is (member_plain line (name_of declarator) t.value list l.value.0 m.value m.is)) in
+        tag.join c l.value.0 z.0 one (tag.join l.value.0 m.value.0 z.0 (members_keep_one R tag line (name_of declarator) t.value list l.value.0 m.value m.is) (member_names_plain rest line base m.value.1 m.value.0 z m.last))
+
+    layers_plain : (tree : Tree) (c : Context) (z : Context × List Layer) → layers tree c ≡ Ok z → functions z.1 ≡ 0 → R c z.0
+    layers_plain (Node (f.Pointer consts) (At line ▹ declarator ▹ none)) c z q n =
+        let l = came (layers declarator c) q in
+        let same = ok_same (l.value.0, PointerTo line ∷ l.value.1) z l.last in
+        subst (λ (y : Context × List Layer). R c y.0) same (layers_plain declarator c l.value l.is (ap (λ (y : Context × List Layer). functions y.1) same ∙ n))
+    layers_plain (Node f.Direct (base ▹ Node f.Suffixes suffixes ▹ none)) c z q n =
+        let l = came (layers base c) q in
+        let s = came (suffix_layers suffixes l.value.0) l.last in
+        let same = ok_same (s.value.0, reverse s.value.1 ++ l.value.1) z s.last in
+        let sum : functions s.value.1 + functions l.value.1 ≡ 0 = ap (λ (k : ℕ). k + functions l.value.1) (sym (functions_reversed s.value.1)) ∙ sym (functions_joined (reverse s.value.1) l.value.1) ∙ ap (λ (y : Context × List Layer). functions y.1) same ∙ n in
+        subst (λ (y : Context × List Layer). R c y.0) same (tag.join c l.value.0 s.value.0 (layers_plain base c l.value l.is (omega (arith, sum))) (suffixes_plain suffixes l.value.0 s.value s.is (omega (arith, sum))))
+    layers_plain (Node f.Parens (At line ▹ declarator ▹ none)) c z q n = layers_plain declarator c z q n
+    layers_plain tree c z q n = reached_ok (R c) (tag.stop c) z q
+
+    pub suffixes_plain : (parts : Trees) (c : Context) (z : Context × List Layer) → suffix_layers parts c ≡ Ok z → functions z.1 ≡ 0 → R c z.0
+    suffixes_plain none c z q n = reached_ok (R c) (tag.stop c) z q
+    suffixes_plain (suffix ▹ rest) c z q n =
+        let l = came (suffix_layer suffix c) q in
+        let m = came (suffix_layers rest l.value.0) l.last in
+        let same = ok_same (m.value.0, l.value.1 ∷ m.value.1) z m.last in
+        let sum : functions (l.value.1 ∷ []) + functions m.value.1 ≡ 0 = sym (functions_one l.value.1 m.value.1) ∙ ap (λ (y : Context × List Layer). functions y.1) same ∙ n in
+        subst (λ (y : Context × List Layer). R c y.0) same (tag.join c l.value.0 m.value.0 (suffix_plain suffix c l.value l.is (omega (arith, sum))) (suffixes_plain rest l.value.0 m.value m.is (omega (arith, sum))))
+
+    suffix_plain : (tree : Tree) (c : Context) (z : Context × Layer) → suffix_layer tree c ≡ Ok z → functions (z.1 ∷ []) ≡ 0 → R c z.0
+    suffix_plain (Node f.ArraySuffix (At line ▹ Node f.MaybeLength none ▹ none)) c z q n = reached_ok (R c) (tag.stop c) z q
+    suffix_plain (Node f.ArraySuffix (At line ▹ Node f.MaybeLength (e ▹ none) ▹ none)) c z q n =
+        let x = came (wanted e (typed e (asked c))) q in
+        let k = came (array_length (line_of e) x.value.1) x.last in
+        reached_ok (R c) (tag.tells x.value.0 c (wanted_after (asked c) e (typed e (asked c)) (typed_after e (asked c)) x.value x.is)) z k.last
+    suffix_plain (Node f.FunctionSuffix (At line ▹ Node f.Params parts ▹ none)) c z q n =
+        let p = came (params parts (entered c)) q in
+        let one : 1 ≡ 0 = ap (λ (y : Context × Layer). functions (y.1 ∷ [])) (ok_same (left_params p.value.0, FunctionOf line p.value.1) z p.last) ∙ n in
+        absurd (omega (arith, one))
+    suffix_plain tree c z q n =
+        let one : 1 ≡ 0 = ap (λ (y : Context × Layer). functions (y.1 ∷ [])) (ok_same (record c { params = [] }, FunctionOf (line_of tree) types.none) z q) ∙ n in
+        absurd (omega (arith, one))
+
+-- what is the same of two contexts
+abbrev Alike : {A : Type 0} → (Context → A) → Context → Context → Type 0
+Alike f c d = f d ≡ f c
+
+-- so no parameter and no local is declared, no address is taken, and the parameters of the list that ended last stay
+
 abbrev pub counts : Context → ℕ × List ℕ × Table
 counts c = (c.running.declared, c.running.addressed, c.params)
 
-constant_counts : (e : Tree) (c : Context) (z : Context × Constant) → constant e c ≡ Ok z → counts z.0 ≡ counts c
-constant_counts e c z q =
-    let x = came (wanted e (typed e (asked c))) q in
-    let k = came (constant_from (line_of e) x.value.1.type x.value.1.folded) x.last in
-    ap (λ (y : Context × Constant). counts y.0) (sym (ok_same (told x.value.0 c, k.value) z k.last))
+counts_tags : Tagging (Alike counts)
+counts_tags = record { stop = λ c. refl; join = λ a b c x y. y ∙ x; tells = λ t c m. refl; retags = λ tags c. refl; names = λ name c. refl }
 
-with_type_counts : (answer : Checked (names.Context × PlainType)) (c : Context) (z : Context × PlainType) → with_type answer c ≡ Ok z → counts z.0 ≡ counts c
-with_type_counts answer c z q =
-    let x = came answer q in ap (λ (y : Context × PlainType). counts y.0) (sym (ok_same (told x.value.0 c, x.value.1) z x.last))
+pub specs_counts : (tree : Tree) (c : Context) → Reached (Alike counts c) (specs tree c)
+specs_counts tree c z q = specs_plain (Alike counts) counts_tags (λ name value c. refl) tree c z q
 
-begun_as_counts : (sort : RecordSort) (name : List ℕ) (named : Option PlainNamed) (c : Context) → counts (begun_as sort name named c).0 ≡ counts c
-begun_as_counts sort name (Some (n.Tag type)) c = refl
-begun_as_counts sort name named c = refl
-
-begun_counts : (sort : RecordSort) (name : Option (List ℕ)) (c : Context) → counts (begun sort name c).0 ≡ counts c
-begun_counts sort None c = refl
-begun_counts sort (Some name) c = begun_as_counts sort name (named_in (tag_name name) (innermost c.scopes)) c
-
-completed_counts : (line : ℕ) (c : Context) (type : PlainType) (result : Result TagTable TagError) (z : Context × PlainType) → completed_by line c type result ≡ Ok z → counts z.0 ≡ counts c
-completed_counts line c type (Ok tags) z q = ap (λ (y : Context × PlainType). counts y.0) (sym (ok_same (record c { tags = tags }, type) z q))
-completed_counts line c type (Err error) z q = never _ _ z q
-
-complete_counts : (line number : ℕ) (type : PlainType) (c : Context) (list : d.Members) (z : Context × PlainType) → complete line number type c list ≡ Ok z → counts z.0 ≡ counts c
-complete_counts line number type c list z q = completed_counts line c type (completion c.tags number list) z (behind_test (is_some (known c.tags.completed number)) DeclaredTwice line (completed_by line c type (completion c.tags number list)) z q)
-
-ended_counts : (line : ℕ) (sort : RecordSort) (type : PlainType) (c : Context) (list : d.Members) (z : Context × PlainType) → ended line sort type c list ≡ Ok z → counts z.0 ≡ counts c
-ended_counts line r.Struct (Struct number) c list z q = complete_counts line number (Struct number) c list z q
-ended_counts line r.Union (Union number) c list z q = complete_counts line number (Union number) c list z q
-ended_counts line sort type c list z q = never _ _ z q
+pub suffixes_counts : (parts : Trees) (c : Context) (z : Context × List Layer) → suffix_layers parts c ≡ Ok z → functions z.1 ≡ 0 → counts z.0 ≡ counts c
+suffixes_counts parts c z q n = suffixes_plain (Alike counts) counts_tags (λ name value c. refl) parts c z q n
 
 pub declared_counts : (line : ℕ) (name : List ℕ) (v : PlainNamed) (c z : Context) → declared_as line name v c ≡ Ok z → counts z ≡ counts c
 declared_counts line name v c z q = ap counts (sym (passed _ _ line (record c { scopes = after_declaration c.scopes name v }) z q))
 
-enumerator_counts : (line : ℕ) (name : List ℕ) (v : ℤ) (c : Context) (z : Context × ℤ) → enumerator line name v c ≡ Ok z → counts z.0 ≡ counts c
-enumerator_counts line name v c z q =
-    let x = came (declared_as line name (n.Constant i.Int (wrapped I32 v)) c) q in
-    ap (λ (y : Context × ℤ). counts y.0) (sym (ok_same (x.value, wrapped I32 v +ℤ pos 1) z x.last)) ∙ declared_counts line name (n.Constant i.Int (wrapped I32 v)) c x.value x.is
+-- and no register is added
+sorts_tags : Tagging (Alike sorts)
+sorts_tags = record { stop = λ c. refl; join = λ a b c x y. y ∙ x; tells = λ t c m. refl; retags = λ tags c. refl; names = λ name c. refl }
 
-enum_named_counts : (line : ℕ) (name : Option (List ℕ)) (c : Context) (z : Context × PlainType) → enum_named line name c ≡ Ok z → counts z.0 ≡ counts c
-enum_named_counts line None c z q = ap (λ (y : Context × PlainType). counts y.0) (sym (ok_same (c, Int i.Int) z q))
-enum_named_counts line (Some name) c z q = ap (λ (y : Context × PlainType). counts y.0) (sym (passed _ _ line (record c { scopes = with_name c.scopes (tag_name name) (n.Tag (Int i.Int)) }, Int i.Int) z q))
-
--- a member is no function
-member_counts : (line : ℕ) (name : Option (List ℕ)) (type : PlainType) (list : d.Members) (c : Context) (z : Context × d.Members) → member line name type list c ≡ Ok z → (counts z.0 ≡ counts c) × (is_function type ≡ false)
-member_counts line name type list c z q =
-    let last : Checked (Context × d.Members) = then (with_member line name type list) (λ more. good (c, more)) in
-    let a = behind_test (is_function type) LeftOut line (unless (has_no_size c.tags type) Incomplete line last) z q in
-    let b = behind_test (has_no_size c.tags type) Incomplete line last z a in
-    let x = came (with_member line name type list) b in
-    (ap (λ (y : Context × d.Members). counts y.0) (sym (ok_same (c, x.value) z x.last)), kept_test (is_function type) LeftOut line (unless (has_no_size c.tags type) Incomplete line last) z q)
-
-mutual
-  unfolding specs words_type tag_type members member_names enumerators layers suffix_layers suffix_layer params
-
-  pub specs_counts : (tree : Tree) (c : Context) (z : Context × PlainType) → specs tree c ≡ Ok z → counts z.0 ≡ counts c
-  specs_counts (Node f.Specs (At line ▹ words)) c z q = words_counts words line words c z q
-  specs_counts tree c z q = never _ _ z q
-
-  words_counts : (rest : Trees) (line : ℕ) (words : Trees) (c : Context) (z : Context × PlainType) → words_type line words rest c ≡ Ok z → counts z.0 ≡ counts c
-  words_counts none line words c z q = ap (λ (y : Context × PlainType). counts y.0) (sym (ok_same (c, word_type words) z q))
-  words_counts (Leaf word ▹ rest) line words c z q = words_counts rest line words c z q
-  words_counts (At at ▹ rest) line words c z q = words_counts rest line words c z q
-  words_counts (Node form parts ▹ rest) line words c z q = tag_counts (Node form parts) line c z q
-
-  tag_counts : (tree : Tree) (line : ℕ) (c : Context) (z : Context × PlainType) → tag_type line tree c ≡ Ok z → counts z.0 ≡ counts c
-  tag_counts (Node (f.RecordBody sort) (At at ▹ Node f.MaybeName name ▹ Node f.Members parts ▹ none)) line c z q =
-      let start = begun sort (maybe_name name) c in
-      let m = came (members parts [] start.0) q in
-      ended_counts at sort start.1 m.value.0 m.value.1 z m.last ∙ members_counts parts [] start.0 m.value m.is ∙ begun_counts sort (maybe_name name) c
-  tag_counts (Node (f.EnumBody trailing) (At at ▹ Node f.MaybeName name ▹ Node f.Enumerators parts ▹ none)) line c z q =
-      let e = came (enumerators parts (pos 0) c) q in
-      enum_named_counts at (maybe_name name) e.value z e.last ∙ enumerators_counts parts (pos 0) c e.value e.is
-  tag_counts tree line c z q = with_type_counts (special_type line tree (asked c)) c z q
-
-  members_counts : (parts : Trees) (list : d.Members) (c : Context) (z : Context × d.Members) → members parts list c ≡ Ok z → counts z.0 ≡ counts c
-  members_counts none list c z q = ap (λ (y : Context × d.Members). counts y.0) (sym (ok_same (c, list) z q))
-  members_counts (Node f.Member (At line ▹ words ▹ Node f.MemberNames declarators ▹ none) ▹ rest) list c z q =
-      let base = came (specs words c) q in
-      let m = came (member_names line base.value.1 declarators list base.value.0) base.last in
-      members_counts rest m.value.1 m.value.0 z m.last ∙ member_names_counts declarators line base.value.1 list base.value.0 m.value m.is ∙ specs_counts words c base.value base.is
-  members_counts (tree ▹ rest) list c z q = never _ _ z q
-
-  member_names_counts : (parts : Trees) (line : ℕ) (base : PlainType) (list : d.Members) (c : Context) (z : Context × d.Members) → member_names line base parts list c ≡ Ok z → counts z.0 ≡ counts c
-  member_names_counts none line base list c z q = ap (λ (y : Context × d.Members). counts y.0) (sym (ok_same (c, list) z q))
-  member_names_counts (declarator ▹ rest) line base list c z q =
-      let l = came (layers declarator c) q in
-      let t = came (with_layers l.value.0.tags l.value.1 base) l.last in
-      let m = came (member line (name_of declarator) t.value list l.value.0) t.last in
-      let s = member_counts line (name_of declarator) t.value list l.value.0 m.value m.is in
-      member_names_counts rest line base m.value.1 m.value.0 z m.last ∙ s.0 ∙ layers_counts declarator c l.value l.is (not_function l.value.0.tags l.value.1 base t.value t.is s.1)
-
-  enumerators_counts : (parts : Trees) (next : ℤ) (c z : Context) → enumerators parts next c ≡ Ok z → counts z ≡ counts c
-  enumerators_counts none next c z q = ap counts (sym (ok_same c z q))
-  enumerators_counts (Node f.Enumerator (At line ▹ Leaf (w.Name name) ▹ Node f.MaybeValue none ▹ none) ▹ rest) next c z q =
-      let e = came (enumerator line name next c) q in
-      enumerators_counts rest e.value.1 e.value.0 z e.last ∙ enumerator_counts line name next c e.value e.is
-  enumerators_counts (Node f.Enumerator (At line ▹ Leaf (w.Name name) ▹ Node f.MaybeValue (v ▹ none) ▹ none) ▹ rest) next c z q =
-      let k = came (constant v c) q in
-      let e = came (enumerator line name k.value.1.value k.value.0) k.last in
-      enumerators_counts rest e.value.1 e.value.0 z e.last ∙ enumerator_counts line name k.value.1.value k.value.0 e.value e.is ∙ constant_counts v c k.value k.is
-  enumerators_counts (tree ▹ rest) next c z q = never _ _ z q
-
-  pub layers_counts : (tree : Tree) (c : Context) (z : Context × List Layer) → layers tree c ≡ Ok z → functions z.1 ≡ 0 → counts z.0 ≡ counts c
-  layers_counts (Node (f.Pointer consts) (At line ▹ declarator ▹ none)) c z q n =
-      let l = came (layers declarator c) q in
-      let same = ok_same (l.value.0, PointerTo line ∷ l.value.1) z l.last in
-      ap (λ (y : Context × List Layer). counts y.0) (sym same) ∙ layers_counts declarator c l.value l.is (ap (λ (y : Context × List Layer). functions y.1) same ∙ n)
-  layers_counts (Node f.Direct (base ▹ Node f.Suffixes suffixes ▹ none)) c z q n =
-      let l = came (layers base c) q in
-      let s = came (suffix_layers suffixes l.value.0) l.last in
-      let same = ok_same (s.value.0, reverse s.value.1 ++ l.value.1) z s.last in
-      let sum : functions s.value.1 + functions l.value.1 ≡ 0 = ap (λ (k : ℕ). k + functions l.value.1) (sym (functions_reversed s.value.1)) ∙ sym (functions_joined (reverse s.value.1) l.value.1) ∙ ap (λ (y : Context × List Layer). functions y.1) same ∙ n in
-      ap (λ (y : Context × List Layer). counts y.0) (sym same) ∙ suffixes_counts suffixes l.value.0 s.value s.is (omega (arith, sum)) ∙ layers_counts base c l.value l.is (omega (arith, sum))
-  layers_counts (Node f.Parens (At line ▹ declarator ▹ none)) c z q n = layers_counts declarator c z q n
-  layers_counts tree c z q n = ap (λ (y : Context × List Layer). counts y.0) (sym (ok_same (c, []) z q))
-
-  pub suffixes_counts : (parts : Trees) (c : Context) (z : Context × List Layer) → suffix_layers parts c ≡ Ok z → functions z.1 ≡ 0 → counts z.0 ≡ counts c
-  suffixes_counts none c z q n = ap (λ (y : Context × List Layer). counts y.0) (sym (ok_same (c, []) z q))
-  suffixes_counts (suffix ▹ rest) c z q n =
-      let l = came (suffix_layer suffix c) q in
-      let m = came (suffix_layers rest l.value.0) l.last in
-      let same = ok_same (m.value.0, l.value.1 ∷ m.value.1) z m.last in
-      let sum : functions (l.value.1 ∷ []) + functions m.value.1 ≡ 0 = sym (functions_one l.value.1 m.value.1) ∙ ap (λ (y : Context × List Layer). functions y.1) same ∙ n in
-      ap (λ (y : Context × List Layer). counts y.0) (sym same) ∙ suffixes_counts rest l.value.0 m.value m.is (omega (arith, sum)) ∙ suffix_counts suffix c l.value l.is (omega (arith, sum))
-
-  suffix_counts : (tree : Tree) (c : Context) (z : Context × Layer) → suffix_layer tree c ≡ Ok z → functions (z.1 ∷ []) ≡ 0 → counts z.0 ≡ counts c
-  suffix_counts (Node f.ArraySuffix (At line ▹ Node f.MaybeLength none ▹ none)) c z q n = ap (λ (y : Context × Layer). counts y.0) (sym (ok_same (c, ArrayOf line None) z q))
-  suffix_counts (Node f.ArraySuffix (At line ▹ Node f.MaybeLength (e ▹ none) ▹ none)) c z q n =
-      let x = came (wanted e (typed e (asked c))) q in
-      let k = came (array_length (line_of e) x.value.1) x.last in
-      ap (λ (y : Context × Layer). counts y.0) (sym (ok_same (told x.value.0 c, ArrayOf line (Some k.value)) z k.last))
-  suffix_counts (Node f.FunctionSuffix (At line ▹ Node f.Params parts ▹ none)) c z q n =
-      let p = came (params parts (entered c)) q in
-      let one : 1 ≡ 0 = ap (λ (y : Context × Layer). functions (y.1 ∷ [])) (ok_same (left_params p.value.0, FunctionOf line p.value.1) z p.last) ∙ n in
-      absurd (omega (arith, one))
-  suffix_counts tree c z q n =
-      let one : 1 ≡ 0 = ap (λ (y : Context × Layer). functions (y.1 ∷ [])) (ok_same (record c { params = [] }, FunctionOf (line_of tree) types.none) z q) ∙ n in
-      absurd (omega (arith, one))
+pub specs_sorts : (tree : Tree) (c : Context) → Reached (Alike sorts c) (specs tree c)
+specs_sorts tree c z q = specs_plain (Alike sorts) sorts_tags (λ name value c. refl) tree c z q

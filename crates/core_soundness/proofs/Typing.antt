@@ -335,7 +335,7 @@ definition_between line words declarator tree c z one p form_words form_name for
     (λ single. (layers_start declarator base.value.0 l.value form_name.0.0 form_name.1.0 listed (ap (λ (x : ℕ × List ℕ × Table). x.0) (specs_counts words b base.value base.is)) ((first None).depth ∙ h.flat) (first None).fine.names.file l.is).begun single)
     (λ answer. layers_run answer declarator b base.value.0 (first answer) l.value l.is) refl h.flat
     (layers_list declarator None base.value.0 l.value has (first None).fine ((first None).depth ∙ h.flat) l.is)
-    (λ single. added.adds.added ∙ ap (λ (ss : List Sort). ss ++ added.sorts_of) (specs_sorts words b base.value h.flat base.is) ∙ added.counts.one single) type.is type.last
+    (λ single. added.adds.added ∙ ap (λ (ss : List Sort). ss ++ added.sorts_of) (specs_sorts words b base.value base.is) ∙ added.counts.one single) type.is type.last
 
 external_between : (tree : Tree) (c z : Context) → Written tree → Formed tree → HasParams tree → IsDefinition tree → HasOwnName tree → Between c → external tree c ≡ Ok z → Between z
 unfolding external Written AllWritten Formed AllFormed

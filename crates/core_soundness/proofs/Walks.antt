@@ -309,6 +309,82 @@ module _ (R : ℕ → Context → Context → Type 0) (walk : Walks R) where
         let three = arguments_keeps rest line NoFunction (rest_types params) v.0 r.value r.is in
         both (weight e + 1 + 1) (weights rest + 2 * count rest) _ (omega arith) two (reached_ok (R (weights rest + 2 * count rest) v.0) three z r.last)
 
+-- one walk over tags, enumerations and constants: what each of their steps keeps, they keep (C99 6.7.2)
+
+-- the steps, where R is said of what is known before them and behind them
+pub record Tagging (R : Context → Context → Type 0) : Type 0 where
+  -- nothing, and one part behind another
+  pub stop : (c : Context) → R c c
+  pub join : (a b c : Context) → R a b → R b c → R a c
+  -- what types name, other tags, and the name of an enumeration
+  pub tells : (t : names.Context) (c : Context) → More c.scopes t.scopes → R c (told t c)
+  pub retags : (tags : TagTable) (c : Context) → R c (record c { tags = tags })
+  pub names : (name : List ℕ) (c : Context) → R c (record c { scopes = with_name c.scopes (tag_name name) (n.Tag (Int i.Int)) })
+
+-- an enumerator
+abbrev pub Enumerates : (Context → Context → Type 0) → Type 0
+Enumerates R = (name : List ℕ) (value : ℤ) (c : Context) → R c (record c { scopes = after_declaration c.scopes name (n.Constant i.Int value) })
+
+module _ (R : Context → Context → Type 0) (tag : Tagging R) where
+  pub constant_keeps : (e : Tree) (c : Context) → Reached (R c) (constant e c)
+  constant_keeps e c =
+      reached_after (R c) (wanted e (typed e (asked c))) (λ x h. reached_after (R c) (constant_from (line_of e) x.1.type x.1.folded)
+      (λ k q. reached_ok (R c) (tag.tells x.0 c (wanted_after (asked c) e (typed e (asked c)) (typed_after e (asked c)) x h))))
+
+  pub with_type_keeps : (answer : Checked (names.Context × PlainType)) (c : Context) → Reached (After (asked c)) answer → Reached (R c) (with_type answer c)
+  with_type_keeps answer c g = reached_after (R c) answer (λ x h. reached_ok (R c) (tag.tells x.0 c (g x h)))
+
+  begun_as_keeps : (sort : RecordSort) (name : List ℕ) (o : Option PlainNamed) (c : Context) → R c (begun_as sort name o c).0
+  begun_as_keeps sort name (Some (n.Tag type)) c = tag.stop c
+  begun_as_keeps sort name other c = tag.tells (with_new_tag sort name (asked c)).0 c (with_tag_more c.scopes name _)
+
+  pub begun_keeps : (sort : RecordSort) (name : Option (List ℕ)) (c : Context) → R c (begun sort name c).0
+  begun_keeps sort None c = tag.retags _ c
+  begun_keeps sort (Some name) c = begun_as_keeps sort name (named_in (tag_name name) (innermost c.scopes)) c
+
+  completed_keeps : (line : ℕ) (c : Context) (type : PlainType) (o : Result TagTable TagError) → Reached (R c) (completed_by line c type o)
+  completed_keeps line c type (Ok tags) = reached_ok (R c) (tag.retags tags c)
+  completed_keeps line c type (Err error) = reached_refused (R c)
+
+  complete_keeps : (line number : ℕ) (type : PlainType) (c : Context) (list : d.Members) → Reached (R c) (complete line number type c list)
+  complete_keeps line number type c list = reached_unless (R c) _ DeclaredTwice line (completed_keeps line c type (completion c.tags number list))
+
+  pub ended_keeps : (line : ℕ) (sort : RecordSort) (type : PlainType) (c : Context) (list : d.Members) → Reached (R c) (ended line sort type c list)
+  ended_keeps line r.Struct (Struct number) c list = complete_keeps line number (Struct number) c list
+  ended_keeps line r.Union (Union number) c list = complete_keeps line number (Union number) c list
+  ended_keeps line sort type c list = reached_refused (R c)
+
+  pub members_keep_one : (line : ℕ) (name : Option (List ℕ)) (type : PlainType) (list : d.Members) (c : Context) → Reached (R c) (member line name type list c)
+  members_keep_one line name type list c =
+      reached_unless (R c) (is_function type) LeftOut line (reached_unless (R c) (has_no_size c.tags type) Incomplete line
+      (reached_after (R c) (with_member line name type list) (λ more h. reached_ok (R c) (tag.stop c))))
+
+  pub enum_named_keeps : (line : ℕ) (name : Option (List ℕ)) (c : Context) → Reached (R c) (enum_named line name c)
+  enum_named_keeps line None c = reached_ok (R c) (tag.stop c)
+  enum_named_keeps line (Some name) c =
+      let z : Context = record c { scopes = with_name c.scopes (tag_name name) (n.Tag (Int i.Int)) } in
+      reached_unless (R c) (is_some (named_in (tag_name name) (innermost c.scopes))) DeclaredTwice line (reached_ok (R c) (tag.names name c))
+
+  module _ (adds : Enumerates R) where
+    enumerator_keeps : (line : ℕ) (name : List ℕ) (value : ℤ) (c : Context) → Reached (R c) (enumerator line name value c)
+    enumerator_keeps line name value c =
+        let held = wrapped I32 value in
+        let z : Context = record c { scopes = after_declaration c.scopes name (n.Constant i.Int held) } in
+        reached_after (R c) (declared_as line name (n.Constant i.Int held) c)
+        (λ e q. reached_ok (R c) (led_unless (R c) (is_twice c.scopes name (n.Constant i.Int held)) DeclaredTwice line (λ t. led_ok (R c) (adds name held c)) e q))
+
+    pub enumerators_keep : (parts : Trees) (next : ℤ) (c : Context) → Led (R c) (enumerators parts next c)
+    unfolding enumerators
+    enumerators_keep none next c z q = led_ok (R c) (tag.stop c) z q
+    enumerators_keep (Node f.Enumerator (At line ▹ Leaf (w.Name name) ▹ Node f.MaybeValue none ▹ none) ▹ rest) next c z q =
+        let e = came (enumerator line name next c) q in
+        tag.join c e.value.0 z (enumerator_keeps line name next c e.value e.is) (enumerators_keep rest e.value.1 e.value.0 z e.last)
+    enumerators_keep (Node f.Enumerator (At line ▹ Leaf (w.Name name) ▹ Node f.MaybeValue (value ▹ none) ▹ none) ▹ rest) next c z q =
+        let k = came (constant value c) q in
+        let e = came (enumerator line name k.value.1.value k.value.0) k.last in
+        tag.join c k.value.0 z (constant_keeps value c k.value k.is) (tag.join k.value.0 e.value.0 z (enumerator_keeps line name k.value.1.value k.value.0 e.value e.is) (enumerators_keep rest e.value.1 e.value.0 z e.last))
+    enumerators_keep (tree ▹ rest) next c z q = led_refused (R c) z q
+
 -- one walk over specs, tags with braces and declarators: what each of their steps keeps, they keep (C99 6.7.2, 6.7.5)
 
 -- the steps of a walk, where R is said of what is known before a part and behind it: whether it stands in a parameter list,
@@ -336,69 +412,13 @@ module _ (W : List ℕ → Type 0) (R : Bool → ℕ → Context → Context →
   layers_within {deep} {a} {b} m k e x = step.join deep m 0 k a b b (omega (arith, e)) x (step.stop deep 0 b)
 
   -- constants and tags
-
-  pub constant_keeps : (deep : Bool) (e : Tree) (c : Context) → Reached (R deep 0 c) (constant e c)
-  constant_keeps deep e c =
-      reached_after (R deep 0 c) (wanted e (typed e (asked c))) (λ x h. reached_after (R deep 0 c) (constant_from (line_of e) x.1.type x.1.folded)
-      (λ k q. reached_ok (R deep 0 c) (step.tells deep x.0 c (wanted_after (asked c) e (typed e (asked c)) (typed_after e (asked c)) x h))))
-
-  pub with_type_keeps : (deep : Bool) (answer : Checked (names.Context × PlainType)) (c : Context) → Reached (After (asked c)) answer → Reached (R deep 0 c) (with_type answer c)
-  with_type_keeps deep answer c g = reached_after (R deep 0 c) answer (λ x h. reached_ok (R deep 0 c) (step.tells deep x.0 c (g x h)))
-
-  begun_as_keeps : (deep : Bool) (sort : RecordSort) (name : List ℕ) (o : Option PlainNamed) (c : Context) → R deep 0 c (begun_as sort name o c).0
-  begun_as_keeps deep sort name (Some (n.Tag type)) c = step.stop deep 0 c
-  begun_as_keeps deep sort name other c = step.tells deep (with_new_tag sort name (asked c)).0 c (with_tag_more c.scopes name _)
-
-  pub begun_keeps : (deep : Bool) (sort : RecordSort) (name : Option (List ℕ)) (c : Context) → R deep 0 c (begun sort name c).0
-  begun_keeps deep sort None c = step.retags deep _ c
-  begun_keeps deep sort (Some name) c = begun_as_keeps deep sort name (named_in (tag_name name) (innermost c.scopes)) c
-
-  completed_keeps : (deep : Bool) (line : ℕ) (c : Context) (type : PlainType) (o : Result TagTable TagError) → Reached (R deep 0 c) (completed_by line c type o)
-  completed_keeps deep line c type (Ok tags) = reached_ok (R deep 0 c) (step.retags deep tags c)
-  completed_keeps deep line c type (Err error) = reached_refused (R deep 0 c)
-
-  complete_keeps : (deep : Bool) (line number : ℕ) (type : PlainType) (c : Context) (list : d.Members) → Reached (R deep 0 c) (complete line number type c list)
-  complete_keeps deep line number type c list = reached_unless (R deep 0 c) _ DeclaredTwice line (completed_keeps deep line c type (completion c.tags number list))
-
-  ended_keeps : (deep : Bool) (line : ℕ) (sort : RecordSort) (type : PlainType) (c : Context) (list : d.Members) → Reached (R deep 0 c) (ended line sort type c list)
-  ended_keeps deep line r.Struct (Struct number) c list = complete_keeps deep line number (Struct number) c list
-  ended_keeps deep line r.Union (Union number) c list = complete_keeps deep line number (Union number) c list
-  ended_keeps deep line sort type c list = reached_refused (R deep 0 c)
-
-  pub members_keep_one : (deep : Bool) (line : ℕ) (name : Option (List ℕ)) (type : PlainType) (list : d.Members) (c : Context) → Reached (R deep 0 c) (member line name type list c)
-  members_keep_one deep line name type list c =
-      reached_unless (R deep 0 c) (is_function type) LeftOut line (reached_unless (R deep 0 c) (has_no_size c.tags type) Incomplete line
-      (reached_after (R deep 0 c) (with_member line name type list) (λ more h. reached_ok (R deep 0 c) (step.stop deep 0 c))))
-
-  enumerator_keeps : (deep : Bool) (line : ℕ) (name : List ℕ) (value : ℤ) (c : Context) → Reached (R deep 0 c) (enumerator line name value c)
-  enumerator_keeps deep line name value c =
-      let held = wrapped I32 value in
-      let z : Context = record c { scopes = after_declaration c.scopes name (n.Constant i.Int held) } in
-      reached_after (R deep 0 c) (declared_as line name (n.Constant i.Int held) c)
-      (λ e q. reached_ok (R deep 0 c) (led_unless (R deep 0 c) (is_twice c.scopes name (n.Constant i.Int held)) DeclaredTwice line (λ t. led_ok (R deep 0 c) (step.enumerates deep name held c)) e q))
-
-  enum_named_keeps : (deep : Bool) (line : ℕ) (name : Option (List ℕ)) (c : Context) → Reached (R deep 0 c) (enum_named line name c)
-  enum_named_keeps deep line None c = reached_ok (R deep 0 c) (step.stop deep 0 c)
-  enum_named_keeps deep line (Some name) c =
-      let z : Context = record c { scopes = with_name c.scopes (tag_name name) (n.Tag (Int i.Int)) } in
-      reached_unless (R deep 0 c) (is_some (named_in (tag_name name) (innermost c.scopes))) DeclaredTwice line (reached_ok (R deep 0 c) (step.names deep name c))
+  pub tagging : (deep : Bool) → Tagging (R deep 0)
+  tagging deep = record { stop = step.stop deep 0; join = λ a b c x y. step.join deep 0 0 0 a b c (omega arith) x y; tells = step.tells deep; retags = step.retags deep; names = step.names deep }
 
   pub param_keeps : (line : ℕ) (name : Option (List ℕ)) (type : PlainType) (c : Context) → IfSome name W → Reached (R true 2 c) (param line name type c)
   param_keeps line name type c h =
       reached_unless (R true 2 c) (is_void type) Incomplete line (reached_unless (R true 2 c) (is_record type || is_function type) LeftOut line
       (reached_unless (R true 2 c) (is_declared name c) DeclaredTwice line (reached_ok (R true 2 c) (step.takes name type c h))))
-
-  enumerators_keep : (deep : Bool) (parts : Trees) (next : ℤ) (c : Context) → Led (R deep 0 c) (enumerators parts next c)
-  unfolding enumerators
-  enumerators_keep deep none next c z q = led_ok (R deep 0 c) (step.stop deep 0 c) z q
-  enumerators_keep deep (Node f.Enumerator (At line ▹ Leaf (w.Name name) ▹ Node f.MaybeValue none ▹ none) ▹ rest) next c z q =
-      let e = came (enumerator line name next c) q in
-      layers_both 0 0 0 (omega arith) (enumerator_keeps deep line name next c e.value e.is) (enumerators_keep deep rest e.value.1 e.value.0 z e.last)
-  enumerators_keep deep (Node f.Enumerator (At line ▹ Leaf (w.Name name) ▹ Node f.MaybeValue (value ▹ none) ▹ none) ▹ rest) next c z q =
-      let k = came (constant value c) q in
-      let e = came (enumerator line name k.value.1.value k.value.0) k.last in
-      layers_both 0 0 0 (omega arith) (constant_keeps deep value c k.value k.is) (layers_both 0 0 0 (omega arith) (enumerator_keeps deep line name k.value.1.value k.value.0 e.value e.is) (enumerators_keep deep rest e.value.1 e.value.0 z e.last))
-  enumerators_keep deep (tree ▹ rest) next c z q = led_refused (R deep 0 c) z q
 
   mutual
     unfolding specs words_type tag_type members member_names layers suffix_layers suffix_layer params shape
@@ -417,12 +437,12 @@ module _ (W : List ℕ → Type 0) (R : Bool → ℕ → Context → Context →
     tag_keeps deep (Node (f.RecordBody sort) (At at ▹ Node f.MaybeName name ▹ Node f.Members parts ▹ none)) line c h z q =
         let start = begun sort (maybe_name name) c in
         let m = came (members parts [] start.0) q in
-        let one = layers_both 0 (weights parts) (weights parts) (omega arith) (begun_keeps deep sort (maybe_name name) c) (members_keep deep parts [] start.0 h.1.1.0 m.value m.is) in
-        layers_both (weights parts) 0 _ (omega arith) one (ended_keeps deep at sort start.1 m.value.0 m.value.1 z m.last)
+        let one = layers_both 0 (weights parts) (weights parts) (omega arith) (begun_keeps (R deep 0) (tagging deep) sort (maybe_name name) c) (members_keep deep parts [] start.0 h.1.1.0 m.value m.is) in
+        layers_both (weights parts) 0 _ (omega arith) one (ended_keeps (R deep 0) (tagging deep) at sort start.1 m.value.0 m.value.1 z m.last)
     tag_keeps deep (Node (f.EnumBody trailing) (At at ▹ Node f.MaybeName name ▹ Node f.Enumerators parts ▹ none)) line c h z q =
         let e = came (enumerators parts (pos 0) c) q in
-        layers_both 0 0 _ (omega arith) (enumerators_keep deep parts (pos 0) c e.value e.is) (enum_named_keeps deep at (maybe_name name) e.value z e.last)
-    tag_keeps deep tree line c h z q = layers_within 0 (weight tree) (omega arith) (with_type_keeps deep (special_type line tree (asked c)) c (special_after line tree (asked c)) z q)
+        layers_both 0 0 _ (omega arith) (enumerators_keep (R deep 0) (tagging deep) (step.enumerates deep) parts (pos 0) c e.value e.is) (enum_named_keeps (R deep 0) (tagging deep) at (maybe_name name) e.value z e.last)
+    tag_keeps deep tree line c h z q = layers_within 0 (weight tree) (omega arith) (with_type_keeps (R deep 0) (tagging deep) (special_type line tree (asked c)) c (special_after line tree (asked c)) z q)
 
     members_keep : (deep : Bool) (parts : Trees) (list : d.Members) (c : Context) → AllNames W parts → Reached (R deep (weights parts) c) (members parts list c)
     members_keep deep none list c h z q = reached_ok (R deep 0 c) (step.stop deep 0 c) z q
@@ -442,7 +462,7 @@ module _ (W : List ℕ → Type 0) (R : Bool → ℕ → Context → Context →
         let t = came (with_layers l.value.0.tags l.value.1 base) l.last in
         let m = came (member line (name_of declarator) t.value list l.value.0) t.last in
         let one = layers_keep deep declarator c h.0 l.value l.is in
-        let two = members_keep_one deep line (name_of declarator) t.value list l.value.0 m.value m.is in
+        let two = members_keep_one (R deep 0) (tagging deep) line (name_of declarator) t.value list l.value.0 m.value m.is in
         let three = names_keep deep rest line base m.value.1 m.value.0 h.1 z m.last in
         layers_both (weight declarator) (weights rest) _ (omega arith) one (layers_both 0 (weights rest) (weights rest) (omega arith) two three)
 
