@@ -8,6 +8,8 @@ use Rattle.core_tree.specs.Sorts.{Sort, Integer}
 use Rattle.core_tree.specs.declared.statements.Atom.{Atom}
 use Rattle.core_tree.specs.declared.statements.StmKind.TheVariants.{Jump, Zero, Case, Loop, Enter, Leave, Return}
 use Rattle.c_tree.specs.Forms as f
+use Rattle.c_tree.specs.Grammar.{shape}
+use Rattle.c_tree.specs.Scopes.{is_scope}
 use Rattle.c_tree.specs.Tree.{Tree, Trees, At, Node, none, ◌▹◌}
 use Rattle.c_decls.specs.Expressions.{line_of}
 use Rattle.c_decls.specs.IntegerTypes.{promoted}
@@ -16,7 +18,7 @@ use Rattle.c_decls.specs.Refusals.{Checked, then, unless}
 use Rattle.c_decls.specs.ScopeList.{tail}
 use Rattle.c_decls.specs.Typed.{Operand, Number, PointerTo, Neither, operand, is_void, is_scalar}
 use Rattle.c_decls.specs.declared.refusal.TypeKind.TheVariants.{LeftOut, Operands, Assignment, CaseTwice, StrayBreak}
-use Rattle.elaboration.specs.Addressed.{Taken, left_scope, taken}
+use Rattle.elaboration.specs.Addressed.{Taken, left_scope, taken, all_taken, left as left_node}
 use Rattle.elaboration.specs.Context.{Here, Context, entered, left, scoped, emit, here, new_label, with_labels, with_pieces}
 use Rattle.elaboration.specs.Conversions.{Found, atom_in, valued, convert, convert_integer, tested_value, unused}
 use Rattle.elaboration.specs.Declarations.{declaration}
@@ -25,6 +27,8 @@ use Rattle.elaboration.specs.Expressions.{found}
 use Rattle.elaboration.specs.Reallocates.{opened, closed}
 use Rattle.elaboration.specs.Statements.{Around, below, in_loop, in_switch, in_delay, has_case, leaves, leave_to, evaluated, maybe_evaluated, closed_atom, condition, leaves_if_zero, maybe_leaves, apart, returned, return_value, return_of, return_from, with_case, cased, defaulted, does, dispatch, switch_operand_of, switch_operand, no_cases, switched, looped, for_start, statement, items}
 use Rattle.core_soundness.specs.Spoken.{Spoken, AllSpoken}
+use Rattle.core_soundness.specs.Written.{Written, AllWritten}
+use Rattle.core_soundness.proofs.Formed.{Formed, AllFormed, Shaped}
 use Rattle.core_soundness.specs.Worlds.{World, world, Holds, HeldAs, Held, FitsAnswer, PiecesFit, NamesFit, result_sort}
 use Rattle.core_soundness.proofs.Agreeing.{came}
 use Rattle.core_soundness.proofs.Calls.{converting_of}
@@ -37,7 +41,7 @@ use Rattle.core_soundness.proofs.LocalsRun.{local_declaration_runs}
 use Rattle.core_soundness.proofs.Scopes.{all_refl, all_trans}
 use Rattle.core_soundness.proofs.Sitting.{Fine, Runs, runs_refl, runs_trans, goes_runs, on_runs, entered_fine, runs_left, closed_goes, Evaluates, evaluates, evaluated_goes, evaluates_unused}
 use Rattle.core_soundness.proofs.Sorting.{Grew, grew_refl, grew_trans, holds_grew, pieces_grew, pieces_joined, Goes, goes_refl, goes_trans, goes_emit, goes_here, goes_labels, converted, integer_converted, tested_value_gives, passed, kept_test, unbarred}
-use Rattle.core_soundness.proofs.Taking.{Has, Inside, InStep, Keeps, step_left, Good, ItemsGood, behind_items, as_before, expr_taken, block_taken, delay_taken, if_taken, else_taken, while_taken, do_taken, for_taken, switch_taken, case_taken, default_taken, break_taken, continue_taken, return_taken, start_taken, names_taken, items_taken, none_taken, empty_taken, line_good, expr_good, block_good, delay_good, if_good, else_good, while_good, do_good, for_good, switch_good, case_good, default_good, return_good, start_good, names_good, items_good}
+use Rattle.core_soundness.proofs.Taking.{Has, Inside, InStep, Keeps, step_left, Good, ItemsGood, behind_items, as_before, empty_taken, node_good, items_of, items_good, names_good}
 
 -- expressions
 
@@ -365,129 +369,122 @@ module _ (answer : Option Sort) (numbers : List ℕ) where
       (local_declaration_runs answer line words names c z l (declaration_spoken line words names t c z g.formed g.written s.step (inside_at u.addressed numbers c.running.addressed s.same g.inside) q) s.fine (s.inside, s.deep) q)
 
   for_start_on : (line : ℕ) (tree : Tree) (t : Taken) (c z : Context) → 1 ≤ line → Good numbers t tree → Stands_in answer numbers t c → for_start line tree c ≡ Ok z → Ran_on answer numbers c (taken tree t) z
+  unfolding taken all_taken left_node shape is_scope Written AllWritten Formed AllFormed
   for_start_on line (Node f.ForNames (words ▹ names ▹ none)) t c z l g s q =
-      ran_as (taken (Node f.Local (At line ▹ words ▹ names ▹ none)) t) (taken (Node f.ForNames (words ▹ names ▹ none)) t) c z (names_taken t line words names) (local_on line words names t c z l (names_good numbers t line words names l g) s q)
+      local_on line words names t c z l (names_good numbers t line words names l g) s q
   for_start_on line (Node f.ForStart (Node f.MaybeExpr es ▹ none)) t c z l g s q =
-      let r = maybe_evaluated_on es t c z (start_good numbers t es g) s q in
+      let r = maybe_evaluated_on es t c z (node_good numbers f.ForStart (Node f.MaybeExpr es ▹ none) t g).0 s q in
       let u : Taken = taken (Node f.MaybeExpr es) t in
-      ran_as (as_before t u) (taken (Node f.ForStart (Node f.MaybeExpr es ▹ none)) t) c z (start_taken t es) (ran_go t (as_before t u) c z s (typed_step t u c z s.step r.stands.step) r.goes)
+      ran_go t (as_before t u) c z s (typed_step t u c z s.step r.stands.step) r.goes
   for_start_on line tree t c z l g s q = never _ _ z q
 
   mutual
-    unfolding statement items
+    unfolding statement items taken all_taken left_node shape is_scope Written AllWritten Formed AllFormed
 
     pub statement_runs : (tree : Tree) (w : Taken) (a : Around) (c : Context) → Good numbers w tree → Stands_in answer numbers w c → Led (Ran_on answer numbers c (taken tree w)) (statement tree a c)
     statement_runs (Node f.Empty parts) w a c p s z q =
         ran_as w (taken (Node f.Empty parts) w) c z (empty_taken parts w p.formed) (ran_to w c c z q (record { runs = runs_refl answer c s.fine; stands = s }))
     statement_runs (Node f.Expr (At line ▹ e ▹ none)) w a c p s z q =
-        let o = expr_good numbers w line e p in
+        let o = (node_good numbers f.Expr (At line ▹ e ▹ none) w p).1.0 in
         let g = evaluated_runs e c z (evaluated_spoken e w c z s.step.2 (inside_at (taken e w).addressed numbers c.running.addressed s.same o.inside) o.written o.formed q) s.fine.names q in
-        ran_as (as_before w (taken e w)) (taken (Node f.Expr (At line ▹ e ▹ none)) w) c z (expr_taken w line e) (ran_go w (as_before w (taken e w)) c z s (typed_step w (taken e w) c z s.step (evaluated_in_step e w c z o.formed s.step q)) g)
+        ran_go w (as_before w (taken e w)) c z s (typed_step w (taken e w) c z s.step (evaluated_in_step e w c z o.formed s.step q)) g
     statement_runs (Node f.Block (At line ▹ Node f.Items parts ▹ none)) w a c p s z q =
-        led_as (left_scope w (behind_items parts w)) _ c (block_taken w line parts)
-        (scoped_led w (behind_items parts w) c s (λ si. items_run parts w (below a) (entered c) (block_good numbers w line parts p) si)) z q
+        (scoped_led w (behind_items parts w) c s (λ si. items_run parts w (below a) (entered c) (items_of numbers parts w (node_good numbers f.Block (At line ▹ Node f.Items parts ▹ none) w p).1.0) si)) z q
     statement_runs (Node f.Delay (At line ▹ Node f.Items parts ▹ none)) w a c p s z q =
-        let o = delay_good numbers w line parts p in
+        let o = node_good numbers f.Delay (At line ▹ Node f.Items parts ▹ none) w p in
         let u : Taken = behind_items parts w in
         let d = emit line Enter (entered c) in
-        led_as (left_scope w u) _ c (delay_taken w line parts)
-        (scoped_led w u c s (λ si. led_goes w u (entered c) d si (goes_emit line Enter (entered c) o.0 tt)
-        (λ sd. led_then u u d (items_run parts w (in_delay a) d o.1 sd) (λ e se. led_done u e (emit line Leave e) se (goes_emit line Leave e o.0 tt))))) z q
+        (scoped_led w u c s (λ si. led_goes w u (entered c) d si (goes_emit line Enter (entered c) o.0.written tt)
+        (λ sd. led_then u u d (items_run parts w (in_delay a) d (items_of numbers parts w o.1.0) sd) (λ e se. led_done u e (emit line Leave e) se (goes_emit line Leave e o.0.written tt))))) z q
     statement_runs (Node f.If (At line ▹ e ▹ x ▹ none)) w a c p s z q =
-        let o = if_good numbers w line e x p in
+        let o = node_good numbers f.If (At line ▹ e ▹ x ▹ none) w p in
         let t1 : Taken = taken e w in
         let u : Taken = left_scope t1 (taken x t1) in
         let end = new_label c in
         let b = with_labels 1 c in
-        led_as (left_scope w u) _ c (if_taken w line e x)
-        (led_goes w (left_scope w u) c b s (goes_labels 1 c) (λ sb. scoped_led w u b sb (λ si. led_then t1 u (entered b) (leaves_on line end e w (entered b) o.0 o.1 si)
-        (λ t st. led_then u u t (scoped_led t1 (taken x t1) t st (λ sx. statement_runs x t1 (below a) (entered t) o.2 sx))
+        (led_goes w (left_scope w u) c b s (goes_labels 1 c) (λ sb. scoped_led w u b sb (λ si. led_then t1 u (entered b) (leaves_on line end e w (entered b) o.0.written o.1.0 si)
+        (λ t st. led_then u u t (scoped_led t1 (taken x t1) t st (λ sx. statement_runs x t1 (below a) (entered t) o.1.1.0 sx))
         (λ g sg. led_done u g (here end g) sg (goes_here end g)))))) z q
     statement_runs (Node f.IfElse (At line ▹ e ▹ x ▹ other ▹ none)) w a c p s z q =
-        let o = else_good numbers w line e x other p in
+        let o = node_good numbers f.IfElse (At line ▹ e ▹ x ▹ other ▹ none) w p in
         let t1 : Taken = taken e w in
         let u : Taken = left_scope t1 (taken x t1) in
         let v : Taken = left_scope u (taken other u) in
         let end = new_label c in
         let b = with_labels 2 c in
-        led_as (left_scope w v) _ c (else_taken w line e x other u refl)
-        (led_goes w (left_scope w v) c b s (goes_labels 2 c) (λ sb. scoped_led w v b sb (λ si. led_then t1 v (entered b) (leaves_on line (end + 1) e w (entered b) o.0 o.1 si)
-        (λ t st. led_then u v t (scoped_led t1 (taken x t1) t st (λ sx. statement_runs x t1 (below a) (entered t) o.2 sx))
+        (led_goes w (left_scope w v) c b s (goes_labels 2 c) (λ sb. scoped_led w v b sb (λ si. led_then t1 v (entered b) (leaves_on line (end + 1) e w (entered b) o.0.written o.1.0 si)
+        (λ t st. led_then u v t (scoped_led t1 (taken x t1) t st (λ sx. statement_runs x t1 (below a) (entered t) o.1.1.0 sx))
         (λ g sg. let j = emit line (Jump end) g in
         let m = here (end + 1) j in
-        led_goes u v g m sg (goes_trans g j m (goes_emit line (Jump end) g o.0 tt) (goes_here (end + 1) j))
-        (λ sm. led_then v v m (scoped_led u (taken other u) m sm (λ so. statement_runs other u (below a) (entered m) o.3 so))
+        led_goes u v g m sg (goes_trans g j m (goes_emit line (Jump end) g o.0.written tt) (goes_here (end + 1) j))
+        (λ sm. led_then v v m (scoped_led u (taken other u) m sm (λ so. statement_runs other u (below a) (entered m) o.1.1.1.0 so))
         (λ h sh. led_done v h (here end h) sh (goes_here end h)))))))) z q
     statement_runs (Node f.While (At line ▹ e ▹ x ▹ none)) w a c p s z q =
-        let o = while_good numbers w line e x p in
+        let o = node_good numbers f.While (At line ▹ e ▹ x ▹ none) w p in
         let t1 : Taken = taken e w in
         let u : Taken = left_scope t1 (taken x t1) in
         let head = new_label c in
         let b = with_labels 3 c in
         let y = here head (entered b) in
-        led_as (left_scope w u) _ c (while_taken w line e x)
         (led_goes w (left_scope w u) c b s (goes_labels 3 c) (λ sb. scoped_led w u b sb (λ si. led_goes w u (entered b) y si (goes_here head (entered b))
-        (λ sy. led_then t1 u y (leaves_on line (head + 1) e w y o.0 o.1 sy)
-        (λ t st. led_then u u t (scoped_led t1 (taken x t1) t st (λ sx. statement_runs x t1 (in_loop (head + 1) (head + 2) a) (entered t) o.2 sx))
+        (λ sy. led_then t1 u y (leaves_on line (head + 1) e w y o.0.written o.1.0 sy)
+        (λ t st. led_then u u t (scoped_led t1 (taken x t1) t st (λ sx. statement_runs x t1 (in_loop (head + 1) (head + 2) a) (entered t) o.1.1.0 sx))
         (λ g sg. let m = here (head + 2) g in
-        led_done u g (looped line head (head + 1) m) sg (goes_trans g m _ (goes_here (head + 2) g) (looped_goes line head (head + 1) m o.0)))))))) z q
+        led_done u g (looped line head (head + 1) m) sg (goes_trans g m _ (goes_here (head + 2) g) (looped_goes line head (head + 1) m o.0.written)))))))) z q
     statement_runs (Node f.Do (At line ▹ x ▹ e ▹ none)) w a c p s z q =
-        let o = do_good numbers w line x e p in
+        let o = node_good numbers f.Do (At line ▹ x ▹ e ▹ none) w p in
         let u : Taken = left_scope w (taken x w) in
         let v : Taken = taken e u in
         let head = new_label c in
         let b = with_labels 3 c in
         let y = here head (entered b) in
-        led_as (left_scope w v) _ c (do_taken w line x e)
         (led_goes w (left_scope w v) c b s (goes_labels 3 c) (λ sb. scoped_led w v b sb (λ si. led_goes w v (entered b) y si (goes_here head (entered b))
-        (λ sy. led_then u v y (scoped_led w (taken x w) y sy (λ sx. statement_runs x w (in_loop (head + 1) (head + 2) a) (entered y) o.1 sx))
+        (λ sy. led_then u v y (scoped_led w (taken x w) y sy (λ sx. statement_runs x w (in_loop (head + 1) (head + 2) a) (entered y) o.1.0 sx))
         (λ g sg. let m = here (head + 2) g in
         led_goes u v g m sg (goes_here (head + 2) g)
-        (λ sm. led_then v v m (leaves_on line (head + 1) e u m o.0 o.2 sm)
-        (λ t st. led_done v t (looped line head (head + 1) t) st (looped_goes line head (head + 1) t o.0)))))))) z q
+        (λ sm. led_then v v m (leaves_on line (head + 1) e u m o.0.written o.1.1.0 sm)
+        (λ t st. led_done v t (looped line head (head + 1) t) st (looped_goes line head (head + 1) t o.0.written)))))))) z q
     statement_runs (Node f.For (At line ▹ start ▹ Node f.MaybeExpr test ▹ Node f.MaybeExpr step ▹ x ▹ none)) w a c p s z q =
-        let o = for_good numbers w line start x test step p in
+        let o = node_good numbers f.For (At line ▹ start ▹ Node f.MaybeExpr test ▹ Node f.MaybeExpr step ▹ x ▹ none) w p in
         let w1 : Taken = taken start w in
         let w2 : Taken = taken (Node f.MaybeExpr test) w1 in
         let w3 : Taken = taken (Node f.MaybeExpr step) w2 in
         let u : Taken = left_scope w3 (taken x w3) in
         let head = new_label c in
         let b = with_labels 3 c in
-        led_as (left_scope w u) _ c (for_taken w line start x test step w3 refl)
         (led_goes w (left_scope w u) c b s (goes_labels 3 c) (λ sb. scoped_led w u b sb
-        (λ si. led_then w1 u (entered b) (λ y k. for_start_on line start w (entered b) y o.0 o.1 si k)
+        (λ si. led_then w1 u (entered b) (λ y k. for_start_on line start w (entered b) y o.0.written o.1.0 si k)
         (λ y sy. led_goes w1 u y (here head y) sy (goes_here head y)
-        (λ sh. led_then w2 u (here head y) (maybe_leaves_on line (head + 1) test w1 (here head y) o.0 o.2 sh)
+        (λ sh. led_then w2 u (here head y) (maybe_leaves_on line (head + 1) test w1 (here head y) o.0.written o.1.1.0 sh)
         (λ t st. led_after (Ran_on answer numbers t u) (maybe_evaluated step (apart t))
         (λ g k. let sa : Stands_in answer numbers w2 (apart t) = record { fine = record { names = st.fine.names; lined = st.fine.lined }; inside = st.inside; deep = st.deep; sorted = st.sorted; step = st.step; same = st.same } in
-        let ge = maybe_evaluated_on step w2 (apart t) g o.3 sa k in
+        let ge = maybe_evaluated_on step w2 (apart t) g o.1.1.1.0 sa k in
         let sg = ge.stands in
         let y2 = with_pieces t.code.pieces g in
         let sw : Stands_in answer numbers w3 y2 = record { fine = record { names = sg.fine.names; lined = sg.fine.lined }; inside = sg.inside; deep = sg.deep; sorted = sg.sorted; step = sg.step; same = sg.same } in
         led_after (Ran_on answer numbers t u) (scoped y2 (λ v. statement x (in_loop (head + 1) (head + 2) a) v))
-        (λ h j. let r = scoped_led w3 (taken x w3) y2 sw (λ sx. statement_runs x w3 (in_loop (head + 1) (head + 2) a) (entered y2) o.4 sx) h j in
+        (λ h j. let r = scoped_led w3 (taken x w3) y2 sw (λ sx. statement_runs x w3 (in_loop (head + 1) (head + 2) a) (entered y2) o.1.1.1.1.0 sx) h j in
         let bodied = with_pieces (h.code.pieces ++ (Here (head + 2) ∷ g.code.pieces)) h in
         let made = looped line head (head + 1) bodied in
         led_ok (Ran_on answer numbers t u)
-        (ran w2 u t made st r.stands.step (on_runs answer t bodied made (for_runs answer (head + 2) t g h st.fine ge.goes r.runs) (looped_goes line head (head + 1) bodied o.0))))))))))) z q
+        (ran w2 u t made st r.stands.step (on_runs answer t bodied made (for_runs answer (head + 2) t g h st.fine ge.goes r.runs) (looped_goes line head (head + 1) bodied o.0.written))))))))))) z q
     statement_runs (Node f.Switch (At line ▹ e ▹ Node f.Block (At at ▹ Node f.Items parts ▹ none) ▹ none)) w a c p s z q =
-        let o = switch_good numbers w line at e parts p in
+        let o = node_good numbers f.Switch (At line ▹ e ▹ Node f.Block (At at ▹ Node f.Items parts ▹ none) ▹ none) w p in
         let u : Taken = taken e w in
         let v : Taken = left_scope u (behind_items parts u) in
         let end = new_label c in
         let b = with_labels 1 c in
-        led_as (left_scope w v) _ c (switch_taken w line at e parts)
         (led_goes w (left_scope w v) c b s (goes_labels 1 c) (λ sb. scoped_led w v b sb
         (λ si. led_after (Ran_on answer numbers (entered b) v) (switch_operand line e (entered b))
         (λ t k. let y = no_cases (apart t.0) in
-        let at_operand = operand_on line e w (entered b) t o.0 o.1 si k in
+        let at_operand = operand_on line e w (entered b) t o.0.written o.1.0 si k in
         let st = at_operand.stands in
         let sa : Stands_in answer numbers u y = record { fine = record { names = st.fine.names; lined = st.fine.lined }; inside = st.inside; deep = st.deep; sorted = st.sorted; step = st.step; same = st.same } in
         led_after (Ran_on answer numbers (entered b) v) (scoped y (λ d. items parts (in_switch true end t.1.0 a) d))
-        (λ g j. let r = scoped_led u (behind_items parts u) y sa (λ sx. items_run parts u (in_switch true end t.1.0 a) (entered y) o.2 sx) g j in
+        (λ g j. let r = scoped_led u (behind_items parts u) y sa (λ sx. items_run parts u (in_switch true end t.1.0 a) (entered y) (items_of numbers parts u (node_good numbers f.Block (At at ▹ Node f.Items parts ▹ none) u o.1.1.0).1.0) sx) g j in
         let made = switched line end t.1.1 t.0 g in
         led_ok (Ran_on answer numbers (entered b) v)
-        (ran w v (entered b) made si r.stands.step (runs_trans answer (entered b) t.0 made (goes_runs answer (entered b) t.0 si.fine at_operand.at.goes) (switched_runs answer line end t.1.1 t.0 g o.0 at_operand.at.holds r.runs)))))))) z q
+        (ran w v (entered b) made si r.stands.step (runs_trans answer (entered b) t.0 made (goes_runs answer (entered b) t.0 si.fine at_operand.at.goes) (switched_runs answer line end t.1.1 t.0 g o.0.written at_operand.at.holds r.runs)))))))) z q
     statement_runs (Node f.Switch (At line ▹ e ▹ x ▹ none)) w a c p s z q =
         let end = new_label c in
         let b = with_labels 1 c in
@@ -496,7 +493,7 @@ module _ (answer : Option Sort) (numbers : List ℕ) where
         let g = came (statement x (in_switch false end t.value.1.0 a) (no_cases (apart t.value.0))) {next = λ g. bad (record { kind = LeftOut; line = line })} t.last in
         never _ _ v.value g.last
     statement_runs (Node f.Case (At line ▹ e ▹ x ▹ none)) w a c p s z q =
-        let o = case_good numbers w line e x p in
+        let o = node_good numbers f.Case (At line ▹ e ▹ x ▹ none) w p in
         let u : Taken = taken x (taken e w) in
         let k = came (constant e c) q in
         let label = new_label k.value.0 in
@@ -504,8 +501,7 @@ module _ (answer : Option Sort) (numbers : List ℕ) where
         let d = came (statement x a b) k.last in
         let r1 = constant_runs answer e c c (runs_refl answer c s.fine) k.value k.is in
         let r2 = on_runs answer c k.value.0 b r1 (goes_trans k.value.0 (with_labels 1 k.value.0) b (goes_labels 1 k.value.0) (goes_here label (with_labels 1 k.value.0))) in
-        let r3 = statement_runs x (taken e w) a b o.1 (stand_on w (taken e w) c b s (constant_in_step e w c k.value o.0.formed s.step k.is) r2) d.value d.is in
-        ran_as (as_before w u) (taken (Node f.Case (At line ▹ e ▹ x ▹ none)) w) c z (case_taken w line e x)
+        let r3 = statement_runs x (taken e w) a b o.1.1.0 (stand_on w (taken e w) c b s (constant_in_step e w c k.value o.1.0.formed s.step k.is) r2) d.value d.is in
         (ran w (as_before w u) c z s (typed_step w u c z s.step (case_step line a a.switched (length c.running.cases) k.value.1.value label u d.value z r3.stands.step d.last))
         (runs_trans answer c b z r2 (runs_trans answer b d.value z r3.runs (case_runs answer line a a.switched (length c.running.cases) k.value.1.value label d.value z r3.runs.fine d.last))))
     statement_runs (Node f.Default (At line ▹ x ▹ none)) w a c p s z q =
@@ -514,29 +510,27 @@ module _ (answer : Option Sort) (numbers : List ℕ) where
         let u : Taken = taken x w in
         let d = came (statement x a b) q in
         let g = goes_trans c (with_labels 1 c) b (goes_labels 1 c) (goes_here label (with_labels 1 c)) in
-        let r = statement_runs x w a b (default_good numbers w line x p) (stand_go w w c b s s.step g) d.value d.is in
-        ran_as (as_before w u) (taken (Node f.Default (At line ▹ x ▹ none)) w) c z (default_taken w line x)
+        let r = statement_runs x w a b (node_good numbers f.Default (At line ▹ x ▹ none) w p).1.0 (stand_go w w c b s s.step g) d.value d.is in
         (ran w (as_before w u) c z s (typed_step w u c z s.step (default_step line a label u d.value z r.stands.step d.last))
         (runs_trans answer c b z (goes_runs answer c b s.fine g) (runs_trans answer b d.value z r.runs (default_runs answer line a label d.value z r.runs.fine d.last))))
     statement_runs (Node f.Break (At line ▹ none)) w a c p s z q =
-        let g = leave_to_runs line a.delays a.breaks c z (line_good numbers w f.Break line none p) q in
-        ran_as w (taken (Node f.Break (At line ▹ none)) w) c z (break_taken w line) (ran_go w w c z s (goes_step w c z s g) g)
+        let g = leave_to_runs line a.delays a.breaks c z p.written.1.0 q in
+        ran_go w w c z s (goes_step w c z s g) g
     statement_runs (Node f.Continue (At line ▹ none)) w a c p s z q =
-        let g = leave_to_runs line a.delays a.continues c z (line_good numbers w f.Continue line none p) q in
-        ran_as w (taken (Node f.Continue (At line ▹ none)) w) c z (continue_taken w line) (ran_go w w c z s (goes_step w c z s g) g)
+        let g = leave_to_runs line a.delays a.continues c z p.written.1.0 q in
+        ran_go w w c z s (goes_step w c z s g) g
     statement_runs (Node f.Return (At line ▹ Node f.MaybeExpr es ▹ none)) w a c p s z q =
-        let o = return_good numbers w line es p in
+        let o = node_good numbers f.Return (At line ▹ Node f.MaybeExpr es ▹ none) w p in
         let u : Taken = taken (Node f.MaybeExpr es) w in
-        let r = return_from_runs answer line a.delays es c z o.0
-        (return_from_spoken line a.delays es w c z s.step.2 (inside_at u.addressed numbers c.running.addressed s.same o.1.inside) o.1.written o.1.formed q) s.fine s.sorted q in
-        ran_as (as_before w u) (taken (Node f.Return (At line ▹ Node f.MaybeExpr es ▹ none)) w) c z (return_taken w line es)
-        (ran w (as_before w u) c z s (typed_step w u c z s.step (return_from_in_step line a.delays es w c z o.1.formed s.step q)) r)
-    statement_runs (Node f.Local (At line ▹ words ▹ names ▹ none)) w a c p s z q = local_on line words names w c z (line_good numbers w f.Local line (words ▹ names ▹ none) p) p s q
+        let r = return_from_runs answer line a.delays es c z o.0.written
+        (return_from_spoken line a.delays es w c z s.step.2 (inside_at u.addressed numbers c.running.addressed s.same o.1.0.inside) o.1.0.written o.1.0.formed q) s.fine s.sorted q in
+        (ran w (as_before w u) c z s (typed_step w u c z s.step (return_from_in_step line a.delays es w c z o.1.0.formed s.step q)) r)
+    statement_runs (Node f.Local (At line ▹ words ▹ names ▹ none)) w a c p s z q = local_on line words names w c z p.written.1.0 p s q
     statement_runs tree w a c p s z q = never _ _ z q
 
     pub items_run : (parts : Trees) (w : Taken) (a : Around) (c : Context) → ItemsGood numbers w parts → Stands_in answer numbers w c → Led (Ran_on answer numbers c (behind_items parts w)) (items parts a c)
-    items_run none w a c p s z q = ran_as w (behind_items none w) c z (none_taken w) (ran_to w c c z q (record { runs = runs_refl answer c s.fine; stands = s }))
-    items_run (item ▹ rest) w a c p s z q =
-        let o = items_good numbers w item rest p in
+    items_run none w a c p s z q = ran_to w c c z q (record { runs = runs_refl answer c s.fine; stands = s })
+    items_run (item ▹ rest) w a c g s z q =
+        let o = items_good numbers w item rest g in
         let u : Taken = behind_items rest (taken item w) in
-        led_as u _ c (items_taken w item rest) (led_then (taken item w) u c (statement_runs item w a c o.0 s) (λ d sd. items_run rest (taken item w) a d o.1 sd)) z q
+        led_then (taken item w) u c (statement_runs item w a c o.0 s) (λ d sd. items_run rest (taken item w) a d o.1 sd) z q
