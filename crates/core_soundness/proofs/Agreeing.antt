@@ -155,7 +155,6 @@ built_in_typed t true = refl
 built_in_typed t false = refl
 
 name_typed : (t : PlainTyped) (inner : Bool) (declared : Option PlainNamed) → (name_found t inner declared).typed ≡ t
-name_typed t inner (Some (n.Register type index)) = refl
 name_typed t inner (Some (n.Object type index)) = object_typed t inner index
 name_typed t inner (Some (n.BuiltIn index)) = built_in_typed t t.is_null
 name_typed t inner other = refl

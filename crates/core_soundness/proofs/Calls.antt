@@ -103,12 +103,6 @@ cond_false false x y v e h = h
 record_again : (s t : PlainType) → is_record s ≡ true → same s t ≡ true → is_record t ≡ true
 unfolding same
 record_again (types.Struct tag) (types.Struct other) r e = refl
-record_again (types.Struct tag) (types.Int ty) r e = cc
-record_again (types.Struct tag) (types.Pointer target) r e = cc
-record_again (types.Struct tag) types.Void r e = cc
-record_again (types.Struct tag) (types.Array element length) r e = cc
-record_again (types.Struct tag) (types.Union other) r e = cc
-record_again (types.Struct tag) (types.Function answer params) r e = cc
 record_again (types.Union tag) (types.Union other) r e = refl
 record_again other t r e = cc
 

@@ -448,11 +448,7 @@ typed_words false before e h = sym e ∙ h
 
 specified : (line : ℕ) (words : Trees) (t : Taken) (c z : Context) → t.typedef ≡ false → Stayed c (taken (Node f.Specs (At line ▹ words)) t) z → Specified (Node f.Specs (At line ▹ words)) t c z
 unfolding taken left has_typedef
-specified line words t c z e s = record {
-  stayed = s;
-  storage = typed_storage (has_typedef words) (has is_outside_word words) t.typedef e;
-  none = λ k. typed_words (has_typedef words) t.typedef e k;
-}
+specified line words t c z e s = search (typed_storage, typed_words)
 
 specs_stay : (words : Tree) (t : Taken) (c : Context) (z : Context × PlainType) → t.typedef ≡ false → Formed words → HasScope c.scopes.inner → Follows t c → specs words c ≡ Ok z → Specified words t c z.0
 unfolding specs

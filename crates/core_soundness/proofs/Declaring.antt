@@ -442,14 +442,7 @@ refused_first R line x next d h = never (R d) _ d h
 -- a function that stands twice in the list would have a number of its own
 again_tied : (fs : List Declared) (file : Table) (ws : List Walked) (name : List ℕ) (type : PlainType) (j : ℕ) → named_in name file ≡ Some (n.Function type j) → length fs ≤ j
     → Tied fs file ws (fs ++ (record { name = name; defined = None }) ∷ []) file ws
-again_tied fs file ws name type j e far = record {
-  kept = λ i d q. get_left fs (record { name = name; defined = None } ∷ []) i d q;
-  named = λ h. let x = h.found name type j e in absurd (omega (arith, get_below fs j x.0 x.1, far));
-  strict = λ h i k d x p. ⊎_elim
-      (λ (q : slice_get fs i ≡ Some d). h i k d q p)
-      (λ (q : (i ≡ length fs) × (d ≡ record { name = name; defined = None })). never_defined d k q.1 p)
-      (get_push fs (record { name = name; defined = None }) i d x);
-}
+again_tied fs file ws name type j e far = search (arith, get_left, get_below, get_push)
   where
     never_defined : (d : Declared) (k : ℕ) → d ≡ record { name = name; defined = None } → d.defined ≡ Some k → k < length ws
     never_defined d k q p = let clash : None ≡ Some k = sym (ap (λ (x : Declared). x.defined) q) ∙ p in cc
@@ -470,13 +463,7 @@ module _ (line : ℕ) (name : List ℕ) (type : PlainType) (c : Context) (file :
   again : (t : PlainType) (j : ℕ) → named_in name file ≡ Some (n.Function t j) → (k : Bool) → nat_lt j (length c.functions) ≡ k
       → Introduced name j flat (cond k flat (record flat { functions = c.functions ++ (record { name = name; defined = None }) ∷ [] }))
   again t j e true q = record { passes = passes_refl flat s; type = t; there = e }
-  again t j e false q = record {
-    passes = passes_beside flat (record flat { functions = c.functions ++ (record { name = name; defined = None }) ∷ [] }) refl refl refl
-        (stays_beside flat (record flat { functions = c.functions ++ (record { name = name; defined = None }) ∷ [] }) s refl refl refl refl refl (λ k. k) refl
-        (again_tied c.functions file c.walked name t j e (ltb-false j (length c.functions) q)) (λ h. absurd (omega (arith, h))));
-    type = t;
-    there = e;
-  }
+  again t j e false q = search (arith, passes_beside, stays_beside, again_tied, ltb-false)
 
   first_one : named_in name file ≡ None → (k : Bool) → nat_lt (length c.functions) (length c.functions) ≡ k
       → Introduced name (length c.functions) flat (cond k (scopes_for None) (record (scopes_for None) { functions = c.functions ++ (record { name = name; defined = None }) ∷ [] }))
@@ -607,19 +594,7 @@ started_bytes variables index start None e = refl
 started_bytes variables index start (Some v) e = set_bytes variables index v (Some start) e
 
 started_stays : (index : ℕ) (d : Context × Target) → Safe d.0.scopes → length d.0.scopes.inner ≡ 0 → Stays d.0 (started index d)
-started_stays index d s flat = record {
-  safe = s;
-  depth = refl;
-  tied = tied_refl d.0.functions d.0.scopes.file d.0.walked;
-  walked = refl;
-  length = refl;
-  params = λ k. k;
-  counted = λ (k : Counted d.0). record {
-    bytes = omega (arith, k.bytes, started_bytes d.0.variables index (start_in d.1) (slice_get d.0.variables index) refl);
-    small = k.small;
-  };
-  inside = λ h. absurd (omega (arith, h, flat));
-}
+started_stays index d s flat = search (arith, tied_refl, started_bytes)
 
 fill_variable_stays : (line index : ℕ) (type : PlainType) (inits : Trees) (c : Context) → Safe c.scopes → length c.scopes.inner ≡ 0 → Led (Stays c) (fill_variable line index type inits c)
 fill_variable_stays line index type none c s flat = led_ok (Stays c) (passes_refl c s).stays

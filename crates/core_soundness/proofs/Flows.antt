@@ -271,7 +271,6 @@ module _ (num : Numbers) where
     kind_goes depth (Case a v l) point n k next h t e c = fork_goes depth point l n k next h.0 h.2 t e c
     kind_goes depth (Loop l) point n k next h t e c = sym h ∙ sym t ∙ ap depth (sym (one_of (num.point l) next c))
     kind_goes depth (Lib name r args) point n k next h t e c = lib_goes depth name point n next (sym h ∙ e) c
-    kind_goes depth Enter point n k next h t e c = sym h ∙ e ∙ ap depth (sym (one_of (point + 1) next c))
     kind_goes depth Leave point n k next h t e c = let less : n - 1 ≡ k = omega arith in less ∙ e ∙ ap depth (sym (one_of (point + 1) next c))
     kind_goes depth (Return a) point n k next h t e c = absurd (none_of next c)
     kind_goes depth kind point n k next h t e c = sym h ∙ e ∙ ap depth (sym (one_of (point + 1) next c))
@@ -598,13 +597,7 @@ module _ (ws : List Way) (n low middle high : ℕ) (a b : List Piece) (s t : Lis
 -- the same with more ways out, and with other bounds of its labels
 pub with_ways : (ws more : List Way) (n low high : ℕ) (a : List Piece) (entries : List ℕ) → ((l : ℕ) → IsWay ws l → IsWay more l) → ((m : Marks) (end : ℕ) → Leads m end more → Leads m end ws)
     → Fragment ws n low high a entries → Fragment more n low high a entries
-with_ways ws more n low high a entries is leads f = record {
-  goes = targets_map (λ l. Placed l a ⊎ IsWay ws l) (λ l. Placed l a ⊎ IsWay more l) a (λ l. ⊎_elim (λ (h : Placed l a). inl h) (λ (h : IsWay ws l). inr (is l h))) f.goes;
-  targets = f.targets;
-  places = f.places;
-  placed = f.placed;
-  flows = λ m p lead. f.flows m p (leads m (p + steps a) lead);
-}
+with_ways ws more n low high a entries is leads f = grind (arith, targets_map)
 
 pub anywhere : (ws : List Way) (n low high : ℕ) (a : List Piece) (entries : List ℕ) → Fragment [] n low high a entries → Fragment ws n low high a entries
 anywhere ws n low high a entries f = with_ways [] ws n low high a entries (λ l h. absurd h) (λ m end h. tt) f
@@ -708,31 +701,13 @@ plain n low high stm h = record {
 
 -- a way out is taken where a number is zero
 pub zero_leaves : (ws : List Way) (n low high line l : ℕ) (a : Atom) → l < high → Fragment (way_on l n ∷ ws) n low high (Does (stm_at line (Zero a l)) ∷ []) []
-zero_leaves ws n low high line l a le = record {
-  goes = (inr (inl refl), tt);
-  targets = (le, tt);
-  places = tt;
-  placed = tt;
-  flows = λ m p lead. record { marks = m; same = agree_refl low m; flow = (n, (lead.0.depth, omega (arith, lead.0.ahead refl), refl), refl); entered = tt };
-}
+zero_leaves ws n low high line l a le = search (arith, agree_refl)
 
 pub jump_leaves : (ws : List Way) (n low high line l : ℕ) → l < high → Fragment (way_on l n ∷ ws) n low high (Does (stm_at line (Jump l)) ∷ []) []
-jump_leaves ws n low high line l le = record {
-  goes = (inr (inl refl), tt);
-  targets = (le, tt);
-  places = tt;
-  placed = tt;
-  flows = λ m p lead. record { marks = m; same = agree_refl low m; flow = (n, (lead.0.depth, omega (arith, lead.0.ahead refl)), refl); entered = tt };
-}
+jump_leaves ws n low high line l le = search (arith, agree_refl)
 
 pub loop_leaves : (ws : List Way) (n low high line l : ℕ) → l < high → Fragment (way_back l n ∷ ws) n low high (Does (stm_at line (Loop l)) ∷ []) []
-loop_leaves ws n low high line l le = record {
-  goes = (inr (inl refl), tt);
-  targets = (le, tt);
-  places = tt;
-  placed = tt;
-  flows = λ m p lead. record { marks = m; same = agree_refl low m; flow = (n, lead.0.depth, refl); entered = tt };
-}
+loop_leaves ws n low high line l le = grind (arith, agree_refl)
 
 -- a scope of its own round a fragment
 pub in_scope : (ws : List Way) (n low high line at : ℕ) (a : List Piece) → Fragment ws (n + 1) low high a [] → Fragment ws n low high (Does (stm_at line Enter) ∷ (a ++ (Does (stm_at at Leave) ∷ []))) []

@@ -132,7 +132,6 @@ all_formed (tree ▹ rest) h = (h.0.1, all_formed rest h.1)
 has_parts : (form : Form) (parts : Trees) (scope : Scope) → AllAllowed parts (places (shape form (count parts))) scope → HasParts form parts
 unfolding shape AllAllowed HasParts Takes
 has_parts f.Members none scope a = a
-has_parts f.Members (tree ▹ rest) scope a = tt
 has_parts f.MemberNames none scope a = a
 has_parts f.MemberNames (tree ▹ rest) scope a = a.0.1
 has_parts f.Inits none scope a = a
@@ -544,12 +543,9 @@ shaped : (form : Form) (parts : Trees) (scope : Scope) → obeys form parts scop
 unfolding shape obeys Allowed AllAllowed Takes Shaped
 shaped f.Strings parts scope o a = strings_formed parts scope a
 shaped f.Empty parts scope o a = line_alone parts scope a
-shaped f.MaybeName none scope o a = tt
 shaped f.MaybeName (tree ▹ rest) scope o a = name_alone (tree ▹ rest) scope a
 shaped f.Specs parts scope o a = one_node parts (specs_whole (tally parts) o)
-shaped f.MaybeExpr none scope o a = tt
 shaped f.MaybeExpr (tree ▹ rest) scope o a = at_most (tree ▹ rest) expr scope a
-shaped f.MaybeInit none scope o a = tt
 shaped f.MaybeInit (tree ▹ rest) scope o a = at_most (tree ▹ rest) p.Init scope a
 shaped (f.Pointer consts) (line ▹ declarator ▹ none) scope o a =
     let b : AllAllowed (line ▹ declarator ▹ none) (p.Line ∷ p.AnyDeclarator ∷ []) scope = subst (λ (ps : List Place). AllAllowed (line ▹ declarator ▹ none) (p.Line ∷ ps) scope) (behind_stars consts) a in

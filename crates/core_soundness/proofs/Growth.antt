@@ -190,11 +190,7 @@ pub settled_refl : (c : Context) → Settled c c
 settled_refl c = record { variables = refl; literals = λ i w e. e; objects = λ name type i e. e }
 
 pub settled_trans : (a b c : Context) → Settled a b → Settled b c → Settled a c
-settled_trans a b c x y = record {
-  variables = y.variables ∙ x.variables;
-  literals = λ i w e. y.literals i w (x.literals i w e);
-  objects = λ name type i e. x.objects name type i (y.objects name type i e);
-}
+settled_trans a b c x y = grind arith
 
 -- expressions declare tags alone
 no_tag : (tag type : PlainType) (i : ℕ) → n.Tag tag ≡ n.Object type i → ⊥
@@ -610,16 +606,7 @@ passes_beside c d e same same2 s = record {
 
 pub stays_beside : (c d : Context) → Safe d.scopes → d.walked ≡ c.walked → d.length ≡ c.length → d.static_bytes ≡ c.static_bytes → d.variables ≡ c.variables → d.literals ≡ c.literals → (SafeTable c.params → SafeTable d.params) → length d.scopes.inner ≡ length c.scopes.inner
     → Tied c.functions c.scopes.file c.walked d.functions d.scopes.file d.walked → (1 ≤ length c.scopes.inner → ObjectsStay c.scopes.file d.scopes.file) → Stays c d
-stays_beside c d s e1 e2 e3 e4 e5 keep deep tie objects = record {
-  safe = s;
-  depth = deep;
-  tied = tie;
-  walked = e1;
-  length = e2;
-  params = keep;
-  counted = λ (h : Counted c). record { bytes = cc (h.bytes); small = subst (λ n. n ≤ 67108864) (sym e3) h.small };
-  inside = λ h. record { variables = e4; literals = λ i w q. subst (λ (ls : List (List ℕ)). slice_get ls i ≡ Some w) (sym e5) q; objects = objects h };
-}
+stays_beside c d s e1 e2 e3 e4 e5 keep deep tie objects = grind arith
 
 -- full expressions
 

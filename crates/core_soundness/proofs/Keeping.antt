@@ -536,12 +536,7 @@ drops_more zero s r m = m
 drops_more (suc k) s r m = drops_more k (scopes.left s) (scopes.left r) (left_more s r m)
 
 pub keeps_stepped : (t u : Taken) (c d : TextContext) → SameNames t u → Keeps c d → Follows t c → Stepped t c u d
-keeps_stepped t u c d s k h = record {
-  follows = keeps_follows t u c d s k h;
-  addressed = k.addressed;
-  depth = more_depth c.scopes d.scopes k.more;
-  outside = λ j. more_fewer (drops j (scopes.left c.scopes)) (drops j (scopes.left d.scopes)) (drops_more j (scopes.left c.scopes) (scopes.left d.scopes) (left_more c.scopes d.scopes k.more));
-}
+keeps_stepped t u c d s k h = search (keeps_follows, more_depth, more_fewer, drops_more, left_more)
 
 pub stepped_refl : (t : Taken) (c : TextContext) → Follows t c → Stepped t c t c
 stepped_refl t c h = record { follows = h; addressed = refl; depth = refl; outside = λ j name e. e }
@@ -558,12 +553,7 @@ pub stepped_scope : (t u : Taken) (c d : TextContext) → Stepped t c u d → Ha
 stepped_scope t u c d s h = scope_of c.scopes.inner d.scopes.inner s.depth h
 
 pub stepped_names : (t u v : Taken) (c d : TextContext) → SameNames u v → Stepped t c u d → Stepped t c v d
-stepped_names t u v c d s x = record {
-  follows = (s.1 ∙ x.follows.0, λ name e. numbered_kept u v d.running.addressed d.running.addressed name s.0 refl (x.follows.1 name e));
-  addressed = x.addressed;
-  depth = x.depth;
-  outside = x.outside;
-}
+stepped_names t u v c d s x = grind (arith, numbered_kept)
 
 -- expressions go in step (C99 6.5, 6.8.3)
 

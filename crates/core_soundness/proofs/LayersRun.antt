@@ -51,17 +51,7 @@ pub aside_refl : (c : Context) → Aside c c
 aside_refl c = record { code = refl; running = refl; variables = refl; literals = refl; calls = refl; walked = refl; file = tags_refl c.scopes.file; outside = all_refl (scopes.tail c.scopes.inner); depth = refl }
 
 pub aside_trans : (a b c : Context) → Aside a b → Aside b c → Aside a c
-aside_trans a b c x y = record {
-  code = y.code ∙ x.code;
-  running = y.running ∙ ap (λ (run : Running). record run { declared = c.running.declared }) x.running;
-  variables = y.variables ∙ x.variables;
-  literals = y.literals ∙ x.literals;
-  calls = y.calls ∙ x.calls;
-  walked = y.walked ∙ x.walked;
-  file = tags_trans a.scopes.file b.scopes.file c.scopes.file x.file y.file;
-  outside = all_trans (scopes.tail a.scopes.inner) (scopes.tail b.scopes.inner) (scopes.tail c.scopes.inner) x.outside y.outside;
-  depth = y.depth ∙ x.depth;
-}
+aside_trans a b c x y = search (tags_trans, all_trans)
 
 told_aside : (told_of : names.Context) (c : Context) → More c.scopes told_of.scopes → Aside c (told told_of c)
 told_aside told_of c m = record { code = refl; running = refl; variables = refl; literals = refl; calls = refl; walked = refl; file = m.file; outside = tail_more c.scopes.inner told_of.scopes.inner m.inner; depth = more_depth c.scopes told_of.scopes m }
@@ -95,17 +85,7 @@ same_aside : (c : Context) (tags : TagTable) (params : Table) → Aside c (recor
 same_aside c tags params = record { code = refl; running = refl; variables = refl; literals = refl; calls = refl; walked = refl; file = tags_refl c.scopes.file; outside = all_refl (scopes.tail c.scopes.inner); depth = refl }
 
 counted_aside : (b c : Context) → Aside b c → Aside b (counted c)
-counted_aside b c p = record {
-  code = p.code;
-  running = ap (λ (run : Running). record run { declared = c.running.declared + 1 }) p.running;
-  variables = p.variables;
-  literals = p.literals;
-  calls = p.calls;
-  walked = p.walked;
-  file = p.file;
-  outside = p.outside;
-  depth = p.depth;
-}
+counted_aside b c p = grind arith
 
 -- a list at file scope is no prototype's
 pub own_params : (c : Context) → length c.scopes.inner ≡ 1 → is_prototype c.scopes ≡ false
@@ -121,17 +101,7 @@ with_param_aside name type c deep = by (is_prototype c.scopes) refl
 
 -- a list of parameters in a scope of its own
 pub left_aside : (c x : Context) → Aside (entered c) x → Aside c (left_params x)
-left_aside c x p = record {
-  code = p.code;
-  running = p.running;
-  variables = p.variables;
-  literals = p.literals;
-  calls = p.calls;
-  walked = p.walked;
-  file = p.file;
-  outside = tail_more c.scopes.inner (scopes.tail x.scopes.inner) p.outside;
-  depth = tail_depth x.scopes.inner (length c.scopes.inner) p.depth;
-}
+left_aside c x p = search (tail_more, tail_depth)
 
 -- a parameter list stands in a scope that stands in another
 abbrev least : Bool → ℕ
@@ -223,17 +193,7 @@ rescoped answer c s keep deep out h f =
 
 -- what a part inside a scope leaves as it was
 aside_grew : (c d : Context) → Aside c d → Grew (world c) (world d)
-aside_grew c d p = record {
-  locals = λ k reg e. subst (λ (run : Running). slice_get run.locals k ≡ Some reg) (sym p.running) e;
-  mems = subst (λ (run : Running). length c.running.mems ≤ length run.mems) (sym p.running) (omega arith);
-  integers = subst (λ (code : Code). c.code.most_integers ≤ code.most_integers) (sym p.code) (omega arith);
-  pointers = subst (λ (code : Code). c.code.most_pointers ≤ code.most_pointers) (sym p.code) (omega arith);
-  variables = omega (arith, ap (λ (l : List Variable). length l) p.variables);
-  literals = omega (arith, ap (λ (l : List (List ℕ)). length l) p.literals);
-  formats = λ k format e. subst (λ (run : Running). slice_get run.formats k ≡ Some format) (sym p.running) e;
-  calls = λ k call e. subst (λ (l : List (ℕ × ℕ)). slice_get l k ≡ Some call) (sym p.calls) e;
-  file = λ name type i e. tag_kept c.scopes.file d.scopes.file name (n.Function type i) (p.file name) e;
-}
+aside_grew c d p = search (arith, tag_kept)
 
 -- with one register more, and with one memory local more
 pub more_register : (answer : Option Sort) (name : Option (List ℕ)) (type : PlainType) (c : Context) → Fine c → Runs answer c (with_register name type c)
@@ -347,17 +307,7 @@ module _ (answer : Option Sort) where
   -- parameter lists
 
   left_params_runs : (c x : Context) → Runs answer (entered c) x → Runs answer c (left_params x)
-  left_params_runs c x p = record {
-    grew = p.grew;
-    fine = record { names = names_left (world x) x.scopes p.fine.names; lined = p.fine.lined };
-    fits = p.fits;
-    answer = p.answer;
-    addressed = p.addressed;
-    outside = tail_more c.scopes.inner (scopes.tail x.scopes.inner) p.outside;
-    depth = tail_depth x.scopes.inner (length c.scopes.inner) p.depth;
-    params = λ flat h. first_fits (world x) x.scopes.inner p.fine.names.inner;
-    walked = p.walked;
-  }
+  left_params_runs c x p = search (names_left, tail_more, tail_depth, first_fits)
 
   -- a prototype's list: nothing is made of its parameters
   prototype_runs : (c x : Context) → 1 ≤ length c.scopes.inner → Fine c → Aside (entered c) x → Runs answer c (left_params x)

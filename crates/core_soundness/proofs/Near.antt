@@ -192,12 +192,7 @@ near_refl c = record { made = omega arith; temporaries = λ t. omega arith; tidy
 
 -- one part behind another, within so much
 pub near_on : {s t u : Share} (m n k : ℕ) → m + n ≤ k → NearBy m s t → NearBy n t u → NearBy k s u
-near_on m n k h x y = record {
-  made = omega (arith, h, x.made, y.made);
-  temporaries = λ q. omega (arith, h, x.temporaries q, y.temporaries (x.tidy q));
-  tidy = λ q. y.tidy (x.tidy q);
-  clear = λ q. y.clear (x.clear q);
-}
+near_on m n k h x y = search arith
 
 pub near_most : {s t : Share} (m k : ℕ) → m ≤ k → NearBy m s t → NearBy k s t
 near_most m k h x = record { made = omega (arith, h, x.made); temporaries = λ q. omega (arith, h, x.temporaries q); tidy = x.tidy; clear = x.clear }
@@ -213,29 +208,14 @@ within : (i m : ℕ) → i + 1 ≤ max m (i + 1)
 within i m = omega arith
 
 pub near_integer : (line : ℕ) (kind : ℕ → StmKind) (c : Context) → Near 1 c (integer_by line kind c).0
-near_integer line kind c = record {
-  made = omega arith;
-  temporaries = λ q. one_more c.code.integers c.code.most_integers c.code.most_pointers q.integers;
-  tidy = λ q. record { integers = within c.code.integers c.code.most_integers; pointers = q.pointers };
-  clear = λ k. record { named = k.named; variables = k.variables; walked = k.walked };
-}
+near_integer line kind c = search (arith, one_more, within)
 
 pub near_pointer : (line : ℕ) (kind : ℕ → StmKind) (c : Context) → Near 1 c (pointer_by line kind c).0
-near_pointer line kind c = record {
-  made = omega arith;
-  temporaries = λ q. other_more c.code.pointers c.code.most_pointers c.code.most_integers q.pointers;
-  tidy = λ q. record { integers = q.integers; pointers = within c.code.pointers c.code.most_pointers };
-  clear = λ k. record { named = k.named; variables = k.variables; walked = k.walked };
-}
+near_pointer line kind c = search (arith, other_more, within)
 
 -- code that is forgotten again
 pub near_forgotten : (n : ℕ) (b c : Context) → Near n b c → Near n b (record c { code = b.code })
-near_forgotten n b c g = record {
-  made = g.made;
-  temporaries = λ q. omega arith;
-  tidy = λ q. record { integers = q.integers; pointers = q.pointers };
-  clear = λ k. let r = g.clear k in record { named = r.named; variables = r.variables; walked = r.walked };
-}
+near_forgotten n b c g = search arith
 
 -- a format, a register and a memory local more
 pub near_format : (bytes : List ℕ) (c : Context) → IsShort bytes → Near 1 c (with_format bytes c)

@@ -70,12 +70,7 @@ use Rattle.core_soundness.proofs.Choices.{either_way}
 -- full expressions
 
 anew_near : (c : Context) → Near 0 c (anew c)
-anew_near c = record {
-  made = omega arith;
-  temporaries = λ q. omega arith;
-  tidy = λ q. record { integers = omega arith; pointers = omega arith };
-  clear = λ k. record { named = k.named; variables = k.variables; walked = k.walked };
-}
+anew_near c = search (arith, temporaries)
 
 pub opened_near : (e : Tree) (c : Context) → Near 0 c (opened e c)
 opened_near e c = either_way (Near 0 c) (reallocates c.scopes e) (anew_near c) (anew_near c)
@@ -246,12 +241,7 @@ abbrev HasShort : Variable → Type 0
 HasShort v = IsShort v.name
 
 variables_near : (vs : List Variable) (c : Context) → (All HasShort c.variables → All HasShort vs) → Near 0 c (record c { variables = vs })
-variables_near vs c h = record {
-  made = omega arith;
-  temporaries = λ q. omega arith;
-  tidy = λ q. record { integers = q.integers; pointers = q.pointers };
-  clear = λ k. record { named = k.named; variables = h k.variables; walked = k.walked };
-}
+variables_near vs c h = search (arith, temporaries)
 
 new_variable_near : (line : ℕ) (name : List ℕ) (type : PlainType) (c : Context) → IsShort name → Led (Near 0 c) (with_new_variable line name type c)
 new_variable_near line name type c h =

@@ -124,13 +124,7 @@ one_of zero b e = inr (refl, omega (arith, e))
 one_of (suc a) b e = inl (omega (arith, e), omega (arith, e))
 
 counts_more : (x : Layer) (ls : List Layer) (ss ts : List Sort) → Counts (x ∷ []) ss → Counts ls ts → Counts (x ∷ ls) (ss ++ ts)
-counts_more x ls ss ts a b = record {
-  none = λ e. nil_both ss ts (a.none (omega (arith, e, functions_one x ls))) (b.none (omega (arith, e, functions_one x ls)));
-  one = λ e. ⊎_elim
-      (λ (h : (functions (x ∷ []) ≡ 1) × (functions ls ≡ 0)). nil_right ss ts _ (a.one h.0) (b.none h.1) ∙ sym (sorts_one x ls ∙ ap (λ (s : List Sort). function_sorts (x ∷ []) ++ s) (sorts_none ls h.1) ∙ append-nil (function_sorts (x ∷ []))))
-      (λ (h : (functions (x ∷ []) ≡ 0) × (functions ls ≡ 1)). nil_left ss ts _ (a.none h.0) (b.one h.1) ∙ sym (sorts_one x ls ∙ ap (λ (s : List Sort). s ++ function_sorts ls) (sorts_none (x ∷ []) h.0)))
-      (one_of (functions (x ∷ [])) (functions ls) (sym (functions_one x ls) ∙ e));
-}
+counts_more x ls ss ts a b = search (arith, nil_both, functions_one, nil_right, sorts_one, sorts_none, append-nil, nil_left, one_of)
 
 counts_behind : (ls ms : List Layer) (ss ts : List Sort) → Counts ls ss → Counts ms ts → Counts (reverse ms ++ ls) (ss ++ ts)
 counts_behind ls ms ss ts a b =

@@ -69,11 +69,7 @@ pub record Pointed (c : Context) : Type 0 where
   pub starts : StartsIn c.variables c.variables c.literals
 
 pub settled_pointed : (c d : Context) → Settled c d → Pointed c → Pointed d
-settled_pointed c d s h = record {
-  there = there_on c d s h.there;
-  starts = λ i v start e q. pointers_stay c.variables d.variables c.literals d.literals start.pointers (same_variables c.variables d.variables s.variables) s.literals
-      (h.starts i v start (subst (λ (vs : List Variable). slice_get vs i ≡ Some v) s.variables e) q);
-}
+settled_pointed c d s h = grind (arith, there_on, pointers_stay, same_variables)
 
 -- an object that is declared
 

@@ -173,14 +173,7 @@ same_widens c d e h =
 
 -- what grew from the same context, with the same scopes and tags
 pub same_by : (b c d : Context) → asked d ≡ asked c → Kept b c → Kept b d → Same c d
-same_by b c d e x y = record {
-  known = e;
-  params = y.params ∙ sym x.params;
-  mems = y.mems ∙ sym x.mems;
-  answer = y.answer ∙ sym x.answer;
-  variables = y.variables ∙ sym x.variables;
-  walked = y.walked ∙ sym x.walked;
-}
+same_by b c d e x y = search
 
 pub same_kept : (c d : Context) → asked d ≡ asked c → Kept c d → Same c d
 same_kept c d e x = record { known = e; params = x.params; mems = x.mems; answer = x.answer; variables = x.variables; walked = x.walked }

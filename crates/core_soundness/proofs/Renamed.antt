@@ -227,7 +227,6 @@ typedefs_blank (Node f.Specs parts) = has_typedef_blank parts
 typedefs_blank tree = refl
 
 inits_blank : (trees : Trees) → NoInits (blanks trees) ≡ NoInits trees
-inits_blank none = refl
 inits_blank (Node f.Entry (declared ▹ Node f.MaybeInit none ▹ none) ▹ rest) = inits_blank rest
 inits_blank trees = refl
 

@@ -384,11 +384,7 @@ pub tied_refl : (fs : List Declared) (file : Table) (ws : List Walked) → Tied 
 tied_refl fs file ws = record { kept = λ i d e. e; named = λ h. h; strict = λ h. h }
 
 pub tied_trans : (fs gs hs : List Declared) (f g h : Table) (us vs ws : List Walked) → Tied fs f us gs g vs → Tied gs g vs hs h ws → Tied fs f us hs h ws
-tied_trans fs gs hs f g h us vs ws x y = record {
-  kept = λ i d e. y.kept i d (x.kept i d e);
-  named = λ k. y.named (x.named k);
-  strict = λ k. y.strict (x.strict k);
-}
+tied_trans fs gs hs f g h us vs ws x y = grind arith
 
 pub tied_file : (fs : List Declared) (f g : Table) (ws : List Walked) → FileKeeps f g → Tied fs f ws fs g ws
 tied_file fs f g ws keep = record {

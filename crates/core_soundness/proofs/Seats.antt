@@ -72,33 +72,13 @@ pub record Seat (room : ℕ) (slots : List ℕ) (at : ℕ) (l : Layout) : Type 0
   pub down : (s : ℕ) → Has slots s → (s + 4 ≤ at) ⊎ (at + l.size ≤ s) ⊎ Moved at l.slots s
 
 pub seat_whole : (l : Layout) → Seat l.size l.slots 0 l
-seat_whole l = record {
-  inside = omega arith;
-  up = λ s h. subst (Has l.slots) (zero_first s) h;
-  down = λ s h. inr (inr (record { slot = s; there = h; is = sym (zero_first s) }));
-}
+seat_whole l = search arith
   where
     zero_first : (s : ℕ) → s ≡ 0 + s
     zero_first s = omega arith
 
 pub seat_within : (room : ℕ) (slots : List ℕ) (at offset : ℕ) (l m : Layout) → Seat room slots at l → Seat l.size l.slots offset m → Seat room slots (at + offset) m
-seat_within room slots at offset l m x y = record {
-  inside = omega (arith, x.inside, y.inside);
-  up = λ s h. subst (Has slots) (outer s) (x.up (offset + s) (y.up s h));
-  down = λ s h. ⊎_elim
-      (λ (k : s + 4 ≤ at). inl (omega (arith, k)))
-      (λ k. ⊎_elim
-      (λ (far : at + l.size ≤ s). inr (inl (omega (arith, far, y.inside))))
-      (λ (r : Moved at l.slots s). ⊎_elim
-      (λ (k : r.slot + 4 ≤ offset). inl (omega (arith, k, r.is)))
-      (λ k. ⊎_elim
-      (λ (far : offset + m.size ≤ r.slot). inr (inl (omega (arith, far, r.is))))
-      (λ (q : Moved offset m.slots r.slot). inr (inr (record { slot = q.slot; there = q.there; is = omega (arith, q.is, r.is) })))
-      k)
-      (y.down r.slot r.there))
-      k)
-      (x.down s h);
-}
+seat_within room slots at offset l m x y = search arith
   where
     outer : (s : ℕ) → at + (offset + s) ≡ at + offset + s
     outer s = omega arith
@@ -542,12 +522,7 @@ filled_pointer slots low offset static at start h e there = record {
 
 -- the zeros at the end go
 pub filled_trimmed : (slots : List ℕ) (low : ℕ) (start : Start) → Filled slots low start → Filled slots low (trimmed start)
-filled_trimmed slots low start h = record {
-  inside = omega (arith, trimmed_length start, h.inside);
-  zeros = λ s k there small. trimmed_byte start (s + k) ∙ h.zeros s k there small;
-  pointers = h.pointers;
-  distinct = h.distinct;
-}
+filled_trimmed slots low start h = search (arith, trimmed_length, trimmed_byte)
 
 -- the parts that braces are for lie in seats, one behind another (C99 6.7.8)
 

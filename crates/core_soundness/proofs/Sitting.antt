@@ -411,17 +411,7 @@ pub runs_refl : (answer : Option Sort) (c : Context) → Fine c → Runs answer 
 runs_refl answer c h = record { grew = grew_refl (world c); fine = h; fits = λ k. k; answer = refl; addressed = refl; outside = all_refl (scopes.tail c.scopes.inner); depth = refl; params = λ flat k. k; walked = refl }
 
 pub runs_trans : (answer : Option Sort) (a b c : Context) → Runs answer a b → Runs answer b c → Runs answer a c
-runs_trans answer a b c x y = record {
-  grew = grew_trans (world a) (world b) (world c) x.grew y.grew;
-  fine = y.fine;
-  fits = λ h. y.fits (x.fits h);
-  answer = y.answer ∙ x.answer;
-  addressed = y.addressed ∙ x.addressed;
-  outside = all_trans (scopes.tail a.scopes.inner) (scopes.tail b.scopes.inner) (scopes.tail c.scopes.inner) x.outside y.outside;
-  depth = y.depth ∙ x.depth;
-  params = λ flat h. y.params (x.depth ∙ flat) (x.params flat h);
-  walked = y.walked ∙ x.walked;
-}
+runs_trans answer a b c x y = grind (arith, grew_trans, all_trans)
 
 pub table_grew : (a b : World) (t : Table) → Grew a b → TableFits (InnerFits a) t → TableFits (InnerFits b) t
 table_grew a b t g h name v e = inner_kept a b v g (h name v e)

@@ -370,17 +370,7 @@ first_list k [] h = λ name v e. cc
 first_list k (t ∷ ts) h = h.0
 
 left_params_rises : (c x : Context) → Rises (entered c) x → Rises c (left_params x)
-left_params_rises c x p = record {
-  solid = record { made = p.solid.made; names = left_whole (K x) x.scopes p.solid.names; list = first_list (K x) x.scopes.inner p.solid.names.inner; memory = p.solid.memory; result = p.solid.result; statics = p.solid.statics; functions = p.solid.functions };
-  more = p.more;
-  kinds = record {
-    made = p.kinds.made;
-    sorts = λ ks. let k = p.kinds.sorts (record { names = entered_sorted c.tags.made c.scopes ks.names; list = ks.list; bodies = ks.bodies }) in record { names = left_sorted x.tags.made x.scopes k.names; list = first_sorted x.tags.made x.scopes.inner k.names.inner; bodies = k.bodies };
-  };
-  code = p.code;
-  cases = p.cases;
-  walked = p.walked;
-}
+left_params_rises c x p = grind (arith, left_whole, first_list, entered_sorted, left_sorted, first_sorted)
 
 no_params : (c : Context) → Solid c → Rises c (record c { params = [] })
 no_params c h = record { solid = record { made = h.made; names = h.names; list = λ name v e. cc; memory = h.memory; result = h.result; statics = h.statics; functions = h.functions }; more = extends_refl (K c); kinds = record { made = λ i u e. e; sorts = λ ks. record { names = ks.names; list = none_sorted c.tags.made; bodies = ks.bodies } }; code = λ k. k; cases = λ k. k; walked = λ k. k }

@@ -55,17 +55,7 @@ pub grew_refl : (w : World) → Grew w w
 grew_refl w = record { locals = λ k r e. e; mems = omega arith; integers = omega arith; pointers = omega arith; variables = omega arith; literals = omega arith; formats = λ k f e. e; calls = λ k x e. e; file = λ name t i e. e }
 
 pub grew_trans : (u v w : World) → Grew u v → Grew v w → Grew u w
-grew_trans u v w x y = record {
-  locals = λ k r e. y.locals k r (x.locals k r e);
-  mems = omega (arith, x.mems, y.mems);
-  integers = omega (arith, x.integers, y.integers);
-  pointers = omega (arith, x.pointers, y.pointers);
-  variables = omega (arith, x.variables, y.variables);
-  literals = omega (arith, x.literals, y.literals);
-  formats = λ k f e. y.formats k f (x.formats k f e);
-  calls = λ k v e. y.calls k v (x.calls k v e);
-  file = λ name t i e. y.file name t i (x.file name t i e);
-}
+grew_trans u v w x y = search arith
 
 local_grew : (w v : World) (k : ℕ) (sort : Sort) (o : Option Register) → slice_get w.locals k ≡ o → ((reg : Register) → o ≡ Some reg → slice_get v.locals k ≡ Some reg) → option_map sort_of o ≡ Some sort → local_sort v k ≡ Some sort
 local_grew w v k sort None e h q = cc
@@ -105,15 +95,7 @@ printed_grew w v args k (Some format) e g h =
 
 pub fits_grew : (w v : World) (kind : StmKind) → Grew w v → Fits w kind → Fits v kind
 fits_grew w v (Set r a) g h = (h.0, register_grew w v h.0 r g h.1, holds_grew w v h.0 a g h.2)
-fits_grew w v (Call f r args) g h = record {
-  name = h.name;
-  answer = h.answer;
-  params = h.params;
-  there = g.file h.name (types.Function h.answer h.params) f h.there;
-  called = (h.called.0, h.called.1, g.calls h.called.0 (f, h.called.1) h.called.2);
-  takes = all_grew w v _ args g h.takes;
-  gives = receives_grew w v _ r g h.gives;
-}
+fits_grew w v (Call f r args) g h = grind (arith, all_grew, receives_grew)
 fits_grew w v (Printf r k args) g h = (register_grew w v Integer r g h.0, printed_grew w v args k (slice_get w.formats k) refl g h.1)
 fits_grew w v (Return a) g h = absurd h
 fits_grew w v kind g h = search (register_grew, holds_grew, all_grew, receives_grew)
@@ -182,20 +164,10 @@ goes_trans a b c x y = record {
 
 -- a statement that fits
 pub goes_emit : (line : ℕ) (kind : StmKind) (c : Context) → 1 ≤ line → Fits (world c) kind → Goes c (emit line kind c)
-goes_emit line kind c l h = record {
-  grew = grew_refl (world c);
-  more = more_refl c.scopes;
-  kept = record { line = refl; answer = refl; addressed = refl; declared = refl; params = refl; walked = refl };
-  fits = λ answer k. pieces_joined answer (world c) c.code.pieces (Does (record { line = line; kind = kind }) ∷ []) k ((l, fits_any answer (world c) kind h), tt);
-}
+goes_emit line kind c l h = search (grew_refl, more_refl, pieces_joined, fits_any)
 
 pub goes_here : (label : ℕ) (c : Context) → Goes c (here label c)
-goes_here label c = record {
-  grew = grew_refl (world c);
-  more = more_refl c.scopes;
-  kept = record { line = refl; answer = refl; addressed = refl; declared = refl; params = refl; walked = refl };
-  fits = λ answer k. pieces_joined answer (world c) c.code.pieces (Here label ∷ []) k (tt, tt);
-}
+goes_here label c = search (grew_refl, more_refl, pieces_joined)
 
 pub goes_labels : (k : ℕ) (c : Context) → Goes c (with_labels k c)
 goes_labels k c = record { grew = grew_refl (world c); more = more_refl c.scopes; kept = record { line = refl; answer = refl; addressed = refl; declared = refl; params = refl; walked = refl }; fits = λ answer h. h }
@@ -264,12 +236,7 @@ gives_pointer line kind c l h =
 
 -- other scopes and tags
 pub goes_told : (n : names.Context) (c : Context) → More c.scopes n.scopes → Goes c (told n c)
-goes_told n c m = record {
-  grew = record { locals = λ k r e. e; mems = omega arith; integers = omega arith; pointers = omega arith; variables = omega arith; literals = omega arith; formats = λ k f e. e; calls = λ j y e. e; file = λ name t i e. (more_keeps c.scopes n.scopes m).kept name _ e };
-  more = m;
-  kept = record { line = refl; answer = refl; addressed = refl; declared = refl; params = refl; walked = refl };
-  fits = λ answer h. pieces_grew answer (world c) (world (told n c)) c.code.pieces (record { locals = λ k r e. e; mems = omega arith; integers = omega arith; pointers = omega arith; variables = omega arith; literals = omega arith; formats = λ k f e. e; calls = λ j y e. e; file = λ name t i e. (more_keeps c.scopes n.scopes m).kept name _ e }) h;
-}
+goes_told n c m = search (arith, more_keeps, pieces_grew)
 
 -- code that is forgotten again
 pub goes_forgotten : (b c : Context) → Goes b c → Goes b (record c { code = b.code })

@@ -37,29 +37,11 @@ use Rattle.core_soundness.proofs.Choices.{either_way, some_same}
 
 -- what stays is seen beside code
 pub stays_recoded : (c d : Context) (x y : Code) → Stays (record c { code = x }) d → Stays c (record d { code = y })
-stays_recoded c d x y s = record {
-  safe = s.safe;
-  depth = s.depth;
-  tied = s.tied;
-  walked = s.walked;
-  length = s.length;
-  params = s.params;
-  counted = λ h. let k = s.counted (record { bytes = h.bytes; small = h.small }) in record { bytes = k.bytes; small = k.small };
-  inside = λ h. let k = s.inside h in record { variables = k.variables; literals = k.literals; objects = k.objects };
-}
+stays_recoded c d x y s = grind arith
 
 -- the same, out of a scope
 stays_out : (c d : Context) (x y : Code) → Stays (entered (record c { code = x })) d → Stays c (left (record d { code = y }))
-stays_out c d x y s = record {
-  safe = left_safe d.scopes s.safe;
-  depth = tail_depth d.scopes.inner (length c.scopes.inner) s.depth;
-  tied = s.tied;
-  walked = s.walked;
-  length = s.length;
-  params = s.params;
-  counted = λ h. let k = s.counted (record { bytes = h.bytes; small = h.small }) in record { bytes = k.bytes; small = k.small };
-  inside = λ h. let k = s.inside (omega arith) in record { variables = k.variables; literals = k.literals; objects = k.objects };
-}
+stays_out c d x y s = search (arith, left_safe, tail_depth)
 
 -- a statement in a scope of its own
 scoped_walks : (a : Around) (c : Context) (inside : Context → Checked Context) → Safe c.scopes → (Safe (entered c).scopes → Led (Walks a (entered c)) (inside (entered c))) → Led (Walks a c) (scoped c inside)
@@ -537,30 +519,10 @@ pub record Sane (c : Context) : Type 0 where
   pub small : c.length ≤ 268435456
 
 sane_stays : (b c : Context) → Sane b → Stays b c → Sane c
-sane_stays b c s h = record {
-  safe = h.safe;
-  flat = h.depth ∙ s.flat;
-  params = h.params s.params;
-  complete = subst AreComplete (sym h.walked) s.complete;
-  counted = h.counted s.counted;
-  named = h.tied.named s.named;
-  strict = h.tied.strict s.strict;
-  length = h.length ∙ s.length ∙ ap (sum_by walked_length) (sym h.walked);
-  small = subst (λ n. n ≤ 268435456) (sym h.length) s.small;
-}
+sane_stays b c s h = grind arith
 
 sane_begun : (line : ℕ) (addressed : List ℕ) (c : Context) → Sane c → Sane (begun line addressed c)
-sane_begun line addressed c s = record {
-  safe = s.safe;
-  flat = s.flat;
-  params = s.params;
-  complete = s.complete;
-  named = s.named;
-  strict = s.strict;
-  length = s.length;
-  small = s.small;
-  counted = record { bytes = s.counted.bytes; small = s.counted.small };
-}
+sane_begun line addressed c s = search
 
 -- what holds inside the body of a function of a name
 record Inner (name : List ℕ) (index : ℕ) (c : Context) : Type 0 where

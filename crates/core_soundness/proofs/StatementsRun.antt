@@ -94,17 +94,7 @@ leave_to_runs line delays (Some exit) c z l q =
 -- `return`
 
 pub return_fits : (answer : Option Sort) (line : ℕ) (a : Option Atom) (c : Context) → 1 ≤ line → Fine c → FitsAnswer (world c) answer a → Runs answer c (emit line (Return a) c)
-return_fits answer line a c l g h = record {
-  grew = grew_refl (world c);
-  fine = record { names = g.names; lined = g.lined };
-  fits = λ k. pieces_joined answer (world c) c.code.pieces _ k ((l, h), tt);
-  answer = refl;
-  addressed = refl;
-  outside = all_refl (tail c.scopes.inner);
-  depth = refl;
-  params = λ flat k. k;
-  walked = refl;
-}
+return_fits answer line a c l g h = search (grew_refl, pieces_joined, all_refl)
 
 goes_keeps : (c d : Context) → Goes c d → Keeps c d
 goes_keeps c d g = record { more = g.more; declared = g.kept.declared; addressed = g.kept.addressed }

@@ -275,11 +275,7 @@ sort_leads line r.Union c (ct.Union tag) = reached_ok (Leads c) (leads_refl c)
 sort_leads line sort c type = reached_refused (Leads c)
 
 pub new_tag_leads : (sort : RecordSort) (name : List ℕ) (c : Context) → Leads c (with_new_tag sort name c).0
-new_tag_leads sort name c = record {
-  more = with_tag_more c.scopes name _;
-  made = push_longer c.tags.made _;
-  sorts = λ h. with_name_sorted (with_new_tag sort name c).0.tags.made c.scopes (tag_name name) (n.Tag (record_type sort (length c.tags.made))) (new_sorted sort c.tags.made name) (scopes_longer c.scopes c.tags.made _ (push_longer c.tags.made _) h);
-}
+new_tag_leads sort name c = search (with_tag_more, push_longer, with_name_sorted, new_sorted, scopes_longer)
 
 pub tag_leads : (line : ℕ) (sort : RecordSort) (name : List ℕ) (c : Context) (named : Option PlainNamed) → Reached (Leads c) (tag_named line sort name c named)
 tag_leads line sort name c None = reached_ok (Leads c) (new_tag_leads sort name c)

@@ -198,10 +198,8 @@ module _ (ts : List CompletedTag) (made : AreMade nothing ts) where
   NamedBy o = (v : PlainNamed) → o ≡ Some v → NamedWhole (known ts) v
 
   named_whole : (line : ℕ) (o : Option PlainNamed) → NamedBy o → Led W (named line o)
-  named_whole line None h = led_refused W
   named_whole line (Some (n.Object type i)) h = led_ok W (h (n.Object type i) refl)
   named_whole line (Some (n.Register type i)) h = led_ok W (h (n.Register type i) refl)
-  named_whole line (Some (n.Function type i)) h = led_refused W
   named_whole line (Some (n.Constant type x)) h = led_ok W tt
   named_whole line (Some (n.BuiltIn i)) h = built_in_whole line (slice_get built_ins i)
   named_whole line other h = led_refused W
@@ -320,7 +318,6 @@ module _ (ts : List CompletedTag) (made : AreMade nothing ts) where
 
   cast_types_whole : (line : ℕ) (type : PlainType) (e : PlainTyped) (s t : Operand) → Whole (known ts) type → Led W (cast_types line type e s t)
   cast_types_whole line type e (Number ty) (Number source) h = led_ok W tt
-  cast_types_whole line type e (Number ty) (PointerTo source) h = led_refused W
   cast_types_whole line type e (PointerTo target) (PointerTo source) h = led_ok W h
   cast_types_whole line type e (PointerTo target) (Number source) h = beside_whole line e _ (led_ok W h)
   cast_types_whole line type e s t h = led_refused W

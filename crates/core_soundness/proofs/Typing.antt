@@ -93,12 +93,7 @@ statics_of : (c d : Context) → Grew (world c) (world d) → Statics c d
 statics_of c d g = record { variables = g.variables; literals = g.literals; calls = g.calls; file = g.file }
 
 statics_trans : (a b c : Context) → Statics a b → Statics b c → Statics a c
-statics_trans a b c x y = record {
-  variables = omega (arith, x.variables, y.variables);
-  literals = omega (arith, x.literals, y.literals);
-  calls = λ k v e. y.calls k v (x.calls k v e);
-  file = λ name type j e. y.file name type j (x.file name type j e);
-}
+statics_trans a b c x y = search arith
 
 walked_grew : (c d : Context) (x : Walked) → Statics c d → Grew (walked_world c x) (walked_world d x)
 walked_grew c d x s = record { locals = λ k r e. e; mems = omega arith; integers = omega arith; pointers = omega arith; variables = s.variables; literals = s.literals; formats = λ k v e. e; calls = s.calls; file = s.file }
