@@ -39,7 +39,7 @@ use Rattle.elaboration.specs.Externals.{body_begun}
 use Rattle.elaboration.specs.Initializers.{with_init_layers}
 use Rattle.elaboration.specs.Locals.{declared_as, with_param, is_twice, with_local}
 use Rattle.core_soundness.specs.Spoken.{AllSpoken, is_register}
-use Rattle.core_soundness.specs.Worlds.{World, world, FileFits, TableFits}
+use Rattle.core_soundness.specs.Worlds.{World, world, FileFits}
 use Rattle.core_soundness.specs.Written.{Written, AllWritten}
 use Rattle.core_soundness.proofs.Agreeing.{came}
 use Rattle.core_soundness.proofs.Declaring.{tail_depth}
@@ -55,6 +55,7 @@ use Rattle.core_soundness.proofs.Steps.{with_one, IsNew, plain_stepped, param_st
 use Rattle.core_soundness.proofs.TagSorts.{typed_after, wanted_after, special_after, tag_after}
 use Rattle.core_soundness.proofs.Taking.{among, HasScope, Keeps, Follows, Stepped, each, SameNames, Calm, still_names, all_still_names, left_names, no_nodes_still, Has, Inside, taken_adds, InStep, scope_more, as_before, Numbered, file_none}
 use Rattle.core_soundness.proofs.Choices.{either_way, some_same}
+use Rattle.core_soundness.specs.Fitting.{TableFits}
 
 -- specs, tags with braces and declarators go in step (C99 6.7.2, 6.7.5)
 

@@ -47,6 +47,7 @@ use Rattle.elaboration.specs.Resolving.{core_of}
 use Rattle.elaboration.specs.Rules.{with_static}
 use Rattle.core_soundness.specs.Laws.{HasLayouts}
 use Rattle.core_soundness.specs.Solid.{Solid}
+use Rattle.core_soundness.specs.Fitting.{TableFits}
 use Rattle.core_soundness.specs.Whole.{Whole}
 use Rattle.core_soundness.specs.Written.{Written, AllWritten, AreWritten}
 use Rattle.core_soundness.proofs.Agreeing.{valued_agrees, found_agrees, came}
@@ -57,14 +58,14 @@ use Rattle.core_soundness.proofs.Growth.{Led, led_ok, led_refused, led_after, le
 use Rattle.core_soundness.proofs.PointedTexts.{set_stay, before_level, function_settled, definition_settled, walked_pointed, StartsFilled, nothing_filled, statics_sound}
 use Rattle.core_soundness.proofs.Ranged.{fit_of, value_gone, opened_widens, K}
 use Rattle.core_soundness.proofs.RangedFound.{rises_refl}
-use Rattle.core_soundness.proofs.Scopes.{Safe, get_left, get_last, get_push, get_below, set_get, Pushed, push_get, no_scope}
+use Rattle.core_soundness.proofs.Scopes.{none_fits, Safe, get_left, get_last, get_push, get_below, set_get, Pushed, push_get, no_scope}
 use Rattle.core_soundness.proofs.Seats.{Has, Seat, has_row, Filled, filled_more, filled_bytes, filled_pointer, bytes_of_length, Proper, AllProper, PartsSeated, parts_end, parts_seated, seat_whole, filled_trimmed, MembersProper}
 use Rattle.core_soundness.proofs.SolidFills.{declared_function_rises, variable_rises, init_layers_whole, entry_rises, before_rises}
 use Rattle.core_soundness.proofs.SolidLayers.{has_size, declared_rises, typedef_rises, layers_rise}
 use Rattle.core_soundness.proofs.SolidTexts.{external_rises, begun_rises, first_solid, core_layouts}
 use Rattle.core_soundness.proofs.Sorting.{passed, kept_test}
 use Rattle.core_soundness.proofs.Statements.{Sane, external_sane, first_sane}
-use Rattle.core_soundness.proofs.TagSorts.{SortedType, SortedName, SortedTable, type_longer, none_sorted, init_layers_sorted, MembersSorted, BodySorted, BodiesSorted, Sorts}
+use Rattle.core_soundness.proofs.TagSorts.{SortedType, SortedName, type_longer, init_layers_sorted, MembersSorted, BodySorted, BodiesSorted, Sorts}
 use Rattle.core_soundness.proofs.TypedWhole.{led_cond, typed_good, wanted_good}
 use Rattle.core_soundness.proofs.WholeTypes.{whole_stays, some_stays, some_layout}
 use Rattle.core_soundness.proofs.Choices.{either_way, some_same}
@@ -543,7 +544,7 @@ no_objects k (b ∷ list) name type i e = by (bytes_eq name (names.name_of b)) (
 first_fitted : Fitted first_context
 first_fitted = record { objects = no_objects 0 built_ins; starts = λ i v s e q. cc }
 
-numbered_sorted : (j : ℕ) (bs : List BuiltIn) → SortedTable [] (numbered_from j bs)
+numbered_sorted : (j : ℕ) (bs : List BuiltIn) → TableFits (SortedName []) (numbered_from j bs)
 numbered_sorted j [] name v e = cc
 numbered_sorted j (b ∷ bs) name v e =
     either_way (λ y0. (named_in name (numbered_from (j + 1) bs) ≡ Some v → SortedName [] v) → y0 ≡ Some v → SortedName [] v) (bytes_eq name (names.name_of b))
@@ -551,7 +552,7 @@ numbered_sorted j (b ∷ bs) name v e =
     (λ again q. again q) (numbered_sorted (j + 1) bs name v) e
 
 first_sorts : Sorts first_context
-first_sorts = record { names = record { file = numbered_sorted 0 built_ins; inner = tt }; list = none_sorted []; bodies = tt }
+first_sorts = record { names = record { file = numbered_sorted 0 built_ins; inner = tt }; list = none_fits (SortedName []); bodies = tt }
 
 calls_fitted : (functions : List Declared) (calls : List (ℕ × ℕ)) (c : Context) → Fitted c → Led Fitted (calls_defined functions calls c)
 calls_fitted functions [] c h = led_ok Fitted h

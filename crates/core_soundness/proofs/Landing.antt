@@ -37,12 +37,13 @@ use Rattle.elaboration.specs.Conversions.{Found, Spot, Local, Memory, Value, Fix
 use Rattle.elaboration.specs.Expressions.{name_answer, literal_answer, address_answer}
 use Rattle.elaboration.specs.Operations.{working, move_pointer, combine, combined, fixed_sum, moved_by, offset_of}
 use Rattle.elaboration.specs.Rules.{constant_found, object_found, built_in_found, name_found, is_inner, with_static, with_literal, literal_found, at_address, with_value, indexed, dotted, target_of, pointed, negated, before_number, apply, applied, tells_equal, is_pointer_ahead, is_pointer_operand, ahead, left_operand, between, cast_fixed, cast_to, set_again, compare_again, and_then, and_ends, and_ended, or_else, or_ends, or_ended, choice_spot, choice_found, chosen_by, choose_first, choose_last, chosen}
-use Rattle.core_soundness.specs.Worlds.{World, world, Holds, HeldAs, Held, StandsAs, Stands, IsObject, is_variable, is_literal, is_local, InnerFits, FileFits, TablesFit, NamesFit, local_sort, type_sort}
+use Rattle.core_soundness.specs.Worlds.{World, world, Holds, HeldAs, Held, StandsAs, Stands, IsObject, is_variable, is_literal, is_local, InnerFits, FileFits, NamesFit, local_sort, type_sort}
 use Rattle.core_soundness.proofs.Agreeing.{came}
 use Rattle.core_soundness.proofs.Growth.{good, ok_same, never, behind_test}
 use Rattle.core_soundness.proofs.Scopes.{more_refl}
 use Rattle.core_soundness.proofs.Sorting.{Grew, holds_grew, pieces_grew, Goes, goes_refl, goes_forgotten, Gives, gives_on, gives_integer, Sits, Lands, Comes, comes_lands, HasValue, Converting, converted, tested_value_gives, passed, kept_test, moved_is, beside_is, Makes, before_gives, member_gives, move_gives, IsPointed, IsBetween, LeftOf, binary_makes, goes_trans, goes_emit, goes_here, goes_labels, gives_pointer, Apart, held_as_grew}
 use Rattle.std.proofs.lemmas.Bool.{and_parts}
+use Rattle.core_soundness.specs.Fitting.{TablesFit}
 
 -- where names, literals, places and operators are, and of which sort (C99 6.5)
 

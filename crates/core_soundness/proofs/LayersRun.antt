@@ -21,16 +21,17 @@ use Rattle.elaboration.specs.Context.{Context, Running, told, entered, Code, Var
 use Rattle.elaboration.specs.Conversions.{Spot, Memory}
 use Rattle.elaboration.specs.Declarators.{left_params, specs, layers, params, constant, with_type, suffix_layers, suffix_layer}
 use Rattle.elaboration.specs.Locals.{counted, with_named, prototype_param, function_param, is_prototype, with_param, is_pointer, is_twice, declared_as, next_is_memory, with_register, with_memory, memory_param, register_param, local_in, with_local}
-use Rattle.core_soundness.specs.Worlds.{World, world, local_sort, type_sort, is_local, Held, StandsAs, InnerFits, FileFits, TableFits, TablesFit, NamesFit, PiecesFit}
+use Rattle.core_soundness.specs.Worlds.{World, world, local_sort, type_sort, is_local, Held, StandsAs, InnerFits, FileFits, NamesFit, PiecesFit}
 use Rattle.core_soundness.proofs.Calls.{names_more, sort_kept}
 use Rattle.core_soundness.proofs.Declaring.{tail_depth}
 use Rattle.core_soundness.proofs.Growth.{Reached, reached_ok, reached_after, Led, led_ok, led_unless}
-use Rattle.core_soundness.proofs.Scopes.{More, MoreTags, MoreAll, tags_refl, tags_trans, all_refl, all_trans, more_depth, with_name_depth, Any, any_names, all_any, more_refl, IsNoFunction, with_name_keeps, tag_kept, Pushed, push_get, get_left, get_last, tail_more}
-use Rattle.core_soundness.proofs.Sitting.{Fine, Runs, runs_refl, runs_trans, on_runs, table_grew, names_left, entered_fine, goes_runs}
+use Rattle.core_soundness.proofs.Scopes.{pushed_fits, first_fits, named_fits, left_fit, More, MoreTags, MoreAll, tags_refl, tags_trans, all_refl, all_trans, more_depth, with_name_depth, Any, any_names, all_any, more_refl, IsNoFunction, with_name_keeps, tag_kept, Pushed, push_get, get_left, get_last, tail_more}
+use Rattle.core_soundness.proofs.Sitting.{Fine, Runs, runs_refl, runs_trans, on_runs, table_grew, entered_fine, goes_runs}
 use Rattle.core_soundness.proofs.Sorting.{Grew, grew_refl, pieces_grew, goes_told, write_goes}
 use Rattle.core_soundness.proofs.TagSorts.{After}
 use Rattle.core_soundness.proofs.Walks.{Steps, specs_keep, layers_keep, params_keep, constant_keeps, tagging, suffixes_keep, suffix_keeps}
 use Rattle.core_soundness.proofs.Choices.{either_way}
+use Rattle.core_soundness.specs.Fitting.{TablesFit}
 
 -- parts that stand inside a scope: their parameter lists are those of prototypes, of which nothing is made (C99 6.2.1)
 
@@ -139,10 +140,6 @@ params_beside parts b deep c p z q = aside_trans b c z.0 p (params_keep Any Kept
 
 -- what declarators, specs and tags do to what fits (C99 6.7)
 
-pub pushed_fits : (P : PlainNamed → Type 0) (name : List ℕ) (v : PlainNamed) (t : Table) → P v → TableFits P t → TableFits P (t ++ (name, v) ∷ [])
-pushed_fits P name v t h f key w e =
-    ⊎_elim (λ (q : named_in key t ≡ Some w). f key w q) (λ (q : Pushed key name v w t). subst P q.value h) (push_get key name v w t e)
-
 -- names that are declared
 
 none_some : (j : ℕ) → 0 ≡ suc j → ⊥
@@ -154,17 +151,6 @@ with_name_inner w s name v k deep h f = by s.inner deep f.inner
     by : (inner : List Table) → length inner ≡ suc k → TablesFit (InnerFits w) inner → NamesFit w (scopes.with_name_in s.file inner name v)
     by [] d g = absurd (none_some k d)
     by (t ∷ ts) d g = record { file = f.file; inner = (pushed_fits (InnerFits w) name v t h g.0, g.1) }
-
-with_name_any : (w : World) (s : ScopeList) (name : List ℕ) (v : PlainNamed) → InnerFits w v → FileFits w v → NamesFit w s → NamesFit w (with_name s name v)
-with_name_any w s name v h q f = by s.inner f.inner
-  where
-    by : (inner : List Table) → TablesFit (InnerFits w) inner → NamesFit w (scopes.with_name_in s.file inner name v)
-    by [] g = record { file = pushed_fits (FileFits w) name v s.file q f.file; inner = tt }
-    by (t ∷ ts) g = record { file = f.file; inner = (pushed_fits (InnerFits w) name v t h g.0, g.1) }
-
-pub first_fits : (w : World) (inner : List Table) → TablesFit (InnerFits w) inner → TableFits (InnerFits w) (first_or [] inner)
-first_fits w [] h = λ name v e. cc
-first_fits w (t ∷ ts) h = h.0
 
 -- other scopes
 abbrev pub TableKept : Table → Table → Type 0
@@ -292,7 +278,7 @@ module _ (answer : Option Sort) where
 
   scopes_run : (name : List ℕ) (v : PlainNamed) (b c : Context) → IsNoFunction v → InnerFits (world c) v → FileFits (world c) v → Runs answer b c → Runs answer b (record c { scopes = with_name c.scopes name v })
   scopes_run name v b c i h q p =
-      runs_trans answer b c _ p (rescoped answer c (with_name c.scopes name v) (with_name_keeps c.scopes name v i).kept (with_name_depth c.scopes name v) (with_name_outside c.scopes name v) (with_name_any (world c) c.scopes name v h q p.fine.names) p.fine)
+      runs_trans answer b c _ p (rescoped answer c (with_name c.scopes name v) (with_name_keeps c.scopes name v i).kept (with_name_depth c.scopes name v) (with_name_outside c.scopes name v) (named_fits (FileFits (world c)) (InnerFits (world c)) c.scopes name v q h p.fine.names) p.fine)
 
   after_runs : (name : List ℕ) (v : PlainNamed) (b c : Context) → IsNoFunction v → InnerFits (world c) v → FileFits (world c) v → Runs answer b c → Runs answer b (record c { scopes = after_declaration c.scopes name v })
   after_runs name v b c i h q p =
@@ -307,7 +293,17 @@ module _ (answer : Option Sort) where
   -- parameter lists
 
   left_params_runs : (c x : Context) → Runs answer (entered c) x → Runs answer c (left_params x)
-  left_params_runs c x p = search (names_left, tail_more, tail_depth, first_fits)
+  left_params_runs c x p = record {
+    grew = p.grew;
+    fine = record { names = left_fit (FileFits (world x)) (InnerFits (world x)) x.scopes p.fine.names; lined = p.fine.lined };
+    fits = p.fits;
+    answer = p.answer;
+    addressed = p.addressed;
+    outside = tail_more c.scopes.inner (scopes.tail x.scopes.inner) p.outside;
+    depth = tail_depth x.scopes.inner (length c.scopes.inner) p.depth;
+    params = λ flat h. first_fits (InnerFits (world x)) x.scopes.inner p.fine.names.inner;
+    walked = p.walked;
+  }
 
   -- a prototype's list: nothing is made of its parameters
   prototype_runs : (c x : Context) → 1 ≤ length c.scopes.inner → Fine c → Aside (entered c) x → Runs answer c (left_params x)

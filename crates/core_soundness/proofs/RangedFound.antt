@@ -58,10 +58,11 @@ use Rattle.core_soundness.proofs.Ranged as base
 use Rattle.core_soundness.proofs.Ranged.{In, Has, in_emit, in_here, in_integer, in_pointer, zero_number, one_number, small_number, size_number, offset_number, wanted_element, SpotIn, spot_atom, read_in, valued_from_in, convert_in, tested_in, write_in, before_in, Steps, combined_in, Pointed, pointed_of, moving_step, IsBetween, binary_steps, changed_in, member_in, K, Widens, same_kept, same_widens, wrapped_number, widens_refl, widens_trans, fit_of, told_widens, told_whole, found_gone, value_gone, converted_widens, unused_gone, Gone}
 use Rattle.core_soundness.proofs.Sorting.{moved_is}
 use Rattle.core_soundness.proofs.TagSorts.{typename_leads, kinds_refl, Leads, Kinds}
-use Rattle.core_soundness.proofs.TypedWhole.{found_whole, assigned_whole, led_cond, called_whole, typed_good, typename_good, CW, Fit}
+use Rattle.core_soundness.proofs.TypedWhole.{assigned_whole, led_cond, called_whole, typed_good, typename_good, CW, Fit}
 use Rattle.core_soundness.proofs.Walks.{grows_read, grows_tested, grows_write}
 use Rattle.core_soundness.proofs.WholeTypes.{whole_stays, nothing, all_stay, extends_refl, made_sized}
 use Rattle.core_soundness.proofs.Choices.{either_way, some_same}
+use Rattle.core_soundness.proofs.Scopes.{name_fits}
 
 -- expressions keep the numbers of statements in range
 
@@ -123,7 +124,7 @@ named_in_range line name c z h g q = by (declaration c.scopes name) refl q
     by None e k = never (E z) _ z k
     by (Some v) e k =
         let t = came (named line (Some v)) k in
-        subst E (ok_same (c, name_found t.value (is_inner c name) (Some v)) z t.last) (g, name_in c line (is_inner c name) v t.value (found_whole (K c) c.scopes name v h.names e) t.is)
+        subst E (ok_same (c, name_found t.value (is_inner c name) (Some v)) z t.last) (g, name_in c line (is_inner c name) v t.value (name_fits (NamedWhole (K c)) c.scopes name v h.names e) t.is)
 
 pub constant_in : (c : Context) (k : Constant) (z : Context × Found) → In c → IsNumber k.value → good (c, constant_found (constant k)) ≡ Ok z → E z
 constant_in c k z g h q = subst E (ok_same (c, constant_found (constant k)) z q) (g, h)
@@ -463,7 +464,7 @@ name_called : (line : ℕ) (name : List ℕ) (c : Context) (d : Context × Calle
 name_called line name c d h g q =
     let k = came (called line c.tags (declaration c.scopes name)) q in
     subst (Called c) (ok_same (c, k.value) d k.last)
-    (record { rises = widens_refl c h; code = g; params = params_whole c h k.value (called_whole c.tags.completed h.made line c.tags (declaration c.scopes name) (λ v e. found_whole (K c) c.scopes name v h.names e) k.value k.is) })
+    (record { rises = widens_refl c h; code = g; params = params_whole c h k.value (called_whole c.tags.completed h.made line c.tags (declaration c.scopes name) (λ v e. name_fits (NamedWhole (K c)) c.scopes name v h.names e) k.value k.is) })
 
 other_called : (tree : Tree) (c : Context) (d : Context × Callee) → Solid c → ((x : Context × Found) → found tree Void c ≡ Ok x → E x) → then (valued tree (found tree Void c)) (λ d. good (d.0, NoFunction)) ≡ Ok d → Called c d
 other_called tree c d h k q =

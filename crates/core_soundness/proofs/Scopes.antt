@@ -16,14 +16,15 @@ use Rattle.c_tree.specs.declared.operator.UnaryOp.TheVariants as u
 use Rattle.c_decls.specs.Named as n
 use Rattle.c_decls.specs.Named.{PlainNamed, Tag, Function}
 use Rattle.c_decls.specs.ScopeList as scopes
-use Rattle.c_decls.specs.ScopeList.{ScopeList, Table, named_in, found_from, found, with_name, tag_name}
+use Rattle.c_decls.specs.ScopeList.{ScopeList, Table, named_in, found_from, found, with_name, tag_name, first_or, innermost}
 use Rattle.elaboration.specs.Addressed.{plain_name}
 use Rattle.elaboration.specs.Calls.{built_in_at}
 use Rattle.elaboration.specs.Context.{Declared, Walked}
 use Rattle.elaboration.specs.Reallocates.{is_realloc}
 use Rattle.core_soundness.specs.Spoken.{is_register, NoRegister, TakesAddress, Spoken, AllSpoken}
 use Rattle.core_soundness.specs.Texts.{WordNames, Names, AllNames}
-use Rattle.core_soundness.specs.Worlds.{World, FileFits, TableFits}
+use Rattle.core_soundness.specs.Fitting.{TableFits, TablesFit, ScopesFit}
+use Rattle.core_soundness.specs.Worlds.{World, FileFits}
 use Rattle.core_soundness.specs.Written.{Written, AllWritten}
 use Rattle.core_soundness.proofs.Choices.{either_way, some_same}
 
@@ -334,6 +335,63 @@ push_get name key v w t e = by (named_in name t) refl (sym (named_push name key 
     by : (o : Option PlainNamed) → named_in name t ≡ o → option_or o (cond (bytes_eq name key) (Some v) None) ≡ Some w → (named_in name t ≡ Some w) ⊎ Pushed name key v w t
     by (Some x) h q = inl (h ∙ q)
     by None h q = last (bytes_eq name key) refl h q
+
+-- scopes of which each name is such a one
+
+module _ (P : PlainNamed → Type 0) where
+  pub pushed_fits : (name : List ℕ) (v : PlainNamed) (t : Table) → P v → TableFits P t → TableFits P (t ++ (name, v) ∷ [])
+  pushed_fits name v t h f key w e = ⊎_elim (λ (q : named_in key t ≡ Some w). f key w q) (λ (q : Pushed key name v w t). subst P q.value h) (push_get key name v w t e)
+
+  pub none_fits : TableFits P []
+  none_fits name v e = cc
+
+  pub first_fits : (inner : List Table) → TablesFit P inner → TableFits P (first_or [] inner)
+  first_fits [] h = none_fits
+  first_fits (t ∷ ts) h = h.0
+
+  tail_fits : (ts : List Table) → TablesFit P ts → TablesFit P (scopes.tail ts)
+  tail_fits [] h = tt
+  tail_fits (t ∷ ts) h = h.1
+
+  pub innermost_fits : (s : ScopeList) → ScopesFit P P s → TableFits P (innermost s)
+  innermost_fits s h = by s.inner h.inner
+    where
+      by : (inner : List Table) → TablesFit P inner → TableFits P (first_or s.file inner)
+      by [] k = h.file
+      by (t ∷ ts) k = k.0
+
+  from_fits : (file : Table) (inner : List Table) (name : List ℕ) (v : PlainNamed) → TableFits P file → TablesFit P inner → found_from file name inner ≡ Some v → P v
+  from_fits file [] name v f h e = f name v e
+  from_fits file (t ∷ ts) name v f h e = by (named_in name t) refl (from_fits file ts name v f h.1) e
+    where
+      by : (o : Option PlainNamed) → named_in name t ≡ o → (found_from file name ts ≡ Some v → P v) → option_or o (found_from file name ts) ≡ Some v → P v
+      by None q again k = again k
+      by (Some x) q again k = h.0 name v (q ∙ k)
+
+  pub name_fits : (s : ScopeList) (name : List ℕ) (v : PlainNamed) → ScopesFit P P s → found s name ≡ Some v → P v
+  name_fits s name v h e = from_fits s.file s.inner name v h.file h.inner e
+
+module _ (P Q : PlainNamed → Type 0) where
+  pub named_fits : (s : ScopeList) (name : List ℕ) (v : PlainNamed) → P v → Q v → ScopesFit P Q s → ScopesFit P Q (with_name s name v)
+  named_fits s name v p q f = by s.inner f.inner
+    where
+      by : (inner : List Table) → TablesFit Q inner → ScopesFit P Q (scopes.with_name_in s.file inner name v)
+      by [] g = record { file = pushed_fits P name v s.file p f.file; inner = tt }
+      by (t ∷ ts) g = record { file = f.file; inner = (pushed_fits Q name v t q g.0, g.1) }
+
+  pub entered_fit : (s : ScopeList) → ScopesFit P Q s → ScopesFit P Q (scopes.entered s)
+  entered_fit s h = record { file = h.file; inner = (none_fits Q, h.inner) }
+
+  pub left_fit : (s : ScopeList) → ScopesFit P Q s → ScopesFit P Q (scopes.left s)
+  left_fit s h = record { file = h.file; inner = tail_fits Q s.inner h.inner }
+
+  tables_fit : ((v : PlainNamed) → P v → Q v) → (ts : List Table) → TablesFit P ts → TablesFit Q ts
+  tables_fit f [] h = tt
+  tables_fit f (t ∷ ts) h = (λ name v e. f v (h.0 name v e), tables_fit f ts h.1)
+
+  -- the same of other names
+  pub scopes_fit : ((v : PlainNamed) → P v → Q v) → (s : ScopeList) → ScopesFit P P s → ScopesFit Q Q s
+  scopes_fit f s h = record { file = λ name v e. f v (h.file name v e); inner = tables_fit f s.inner h.inner }
 
 push_keeps : (key : List ℕ) (v : PlainNamed) (t : Table) → IsNoFunction v → FileKeeps t (t ++ (key, v) ∷ [])
 push_keeps key v t h = record {

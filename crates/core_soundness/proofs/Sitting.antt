@@ -35,16 +35,17 @@ use Rattle.elaboration.specs.Expressions.{unevaluated, changing, comma_answer, c
 use Rattle.elaboration.specs.Reallocates.{reallocates, opened, closed}
 use Rattle.elaboration.specs.Rules.{constant_found, ahead, ahead_of, typed_value, left_operand, and_then, or_else, choose, choice_ahead, choice_type, type_ahead, choose_first}
 use Rattle.core_soundness.specs.Spoken.{NoRegister, TakesAddress, Spoken, AllSpoken}
-use Rattle.core_soundness.specs.Worlds.{World, world, HeldAs, Held, StandsAs, Stands, NamesFit, InnerFits, TableFits, TablesFit}
+use Rattle.core_soundness.specs.Worlds.{FileFits, World, world, HeldAs, Held, StandsAs, Stands, NamesFit, InnerFits}
 use Rattle.core_soundness.proofs.Agreeing.{came, quiet_left, quiet_first, valued_agrees, found_agrees, changing_first}
 use Rattle.core_soundness.proofs.Calls.{record_lands, scalar_lands, changing_rule, changed_comes, stepped_comes, arguments_grew, AllHeld, argument_goes, CallOf, call_of, call_lands, ready_on, NamesRegister, Rests, rests, name_local, valued_operated, names_more, all_spoken_more, unused_operated, inner_kept}
 use Rattle.core_soundness.proofs.Declaring.{tail_depth}
 use Rattle.core_soundness.proofs.Growth.{good, ok_same, never, cast_unused, valued_unused}
 use Rattle.core_soundness.proofs.Landing.{found_name, name_lands, constant_lands, string_lands, indexed_lands, dotted_lands, pointed_lands, InMemory, address_lands, applied_lands, left_goes, between_lands, cast_lands, logical_typed, and_then_goes, and_comes, or_else_gives, or_comes, choice_sides, first_goes, first_null, chosen_lands}
-use Rattle.core_soundness.proofs.Scopes.{MoreAll, all_refl, all_trans, more_depth, tail_more}
+use Rattle.core_soundness.proofs.Scopes.{entered_fit, left_fit, MoreAll, all_refl, all_trans, more_depth, tail_more}
 use Rattle.core_soundness.proofs.Sorting.{Grew, Goes, goes_refl, goes_trans, goes_told, Sits, Lands, Comes, comes_lands, value_grew, stands_grew, held_grew, old_brings, Converting, grew_refl, grew_trans, CodeFits, goes_emit, unused_comes}
 use Rattle.core_soundness.proofs.TagSorts.{typed_after, typename_after}
 use Rattle.core_soundness.proofs.Choices.{either_way}
+use Rattle.core_soundness.specs.Fitting.{TableFits}
 
 -- each expression is where it says, and its code fits (C99 6.5)
 
@@ -435,22 +436,12 @@ on_runs answer a b c x g = runs_trans answer a b c x (goes_runs answer b c x.fin
 
 -- scopes
 
-pub names_entered : (w : World) (s : ScopeList) → NamesFit w s → NamesFit w (scope_entered s)
-names_entered w s h = record { file = h.file; inner = (λ name v e. cc, h.inner) }
-
-tables_tail : (P : PlainNamed → Type 0) (ts : List Table) → TablesFit P ts → TablesFit P (scopes.tail ts)
-tables_tail P [] h = tt
-tables_tail P (t ∷ ts) h = h.1
-
-pub names_left : (w : World) (s : ScopeList) → NamesFit w s → NamesFit w (scopes.left s)
-names_left w s h = record { file = h.file; inner = tables_tail (InnerFits w) s.inner h.inner }
-
 pub entered_fine : (c : Context) → Fine c → Fine (entered c)
-entered_fine c h = record { names = names_entered (world c) c.scopes h.names; lined = h.lined }
+entered_fine c h = record { names = entered_fit (FileFits (world c)) (InnerFits (world c)) c.scopes h.names; lined = h.lined }
 
 -- what ran in a scope of its own
 pub runs_left : (answer : Option Sort) (c d : Context) → 1 ≤ length c.scopes.inner → Runs answer (entered c) d → Runs answer c (left d)
-runs_left answer c d deep r = record { grew = r.grew; fine = record { names = names_left (world d) d.scopes r.fine.names; lined = r.fine.lined }; fits = r.fits; answer = r.answer; addressed = r.addressed; outside = tail_more c.scopes.inner (scopes.tail d.scopes.inner) r.outside; depth = tail_depth d.scopes.inner (length c.scopes.inner) r.depth; params = λ flat h. absurd (omega (arith, deep, flat)); walked = r.walked }
+runs_left answer c d deep r = record { grew = r.grew; fine = record { names = left_fit (FileFits (world d)) (InnerFits (world d)) d.scopes r.fine.names; lined = r.fine.lined }; fits = r.fits; answer = r.answer; addressed = r.addressed; outside = tail_more c.scopes.inner (scopes.tail d.scopes.inner) r.outside; depth = tail_depth d.scopes.inner (length c.scopes.inner) r.depth; params = λ flat h. absurd (omega (arith, deep, flat)); walked = r.walked }
 
 -- full expressions
 

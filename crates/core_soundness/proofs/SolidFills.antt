@@ -45,11 +45,12 @@ use Rattle.core_soundness.proofs.Ranged.{In, in_emit, in_pointer, zero_number, s
 use Rattle.core_soundness.proofs.RangedFound.{literal_in, Rises, rises_refl, rises_trans, opened_rises, closed_rises, went_rises, found_went, value_went, rises_more, coded_rises, with_code}
 use Rattle.core_soundness.proofs.SolidLayers.{T, R1, named_rises, declared_rises, typedef_rises, memory_rises, has_size, specs_rise, layers_rise, type_rises}
 use Rattle.core_soundness.proofs.Sorting.{passed}
-use Rattle.core_soundness.proofs.TagSorts.{tag_leads, SortedType, type_longer, innermost_sorted, tag_sorted, init_layers_sorted, Sorts, kinds_refl}
+use Rattle.core_soundness.proofs.TagSorts.{SortedName, tag_leads, SortedType, type_longer, tag_sorted, init_layers_sorted, Sorts, kinds_refl}
 use Rattle.core_soundness.proofs.TypedWhole.{LayersWhole, LayerWhole, led_cond, layered_whole, before_whole, tag_good}
 use Rattle.core_soundness.proofs.Walks.{grows_convert, grows_write}
 use Rattle.core_soundness.proofs.WholeTypes.{whole_stays, extends_refl, some_stays, some_layout}
 use Rattle.core_soundness.proofs.Choices.{either_way}
+use Rattle.core_soundness.proofs.Scopes.{innermost_fits}
 
 -- initializers
 
@@ -411,7 +412,7 @@ alone_rises : (tree : Tree) (c : Context) → Solid c → Written tree → Led (
 alone_rises (Node f.Specs (At line ▹ Node (f.RecordTag sort) (At at ▹ Leaf (w.Name name) ▹ none) ▹ none)) c h v =
     type_rises (tag_named at sort name (asked c) (named_in (tag_name name) (innermost c.scopes))) c h (tag_good c.tags.completed h.made at sort name (asked c) (named_in (tag_name name) (innermost c.scopes)) (fit_of c h))
     (λ x q. tag_leads at sort name (asked c) (named_in (tag_name name) (innermost c.scopes)) x q)
-    (λ ks. tag_sorted at sort name (asked c) (named_in (tag_name name) (innermost c.scopes)) (λ type e. innermost_sorted c.tags.made c.scopes ks.names (tag_name name) (n.Tag type) e))
+    (λ ks. tag_sorted at sort name (asked c) (named_in (tag_name name) (innermost c.scopes)) (λ type e. innermost_fits (SortedName c.tags.made) c.scopes ks.names (tag_name name) (n.Tag type) e))
 alone_rises tree c h v = specs_rise tree c h v
 
 pub before_rises : (tree : Tree) (names : Trees) (c : Context) → Solid c → Written tree → Led (T c) (specs_before tree names c)

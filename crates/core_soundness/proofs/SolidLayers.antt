@@ -35,16 +35,17 @@ use Rattle.elaboration.specs.Declarators as d
 use Rattle.elaboration.specs.Declarators.{constant, with_type, maybe_name, newly_named, begun_as, begun, completed_by, complete, ended, with_member, member, enumerator, enum_named, is_declared, param, left_params, specs, words_type, tag_type, members, member_names, enumerators, layers, suffix_layers, suffix_layer, params}
 use Rattle.elaboration.specs.Locals.{is_twice, declared_as, next_is_memory, with_register, with_memory, counted, with_named, memory_param, register_param, function_param, prototype_param, is_prototype, with_param}
 use Rattle.core_soundness.specs.Solid.{Solid}
-use Rattle.core_soundness.specs.Whole.{Whole, AllWhole, MembersWhole, NamedWhole, TableWhole, TablesWhole}
+use Rattle.core_soundness.specs.Whole.{Whole, AllWhole, MembersWhole, NamedWhole, TableWhole}
 use Rattle.core_soundness.specs.Written.{HasParts, Written, AllWritten}
 use Rattle.core_soundness.proofs.Agreeing.{came}
 use Rattle.core_soundness.proofs.Growth.{good, ok_same, never, Led, led_ok, led_refused, led_after, led_unless, behind_test}
 use Rattle.core_soundness.proofs.Ranged.{wrapped_number, mems_push, K, fit_of, told_whole, layers_stay, layer_stays, laid}
 use Rattle.core_soundness.proofs.RangedFound.{Rises, rises_refl, rises_trans, told_rises, write_rises, with_code}
-use Rattle.core_soundness.proofs.TagSorts.{SortedType, SortedName, type_longer, table_longer, scopes_longer, with_name_sorted, entered_sorted, left_sorted, none_sorted, first_sorted, innermost_sorted, push_longer, new_sorted, ST, word_sorted, special_sorted, with_layers_sorted, Leads, typed_leads, wanted_leads, special_leads, new_tag_leads, MembersSorted, members_longer, bodies_longer, bodies_push, Sorts, kinds_refl, leads_kinds}
-use Rattle.core_soundness.proofs.TypedWhole.{GoodType, LayersWhole, LayerWhole, layers_append, layers_reverse, with_name_whole, entered_whole, left_whole, with_layers_whole, with_param_layers_whole, adjusted_whole, special_good, word_whole, length_some, typed_good, wanted_good}
-use Rattle.core_soundness.proofs.WholeTypes.{whole_stays, members_stay, table_stays, names_stay, push_extends, extends_refl, made_push, whole_fits}
+use Rattle.core_soundness.proofs.TagSorts.{name_longer, SortedType, SortedName, type_longer, push_longer, new_sorted, ST, word_sorted, special_sorted, with_layers_sorted, Leads, typed_leads, wanted_leads, special_leads, new_tag_leads, MembersSorted, members_longer, bodies_longer, bodies_push, Sorts, kinds_refl, leads_kinds}
+use Rattle.core_soundness.proofs.TypedWhole.{GoodType, LayersWhole, LayerWhole, layers_append, layers_reverse, with_layers_whole, with_param_layers_whole, adjusted_whole, special_good, word_whole, length_some, typed_good, wanted_good}
+use Rattle.core_soundness.proofs.WholeTypes.{named_stays, whole_stays, members_stay, push_extends, extends_refl, made_push, whole_fits}
 use Rattle.core_soundness.proofs.Choices.{either_way}
+use Rattle.core_soundness.proofs.Scopes.{none_fits, first_fits, innermost_fits, named_fits, entered_fit, left_fit, scopes_fit}
 
 -- answers behind a context: with a whole type, with layers, with members, with the types of parameters
 abbrev pub T : Context → Context × PlainType → Type 0
@@ -70,9 +71,9 @@ R1 {A} c z = Rises c z.0
 
 pub named_rises : (c : Context) (name : List ℕ) (v : PlainNamed) → Solid c → NamedWhole (K c) v → (Sorts c → SortedName c.tags.made v) → Rises c (record c { scopes = with_name c.scopes name v })
 named_rises c name v h w s = with_code c _ (record {
-  solid = record { made = h.made; names = with_name_whole (K c) c.scopes name v w h.names; list = h.list; memory = h.memory; result = h.result; statics = h.statics; functions = h.functions };
+  solid = record { made = h.made; names = named_fits (NamedWhole (K c)) (NamedWhole (K c)) c.scopes name v w w h.names; list = h.list; memory = h.memory; result = h.result; statics = h.statics; functions = h.functions };
   more = extends_refl (K c);
-  kinds = record { made = λ i u e. e; sorts = λ ks. record { names = with_name_sorted c.tags.made c.scopes name v (s ks) ks.names; list = ks.list; bodies = ks.bodies } };
+  kinds = record { made = λ i u e. e; sorts = λ ks. record { names = named_fits (SortedName c.tags.made) (SortedName c.tags.made) c.scopes name v (s ks) (s ks) ks.names; list = ks.list; bodies = ks.bodies } };
 }) (λ k. k) (λ k. k) (λ k. k)
 
 pub declared_rises : (line : ℕ) (name : List ℕ) (v : PlainNamed) (c : Context) → Solid c → NamedWhole (K c) v → (Sorts c → SortedName c.tags.made v) → Led (Rises c) (declared_as line name v c)
@@ -91,9 +92,9 @@ typedef_rises past c r line name type w s =
     by : (t : Bool) → Rises past (record c { scopes = cond t c.scopes (with_name c.scopes name (n.Typedef type)) })
     by true = record { solid = r.solid; more = r.more; kinds = r.kinds; code = r.code; cases = r.cases; walked = r.walked }
     by false = record {
-      solid = record { made = r.solid.made; names = with_name_whole (K c) c.scopes name (n.Typedef type) w r.solid.names; list = r.solid.list; memory = r.solid.memory; result = r.solid.result; statics = r.solid.statics; functions = r.solid.functions };
+      solid = record { made = r.solid.made; names = named_fits (NamedWhole (K c)) (NamedWhole (K c)) c.scopes name (n.Typedef type) w w r.solid.names; list = r.solid.list; memory = r.solid.memory; result = r.solid.result; statics = r.solid.statics; functions = r.solid.functions };
       more = r.more;
-      kinds = record { made = r.kinds.made; sorts = λ ks. let k = r.kinds.sorts ks in record { names = with_name_sorted c.tags.made c.scopes name (n.Typedef type) (s ks) k.names; list = k.list; bodies = k.bodies } };
+      kinds = record { made = r.kinds.made; sorts = λ ks. let k = r.kinds.sorts ks in record { names = named_fits (SortedName c.tags.made) (SortedName c.tags.made) c.scopes name (n.Typedef type) (s ks) (s ks) k.names; list = k.list; bodies = k.bodies } };
       code = r.code;
       cases = r.cases;
       walked = r.walked;
@@ -180,7 +181,7 @@ constant_rises e c h =
 
 newly_rises : (sort : RecordSort) (name : List ℕ) (c : Context) → Solid c → Rises c (newly_named sort name c).0
 newly_rises sort name c h = with_code c _ (record {
-  solid = record { made = h.made; names = with_name_whole (K c) c.scopes (tag_name name) (n.Tag (record_type sort (length c.tags.made))) tt h.names; list = h.list; memory = h.memory; result = h.result; statics = h.statics; functions = h.functions };
+  solid = record { made = h.made; names = named_fits (NamedWhole (K c)) (NamedWhole (K c)) c.scopes (tag_name name) (n.Tag (record_type sort (length c.tags.made))) tt tt h.names; list = h.list; memory = h.memory; result = h.result; statics = h.statics; functions = h.functions };
   more = extends_refl (K c);
   kinds = leads_kinds c (newly_named sort name c).0 (new_tag_leads sort name (asked c)) refl refl;
 }) (λ k. k) (λ k. k) (λ k. k)
@@ -190,7 +191,7 @@ begun_as_rises sort name (Some (n.Tag type)) c h = rises_refl c h
 begun_as_rises sort name other c h = newly_rises sort name c h
 
 begun_rises : (sort : RecordSort) (name : Option (List ℕ)) (c : Context) → Solid c → Rises c (begun sort name c).0
-begun_rises sort None c h = record { solid = h; more = extends_refl (K c); kinds = record { made = push_longer c.tags.made _; sorts = λ ks. record { names = scopes_longer c.scopes c.tags.made _ (push_longer c.tags.made _) ks.names; list = table_longer c.params c.tags.made _ (push_longer c.tags.made _) ks.list; bodies = bodies_longer c.tags.completed c.tags.made _ (push_longer c.tags.made _) ks.bodies } }; code = λ k. k; cases = λ k. k; walked = λ k. k }
+begun_rises sort None c h = record { solid = h; more = extends_refl (K c); kinds = record { made = push_longer c.tags.made _; sorts = λ ks. record { names = scopes_fit (SortedName c.tags.made) (SortedName _) (λ v. name_longer v c.tags.made _ (push_longer c.tags.made _)) c.scopes ks.names; list = λ name v e. name_longer v c.tags.made _ (push_longer c.tags.made _) (ks.list name v e); bodies = bodies_longer c.tags.completed c.tags.made _ (push_longer c.tags.made _) ks.bodies } }; code = λ k. k; cases = λ k. k; walked = λ k. k }
 begun_rises sort (Some name) c h = begun_as_rises sort name (named_in (tag_name name) (innermost c.scopes)) c h
 
 -- the type that a struct or union with braces begins with
@@ -200,7 +201,7 @@ begun_as_sorted sort name other c h = new_sorted sort c.tags.made name
 
 begun_sorted : (sort : RecordSort) (name : Option (List ℕ)) (c : Context) → Sorts c → SortedType (begun sort name c).0.tags.made (begun sort name c).1
 begun_sorted sort None c ks = new_sorted sort c.tags.made []
-begun_sorted sort (Some name) c ks = begun_as_sorted sort name (named_in (tag_name name) (innermost c.scopes)) c (λ type e. innermost_sorted c.tags.made c.scopes ks.names (tag_name name) (n.Tag type) e)
+begun_sorted sort (Some name) c ks = begun_as_sorted sort name (named_in (tag_name name) (innermost c.scopes)) c (λ type e. innermost_fits (SortedName c.tags.made) c.scopes ks.names (tag_name name) (n.Tag type) e)
 
 members_all : (k : Known) (ms : d.Members) → MembersWhole k ms → All (λ (m : List ℕ × PlainType). HasLayout k m.1) ms
 members_all k [] h = λ j x q. absurd (omega (arith, q))
@@ -227,8 +228,8 @@ complete_rises line number type b c list r m some w sm st at =
           record {
             solid = record {
               made = made;
-              names = names_stay c.scopes (K c) _ x h.names;
-              list = table_stays c.params (K c) _ x h.list;
+              names = scopes_fit (NamedWhole (K c)) (NamedWhole _) (λ v. named_stays v (K c) _ x) c.scopes h.names;
+              list = λ name v e. named_stays v (K c) _ x (h.list name v e);
               memory = h.memory;
               result = whole_stays c.running.answer (K c) _ x h.result;
               statics = h.statics;
@@ -363,17 +364,24 @@ enum_rises line (Some name) c h =
 -- scopes of parameters
 
 pub entered_solid : (c : Context) → Solid c → Solid (entered c)
-entered_solid c h = record { made = h.made; names = entered_whole (K c) c.scopes h.names; list = h.list; memory = h.memory; result = h.result; statics = h.statics; functions = h.functions }
-
-first_list : (k : Known) (inner : List Table) → TablesWhole k inner → TableWhole k (first_or [] inner)
-first_list k [] h = λ name v e. cc
-first_list k (t ∷ ts) h = h.0
+entered_solid c h = record { made = h.made; names = entered_fit (NamedWhole (K c)) (NamedWhole (K c)) c.scopes h.names; list = h.list; memory = h.memory; result = h.result; statics = h.statics; functions = h.functions }
 
 left_params_rises : (c x : Context) → Rises (entered c) x → Rises c (left_params x)
-left_params_rises c x p = grind (arith, left_whole, first_list, entered_sorted, left_sorted, first_sorted)
+left_params_rises c x p = record {
+  solid = record { made = p.solid.made; names = left_fit (NamedWhole (K x)) (NamedWhole (K x)) x.scopes p.solid.names; list = first_fits (NamedWhole (K x)) x.scopes.inner p.solid.names.inner; memory = p.solid.memory; result = p.solid.result; statics = p.solid.statics; functions = p.solid.functions };
+  more = p.more;
+  kinds = record {
+    made = p.kinds.made;
+    sorts = λ ks. let k = p.kinds.sorts (record { names = entered_fit (SortedName c.tags.made) (SortedName c.tags.made) c.scopes ks.names; list = ks.list; bodies = ks.bodies }) in
+        record { names = left_fit (SortedName x.tags.made) (SortedName x.tags.made) x.scopes k.names; list = first_fits (SortedName x.tags.made) x.scopes.inner k.names.inner; bodies = k.bodies };
+  };
+  code = p.code;
+  cases = p.cases;
+  walked = p.walked;
+}
 
 no_params : (c : Context) → Solid c → Rises c (record c { params = [] })
-no_params c h = record { solid = record { made = h.made; names = h.names; list = λ name v e. cc; memory = h.memory; result = h.result; statics = h.statics; functions = h.functions }; more = extends_refl (K c); kinds = record { made = λ i u e. e; sorts = λ ks. record { names = ks.names; list = none_sorted c.tags.made; bodies = ks.bodies } }; code = λ k. k; cases = λ k. k; walked = λ k. k }
+no_params c h = record { solid = record { made = h.made; names = h.names; list = λ name v e. cc; memory = h.memory; result = h.result; statics = h.statics; functions = h.functions }; more = extends_refl (K c); kinds = record { made = λ i u e. e; sorts = λ ks. record { names = ks.names; list = none_fits (SortedName c.tags.made); bodies = ks.bodies } }; code = λ k. k; cases = λ k. k; walked = λ k. k }
 
 t_on : (a b : Context) (z : Context × PlainType) → Rises a b → T b z → T a z
 t_on a b z x y = (rises_trans a b z.0 x y.0, y.1, λ ks. y.2 (x.kinds.sorts ks))

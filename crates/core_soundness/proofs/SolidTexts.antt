@@ -51,7 +51,7 @@ use Rattle.elaboration.specs.Statements.{Around, around_body, below, in_loop, in
 use Rattle.core_soundness.specs.Laws.{HasLayouts, HasRanges}
 use Rattle.core_soundness.specs.Ranges.{KindIn, AtomIn, AtomsIn, PiecesIn, IsStep}
 use Rattle.core_soundness.specs.Solid.{MemsLaid, VariablesLaid, WalkedLaid, Solid}
-use Rattle.core_soundness.specs.Whole.{Whole, TableWhole}
+use Rattle.core_soundness.specs.Whole.{NamedWhole, Whole, TableWhole}
 use Rattle.core_soundness.specs.Written.{Written, AllWritten, AreWritten}
 use Rattle.core_soundness.proofs.CodeWalk.{quiet_convert_integer}
 use Rattle.core_soundness.proofs.Cores.{behind as core_behind, core_sizes}
@@ -60,11 +60,12 @@ use Rattle.core_soundness.proofs.Ranged.{walked_push, K, same_kept, same_widens,
 use Rattle.core_soundness.proofs.RangedFound.{tested_value_in, tested_solid, CasesIn, WalkedIn, Rises, rises_refl, rises_trans, closed_rises, Full, full_value, full_unused, with_code, rises_more, coded_rises}
 use Rattle.core_soundness.proofs.SolidFills.{declared_function_rises, declaration_rises, scalar_value}
 use Rattle.core_soundness.proofs.SolidLayers.{constant_rises, entered_solid, specs_rise, layers_rise}
-use Rattle.core_soundness.proofs.TagSorts.{none_sorted, entered_sorted, left_sorted, kinds_refl}
-use Rattle.core_soundness.proofs.TypedWhole.{left_whole, with_layers_whole}
+use Rattle.core_soundness.proofs.TagSorts.{SortedName, kinds_refl}
+use Rattle.core_soundness.proofs.TypedWhole.{with_layers_whole}
 use Rattle.core_soundness.proofs.Walks.{grows_tested, grows_convert_integer}
 use Rattle.core_soundness.proofs.WholeTypes.{whole_stays, extends_refl, is_layout}
 use Rattle.core_soundness.proofs.Choices.{either_way}
+use Rattle.core_soundness.proofs.Scopes.{none_fits, entered_fit, left_fit}
 
 -- statements, functions and texts keep whole types (C99 6.8, 6.9)
 
@@ -76,9 +77,9 @@ scoped_rises c {x} k =
     (λ d q. let r = k d q in
     led_ok (Rises c)
     (with_code c _ (record {
-      solid = record { made = r.solid.made; names = left_whole (K d) d.scopes r.solid.names; list = r.solid.list; memory = r.solid.memory; result = r.solid.result; statics = r.solid.statics; functions = r.solid.functions };
+      solid = record { made = r.solid.made; names = left_fit (NamedWhole (K d)) (NamedWhole (K d)) d.scopes r.solid.names; list = r.solid.list; memory = r.solid.memory; result = r.solid.result; statics = r.solid.statics; functions = r.solid.functions };
       more = r.more;
-      kinds = record { made = r.kinds.made; sorts = λ ks. let k = r.kinds.sorts (record { names = entered_sorted c.tags.made c.scopes ks.names; list = ks.list; bodies = ks.bodies }) in record { names = left_sorted d.tags.made d.scopes k.names; list = k.list; bodies = k.bodies } };
+      kinds = record { made = r.kinds.made; sorts = λ ks. let k = r.kinds.sorts (record { names = entered_fit (SortedName c.tags.made) (SortedName c.tags.made) c.scopes ks.names; list = ks.list; bodies = ks.bodies }) in record { names = left_fit (SortedName d.tags.made) (SortedName d.tags.made) d.scopes k.names; list = k.list; bodies = k.bodies } };
     }) r.code r.cases r.walked))
 
 on_led : (a b : Context) (x : Checked Context) → Rises a b → Led (Rises b) x → Led (Rises a) x
@@ -346,7 +347,7 @@ body_begun_rises : (index : ℕ) (type : PlainType) (c : Context) → Solid c �
 body_begun_rises index type c h w = with_code c _ (record {
   solid = record { made = h.made; names = record { file = h.names.file; inner = (h.list, tt) }; list = λ name v e. cc; memory = h.memory; result = answer_whole (K c) type w; statics = h.statics; functions = h.functions };
   more = extends_refl (K c);
-  kinds = record { made = λ i u e. e; sorts = λ ks. record { names = record { file = ks.names.file; inner = (ks.list, tt) }; list = none_sorted c.tags.made; bodies = ks.bodies } };
+  kinds = record { made = λ i u e. e; sorts = λ ks. record { names = record { file = ks.names.file; inner = (ks.list, tt) }; list = none_fits (SortedName c.tags.made); bodies = ks.bodies } };
 }) (λ g. g) (λ g. g) (λ g. g)
 
 last_in : (type : PlainType) → AtomsIn (given (last_answer type))

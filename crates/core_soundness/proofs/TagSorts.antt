@@ -29,7 +29,8 @@ use Rattle.c_decls.specs.declared.refusal.TypeKind.TheVariants.{LeftOut, TypeToo
 use Rattle.elaboration.specs.Context.{Context as TextContext, asked}
 use Rattle.elaboration.specs.Initializers.{given_length, with_init_layers}
 use Rattle.core_soundness.proofs.Growth.{Longer, Led, led_ok, led_refused, led_after, led_unless, ok_same, never, Reached, reached_ok, reached_refused, reached_after, reached_then, reached_unless, wanted_unused, type_cast_unused}
-use Rattle.core_soundness.proofs.Scopes.{get_left, get_last, Pushed, push_get, More, MoreAll, more_refl, more_trans, with_tag_more, left_more}
+use Rattle.core_soundness.proofs.Scopes.{name_fits, named_fits, entered_fit, left_fit, scopes_fit, get_left, get_last, Pushed, push_get, More, MoreAll, more_refl, more_trans, with_tag_more, left_more}
+use Rattle.core_soundness.specs.Fitting.{TableFits, ScopesFit}
 
 -- types name tags of the sort that these were made of (C99 6.7.2.3)
 
@@ -46,16 +47,8 @@ SortedName made (n.Tag type) = SortedType made type
 SortedName made (n.Typedef type) = SortedType made type
 SortedName made other = Unit {0}
 
-abbrev pub SortedTable : List TagInfo → Table → Type 0
-SortedTable made t = (name : List ℕ) (v : PlainNamed) → named_in name t ≡ Some v → SortedName made v
-
-abbrev pub SortedTables : List TagInfo → List Table → Type 0
-SortedTables made [] = Unit {0}
-SortedTables made (t ∷ ts) = SortedTable made t × SortedTables made ts
-
-pub record SortedScopes (made : List TagInfo) (s : ScopeList) : Type 0 where
-  pub file : SortedTable made s.file
-  pub inner : SortedTables made s.inner
+abbrev pub SortedScopes : List TagInfo → ScopeList → Type 0
+SortedScopes made s = ScopesFit (SortedName made) (SortedName made) s
 
 -- with more tags
 
@@ -69,65 +62,6 @@ pub name_longer : (v : PlainNamed) (j k : List TagInfo) → Longer j k → Sorte
 name_longer (n.Tag type) j k x h = type_longer type j k x h
 name_longer (n.Typedef type) j k x h = type_longer type j k x h
 name_longer other j k x h = tt
-
-pub table_longer : (t : Table) (j k : List TagInfo) → Longer j k → SortedTable j t → SortedTable k t
-table_longer t j k x h name v e = name_longer v j k x (h name v e)
-
-pub tables_longer : (ts : List Table) (j k : List TagInfo) → Longer j k → SortedTables j ts → SortedTables k ts
-tables_longer [] j k x h = tt
-tables_longer (t ∷ ts) j k x h = (table_longer t j k x h.0, tables_longer ts j k x h.1)
-
-pub scopes_longer : (s : ScopeList) (j k : List TagInfo) → Longer j k → SortedScopes j s → SortedScopes k s
-scopes_longer s j k x h = record { file = table_longer s.file j k x h.file; inner = tables_longer s.inner j k x h.inner }
-
--- one name more
-
-table_push : (made : List TagInfo) (key : List ℕ) (v : PlainNamed) (t : Table) → SortedName made v → SortedTable made t → SortedTable made (t ++ (key, v) ∷ [])
-table_push made key v t h g name x e = ⊎_elim (λ (q : named_in name t ≡ Some x). g name x q) (λ (q : Pushed name key v x t). subst (SortedName made) q.value h) (push_get name key v x t e)
-
-pub with_name_sorted : (made : List TagInfo) (s : ScopeList) (key : List ℕ) (v : PlainNamed) → SortedName made v → SortedScopes made s → SortedScopes made (with_name s key v)
-with_name_sorted made s key v h g = by s.inner g.inner
-  where
-    by : (inner : List Table) → SortedTables made inner → SortedScopes made (with_name_in s.file inner key v)
-    by [] k = record { file = table_push made key v s.file h g.file; inner = tt }
-    by (t ∷ ts) k = record { file = g.file; inner = (table_push made key v t h k.0, k.1) }
-
--- scopes
-
-pub none_sorted : (made : List TagInfo) → SortedTable made []
-none_sorted made name v e = cc
-
-pub entered_sorted : (made : List TagInfo) (s : ScopeList) → SortedScopes made s → SortedScopes made (scopes.entered s)
-entered_sorted made s h = record { file = h.file; inner = (none_sorted made, h.inner) }
-
-tail_sorted : (made : List TagInfo) (ts : List Table) → SortedTables made ts → SortedTables made (scopes.tail ts)
-tail_sorted made [] h = tt
-tail_sorted made (t ∷ ts) h = h.1
-
-pub left_sorted : (made : List TagInfo) (s : ScopeList) → SortedScopes made s → SortedScopes made (scopes.left s)
-left_sorted made s h = record { file = h.file; inner = tail_sorted made s.inner h.inner }
-
-pub first_sorted : (made : List TagInfo) (inner : List Table) → SortedTables made inner → SortedTable made (first_or [] inner)
-first_sorted made [] h = none_sorted made
-first_sorted made (t ∷ ts) h = h.0
-
-pub innermost_sorted : (made : List TagInfo) (s : ScopeList) → SortedScopes made s → SortedTable made (innermost s)
-innermost_sorted made s h = by s.inner h.inner
-  where
-    by : (inner : List Table) → SortedTables made inner → SortedTable made (first_or s.file inner)
-    by [] k = h.file
-    by (t ∷ ts) k = k.0
-
-from_sorted : (made : List TagInfo) (file : Table) (inner : List Table) (name : List ℕ) (v : PlainNamed) → SortedTable made file → SortedTables made inner → found_from file name inner ≡ Some v → SortedName made v
-from_sorted made file [] name v f h e = f name v e
-from_sorted made file (t ∷ ts) name v f h e = by (named_in name t) refl (from_sorted made file ts name v f h.1) e
-  where
-    by : (o : Option PlainNamed) → named_in name t ≡ o → (found_from file name ts ≡ Some v → SortedName made v) → option_or o (found_from file name ts) ≡ Some v → SortedName made v
-    by None q again k = again k
-    by (Some x) q again k = h.0 name v (q ∙ k)
-
-pub found_sorted : (made : List TagInfo) (s : ScopeList) (name : List ℕ) (v : PlainNamed) → SortedScopes made s → found s name ≡ Some v → SortedName made v
-found_sorted made s name v h e = from_sorted made s.file s.inner name v h.file h.inner e
 
 -- a new tag
 
@@ -174,8 +108,8 @@ type_sorted line c (Some (n.BuiltIn zero)) h = led_ok ST tt
 type_sorted line c named h = led_refused ST
 
 pub special_sorted : (line : ℕ) (tree : Tree) (c : Context) → SortedScopes c.tags.made c.scopes → Led ST (special_type line tree c)
-special_sorted line (Node f.TypedefName (Leaf (w.Name name) ▹ none)) c h = type_sorted line c (found c.scopes name) (λ type e. found_sorted c.tags.made c.scopes name (n.Typedef type) h e)
-special_sorted line (Node (f.RecordTag sort) (At at ▹ Leaf (w.Name name) ▹ none)) c h = tag_sorted at sort name c (found c.scopes (tag_name name)) (λ type e. found_sorted c.tags.made c.scopes (tag_name name) (n.Tag type) h e)
+special_sorted line (Node f.TypedefName (Leaf (w.Name name) ▹ none)) c h = type_sorted line c (found c.scopes name) (λ type e. name_fits (SortedName c.tags.made) c.scopes name (n.Typedef type) h e)
+special_sorted line (Node (f.RecordTag sort) (At at ▹ Leaf (w.Name name) ▹ none)) c h = tag_sorted at sort name c (found c.scopes (tag_name name)) (λ type e. name_fits (SortedName c.tags.made) c.scopes (tag_name name) (n.Tag type) h e)
 special_sorted line (Node f.EnumTag (At at ▹ Leaf (w.Name name) ▹ none)) c h = enum_sorted at c (found c.scopes (tag_name name))
 special_sorted line (Node other (At at ▹ parts)) c h = led_refused ST
 special_sorted line tree c h = led_refused ST
@@ -275,7 +209,10 @@ sort_leads line r.Union c (ct.Union tag) = reached_ok (Leads c) (leads_refl c)
 sort_leads line sort c type = reached_refused (Leads c)
 
 pub new_tag_leads : (sort : RecordSort) (name : List ℕ) (c : Context) → Leads c (with_new_tag sort name c).0
-new_tag_leads sort name c = search (with_tag_more, push_longer, with_name_sorted, new_sorted, scopes_longer)
+new_tag_leads sort name c =
+    let made = push_longer c.tags.made (record { is_union = is_union sort; name = name }) in
+    let now : List TagInfo = (with_new_tag sort name c).0.tags.made in
+    record { more = with_tag_more c.scopes name _; made = made; sorts = λ h. named_fits (SortedName now) (SortedName now) c.scopes (tag_name name) (n.Tag (record_type sort (length c.tags.made))) (new_sorted sort c.tags.made name) (new_sorted sort c.tags.made name) (scopes_fit (SortedName c.tags.made) (SortedName now) (λ v. name_longer v c.tags.made now made) c.scopes h) }
 
 pub tag_leads : (line : ℕ) (sort : RecordSort) (name : List ℕ) (c : Context) (named : Option PlainNamed) → Reached (Leads c) (tag_named line sort name c named)
 tag_leads line sort name c None = reached_ok (Leads c) (new_tag_leads sort name c)
@@ -351,7 +288,7 @@ param_inside line c (Some name) type h =
       some = named_some c.scopes.file c.scopes.inner name (n.Register type 0) h;
       outside = named_left c.scopes.file c.scopes.inner name (n.Register type 0) h;
       made = λ i x e. e;
-      sorts = λ k. with_name_sorted c.tags.made c.scopes name (n.Register type 0) tt k;
+      sorts = λ k. named_fits (SortedName c.tags.made) (SortedName c.tags.made) c.scopes name (n.Register type 0) tt tt k;
     }))
 
 declared_inside : (line : ℕ) (c : Context) (name : Option (List ℕ)) (type : PlainType) → HasScope c.scopes.inner → Reached (Inside c) (declared_param line c name type)
@@ -442,7 +379,7 @@ mutual
       (λ d h. reached_after (Leads c) (array_length (line_of e) d.1) (λ length q. reached_ok (Leads c) h))
   suffix_leads (Node f.FunctionSuffix (At line ▹ Node f.Params params ▹ none)) c =
       reached_then (Leads c) (Inside (in_new_scope c)) (params_inside params (in_new_scope c) tt)
-      (λ p h. reached_ok (Leads c) (record { more = h.outside; made = h.made; sorts = λ k. left_sorted p.0.tags.made p.0.scopes (h.sorts (entered_sorted c.tags.made c.scopes k)) }))
+      (λ p h. reached_ok (Leads c) (record { more = h.outside; made = h.made; sorts = λ k. left_fit (SortedName p.0.tags.made) (SortedName p.0.tags.made) p.0.scopes (h.sorts (entered_fit (SortedName c.tags.made) (SortedName c.tags.made) c.scopes k)) }))
   suffix_leads tree c = reached_ok (Leads c) (leads_refl c)
 
   params_inside : (params : Trees) (c : Context) → HasScope c.scopes.inner → Reached (Inside c) (param_types params c)
@@ -508,7 +445,7 @@ bodies_push made (x ∷ ts) t h k = (h.0, bodies_push made ts t h.1 k)
 -- at a point of the walk
 pub record SortsAt (made : List TagInfo) (completed : List CompletedTag) (s : ScopeList) (params : Table) : Type 0 where
   pub names : SortedScopes made s
-  pub list : SortedTable made params
+  pub list : TableFits (SortedName made) params
   pub bodies : BodiesSorted made completed
 
 abbrev pub Sorts : TextContext → Type 0
@@ -531,7 +468,7 @@ leads_kinds c d l p q = record {
   made = l.made;
   sorts = λ h. record {
     names = l.sorts h.names;
-    list = subst (SortedTable d.tags.made) (sym p) (table_longer c.params c.tags.made d.tags.made l.made h.list);
+    list = subst (TableFits (SortedName d.tags.made)) (sym p) (λ name v e. name_longer v c.tags.made d.tags.made l.made (h.list name v e));
     bodies = subst (BodiesSorted d.tags.made) (sym q) (bodies_longer c.tags.completed c.tags.made d.tags.made l.made h.bodies);
   };
 }

@@ -17,10 +17,11 @@ use Rattle.c_decls.specs.ScopeList.{ScopeList, Table, found, named_in, found_fro
 use Rattle.elaboration.specs.Addressed.{Taken, number_of, plain_name, with_number, with_address, with_known, declare, left, left_part, taken, all_taken, left_scope}
 use Rattle.elaboration.specs.Context.{Context, left as left_context}
 use Rattle.core_soundness.specs.Spoken.{is_register}
-use Rattle.core_soundness.specs.Worlds.{World, world, FileFits, TableFits}
+use Rattle.core_soundness.specs.Worlds.{World, world, FileFits}
 use Rattle.core_soundness.specs.Written.{HasParts, Written, AllWritten}
 use Rattle.core_soundness.proofs.Formed.{NoNodes, Shaped, Formed, AllFormed}
 use Rattle.core_soundness.proofs.Scopes.{More, MoreAll, IsNewTag}
+use Rattle.core_soundness.specs.Fitting.{TableFits}
 
 -- of which parameters and locals the address was taken stays known behind each tree
 

@@ -41,56 +41,15 @@ use Rattle.c_decls.specs.declared.constant.Constant.{Constant}
 use Rattle.c_decls.specs.declared.refusal.TypeKind.TheVariants.{Operands, NotLvalue, ArgumentCount, Assignment, DeclaredTwice, Incomplete, TypeTooLarge, Format, LeftOut}
 use Rattle.c_decls.specs.declared.typed.Folded.{Folded}
 use Rattle.c_decls.specs.declared.typed.Folded.TheVariants.{Is}
-use Rattle.core_soundness.specs.Whole.{Whole, AllWhole, AreMade, NamedWhole, TableWhole, TablesWhole, NamesWhole}
+use Rattle.core_soundness.specs.Whole.{Whole, AllWhole, AreMade, NamedWhole, TableWhole, NamesWhole}
 use Rattle.core_soundness.proofs.Growth.{Led, led_ok, led_refused, led_after, led_unless, led_barred, wanted_unused, type_cast_unused}
-use Rattle.core_soundness.proofs.Scopes.{named_push}
+use Rattle.core_soundness.proofs.Scopes.{name_fits, named_fits, entered_fit, left_fit, named_push}
 use Rattle.core_soundness.proofs.WholeTypes.{nothing, member_whole}
 use Rattle.core_soundness.proofs.Choices.{some_same}
 
 pub led_cond : {C : Type 0} (R : C → Type 0) (test : Bool) (x y : Checked C) → Led R x → Led R y → Led R (cond test x y)
 led_cond R true x y g h = g
 led_cond R false x y g h = h
-
--- names
-
-table_push : (k : Known) (name : List ℕ) (v : PlainNamed) (t : Table) → NamedWhole k v → TableWhole k t → TableWhole k (t ++ (name, v) ∷ [])
-table_push k name v t h g key x e = by (named_in key t) refl (sym (named_push key name v t) ∙ e)
-  where
-    last : (c : Bool) → cond c (Some v) None ≡ Some x → NamedWhole k x
-    last true q = subst (NamedWhole k) (some_same v x q) h
-    last false q = cc
-
-    by : (o : Option PlainNamed) → named_in key t ≡ o → option_or o (cond (bytes_eq key name) (Some v) None) ≡ Some x → NamedWhole k x
-    by None q r = last (bytes_eq key name) r
-    by (Some y) q r = subst (NamedWhole k) (some_same y x r) (g key y q)
-
-pub with_name_whole : (k : Known) (s : ScopeList) (name : List ℕ) (v : PlainNamed) → NamedWhole k v → NamesWhole k s → NamesWhole k (with_name s name v)
-with_name_whole k s name v h g = by s.inner g.inner
-  where
-    by : (inner : List Table) → TablesWhole k inner → NamesWhole k (scopes.with_name_in s.file inner name v)
-    by [] x = record { file = table_push k name v s.file h g.file; inner = tt }
-    by (t ∷ ts) x = record { file = g.file; inner = (table_push k name v t h x.0, x.1) }
-
-pub entered_whole : (k : Known) (s : ScopeList) → NamesWhole k s → NamesWhole k (scopes.entered s)
-entered_whole k s h = record { file = h.file; inner = (λ name v e. cc, h.inner) }
-
-tail_whole : (k : Known) (ts : List Table) → TablesWhole k ts → TablesWhole k (scopes.tail ts)
-tail_whole k [] h = tt
-tail_whole k (t ∷ ts) h = h.1
-
-pub left_whole : (k : Known) (s : ScopeList) → NamesWhole k s → NamesWhole k (scopes.left s)
-left_whole k s h = record { file = h.file; inner = tail_whole k s.inner h.inner }
-
-found_from_whole : (k : Known) (file : Table) (inner : List Table) (name : List ℕ) (v : PlainNamed) → TableWhole k file → TablesWhole k inner → found_from file name inner ≡ Some v → NamedWhole k v
-found_from_whole k file [] name v f h e = f name v e
-found_from_whole k file (t ∷ ts) name v f h e = by (named_in name t) refl (found_from_whole k file ts name v f h.1) e
-  where
-    by : (o : Option PlainNamed) → named_in name t ≡ o → (found_from file name ts ≡ Some v → NamedWhole k v) → option_or o (found_from file name ts) ≡ Some v → NamedWhole k v
-    by None q again r = again r
-    by (Some x) q again r = h.0 name v (q ∙ r)
-
-pub found_whole : (k : Known) (s : ScopeList) (name : List ℕ) (v : PlainNamed) → NamesWhole k s → found s name ≡ Some v → NamedWhole k v
-found_whole k s name v h e = found_from_whole k s.file s.inner name v h.file h.inner e
 
 -- layers of declarators
 
@@ -484,7 +443,7 @@ module _ (ts : List CompletedTag) (made : AreMade nothing ts) where
       (λ d q. let one = h d q in led_after Good (y d.0) (λ e z. let other = g d.0 one.0 e z in answered_good e.0 _ other.0 (k e.0 d.1 e.1 other.0 one.1 other.1)))
 
   found_by : (c : Context) (name : List ℕ) → Fit c → NamedBy (found c.scopes name)
-  found_by c name g v e = found_whole (known ts) c.scopes name v g.names e
+  found_by c name g v e = name_fits (NamedWhole (known ts)) c.scopes name v g.names e
 
   callee_good : (e : Tree) (c : Context) (answer : Found) → Fit c → Led Good answer → Led GoodCallee (callee e c answer)
   callee_good (Node f.Name (At line ▹ Leaf (w.Name name) ▹ none)) c answer g h =
@@ -506,7 +465,7 @@ module _ (ts : List CompletedTag) (made : AreMade nothing ts) where
 
   new_tag_good : (sort : RecordSort) (name : List ℕ) (c : Context) → Fit c → GoodType (with_new_tag sort name c)
   new_tag_good sort name c g =
-      (record { completed = g.completed; names = with_name_whole (known ts) c.scopes (tag_name name) (n.Tag (record_type sort (length c.tags.made))) tt g.names }, record_type_whole sort (length c.tags.made))
+      (record { completed = g.completed; names = named_fits (NamedWhole (known ts)) (NamedWhole (known ts)) c.scopes (tag_name name) (n.Tag (record_type sort (length c.tags.made))) tt tt g.names }, record_type_whole sort (length c.tags.made))
 
   pub tag_good : (line : ℕ) (sort : RecordSort) (name : List ℕ) (c : Context) (o : Option PlainNamed) → Fit c → Led GoodType (tag_named line sort name c o)
   tag_good line sort name c None g = led_ok GoodType (new_tag_good sort name c g)
@@ -555,7 +514,7 @@ module _ (ts : List CompletedTag) (made : AreMade nothing ts) where
   param_good : (line : ℕ) (c : Context) (name : Option (List ℕ)) (type : PlainType) → Fit c → Whole (known ts) type → Led GoodType (with_param line c name type)
   param_good line c None type g h = led_ok GoodType (g, h)
   param_good line c (Some name) type g h =
-      led_unless GoodType _ DeclaredTwice line (λ t. led_ok GoodType (record { completed = g.completed; names = with_name_whole (known ts) c.scopes name (n.Register type 0) h g.names }, h))
+      led_unless GoodType _ DeclaredTwice line (λ t. led_ok GoodType (record { completed = g.completed; names = named_fits (NamedWhole (known ts)) (NamedWhole (known ts)) c.scopes name (n.Register type 0) h h g.names }, h))
 
   declared_good : (line : ℕ) (c : Context) (name : Option (List ℕ)) (type : PlainType) → Fit c → Whole (known ts) type → Led GoodType (declared_param line c name type)
   declared_good line c name type g h =
@@ -563,10 +522,10 @@ module _ (ts : List CompletedTag) (made : AreMade nothing ts) where
       (λ t. led_unless GoodType (is_record type || is_function type) LeftOut line (λ s. param_good line c name type g h))
 
   new_scope : (c : Context) → Fit c → Fit (in_new_scope c)
-  new_scope c g = record { completed = g.completed; names = entered_whole (known ts) c.scopes g.names }
+  new_scope c g = record { completed = g.completed; names = entered_fit (NamedWhole (known ts)) (NamedWhole (known ts)) c.scopes g.names }
 
   old_scope : (c : Context) → Fit c → Fit (out_of_scope c)
-  old_scope c g = record { completed = g.completed; names = left_whole (known ts) c.scopes g.names }
+  old_scope c g = record { completed = g.completed; names = left_fit (NamedWhole (known ts)) (NamedWhole (known ts)) c.scopes g.names }
 
   mutual
     unfolding typed values typename layers suffix_layers suffix_layer param_types param_type

@@ -45,7 +45,7 @@ use Rattle.elaboration.specs.Resolving.{atoms_by, numbered, body_of, temporary, 
 use Rattle.elaboration.specs.Statements.{around_body, items}
 use Rattle.core_soundness.specs.Laws.{HasTypes}
 use Rattle.core_soundness.specs.Spoken.{IsList, HasLists, HasParameters, IsDefinition}
-use Rattle.core_soundness.specs.Worlds.{World, world, walked_world, FitsAnswer, PiecesFit, InnerFits, FileFits, TableFits, TablesFit, result_sort, param_sorts, IsCall}
+use Rattle.core_soundness.specs.Worlds.{World, world, walked_world, FitsAnswer, PiecesFit, InnerFits, FileFits, result_sort, param_sorts, IsCall}
 use Rattle.core_soundness.specs.Written.{Written, AllWritten, AreWritten}
 use Rattle.core_soundness.proofs.Agreeing.{came}
 use Rattle.core_soundness.proofs.Cores.{behind, count_main}
@@ -53,18 +53,19 @@ use Rattle.core_soundness.proofs.DeclaredSteps.{Begun, layers_start, body_step}
 use Rattle.core_soundness.proofs.Formed.{Shaped, Formed, AllFormed, HasParams, AreFormed}
 use Rattle.core_soundness.proofs.Growth.{good, ok_same, never, bad, behind_test}
 use Rattle.core_soundness.proofs.Landing.{not_false}
-use Rattle.core_soundness.proofs.LayersRun.{specs_run, layers_run, suffixes_run, suffix_runs, first_fits, params_run}
+use Rattle.core_soundness.proofs.LayersRun.{specs_run, layers_run, suffixes_run, suffix_runs, params_run}
 use Rattle.core_soundness.proofs.LocalsRun.{file_declaration_runs, function_runs}
 use Rattle.core_soundness.proofs.OwnNames.{IsOwn, HasOwnName, HaveOwnNames}
 use Rattle.core_soundness.proofs.Parameters.{specs_counts, sorts, functions, function_sorts, functions_joined, functions_reversed, functions_one, makes_function, specs_sorts, layers_added}
 use Rattle.core_soundness.proofs.Resolved.{result_resolves, all_resolve, statements_resolve, returns_resolve}
-use Rattle.core_soundness.proofs.Scopes.{named_push, get_push, no_scope}
+use Rattle.core_soundness.proofs.Scopes.{first_fits, named_push, get_push, no_scope}
 use Rattle.core_soundness.proofs.Sitting.{Fine, Runs, runs_refl, runs_trans, ParamsFit, entered_fine}
 use Rattle.core_soundness.proofs.Sorting.{Grew, pieces_grew, CodeFits, passed, kept_test}
 use Rattle.core_soundness.proofs.Statements.{Sane, walked_sane, walked_finished}
 use Rattle.core_soundness.proofs.StatementsRun.{Stands_in, items_run, return_fits}
 use Rattle.core_soundness.proofs.Taking.{Good, body_good}
 use Rattle.core_soundness.proofs.Choices.{either_way, some_same, get_some, some_number}
+use Rattle.core_soundness.specs.Fitting.{TableFits, TablesFit}
 
 -- the functions of a text fit (C99 6.9)
 
@@ -154,7 +155,7 @@ list_suffix answer (Node f.FunctionSuffix (At line ▹ Node f.Params parts ▹ t
     let p = came (params parts (entered c)) q in
     let r = params_run answer parts (entered c) (entered c) (omega (arith, flat)) (runs_refl answer (entered c) (entered_fine c g)) p.value p.is in
     subst (λ (y : Context × Layer). HasList (y.0, y.1 ∷ [])) (ok_same (left_params p.value.0, FunctionOf line p.value.1) z p.last)
-    (record { some = omega arith; params = first_fits (world p.value.0) p.value.0.scopes.inner r.fine.names.inner })
+    (record { some = omega arith; params = first_fits (InnerFits (world p.value.0)) p.value.0.scopes.inner r.fine.names.inner })
 list_suffix answer tree c z i g flat q =
     subst (λ (y : Context × Layer). HasList (y.0, y.1 ∷ [])) (ok_same (record c { params = [] }, FunctionOf (Rattle.c_decls.specs.Expressions.line_of tree) types.none) z q)
     (record { some = omega arith; params = none_fit (InnerFits (world c)) })

@@ -17,7 +17,7 @@ use Rattle.core_tree.specs.LayoutsOfTypes.{IsCompleted, AreCompleted, IsLayoutOf
 use Rattle.c_decls.specs.Named as n
 use Rattle.c_decls.specs.Named.{PlainNamed}
 use Rattle.c_decls.specs.ScopeList.{ScopeList, Table}
-use Rattle.core_soundness.specs.Whole.{IsRow, Whole, AllWhole, MembersWhole, AreMade, NamedWhole, TableWhole, TablesWhole, NamesWhole}
+use Rattle.core_soundness.specs.Whole.{IsRow, Whole, AllWhole, MembersWhole, AreMade, NamedWhole, TableWhole, NamesWhole}
 
 abbrev pub nothing : Known
 nothing = λ tag. None
@@ -56,16 +56,6 @@ named_stays (n.Function type i) j k x h = whole_stays type j k x h
 named_stays (n.Typedef type) j k x h = whole_stays type j k x h
 named_stays (n.Constant type value) j k x h = h
 named_stays other j k x h = tt
-
-pub table_stays : (t : Table) (j k : Known) → Extends j k → TableWhole j t → TableWhole k t
-table_stays t j k x h name v e = named_stays v j k x (h name v e)
-
-pub tables_stay : (ts : List Table) (j k : Known) → Extends j k → TablesWhole j ts → TablesWhole k ts
-tables_stay [] j k x h = tt
-tables_stay (t ∷ ts) j k x h = (table_stays t j k x h.0, tables_stay ts j k x h.1)
-
-pub names_stay : (s : ScopeList) (j k : Known) → Extends j k → NamesWhole j s → NamesWhole k s
-names_stay s j k x h = record { file = table_stays s.file j k x h.file; inner = tables_stay s.inner j k x h.inner }
 
 pub extends_refl : (k : Known) → Extends k k
 extends_refl k tag l e = e

@@ -1,4 +1,5 @@
 pub mod Laws
+pub mod Fitting
 pub mod Whole
 pub mod Solid
 pub mod Ranges

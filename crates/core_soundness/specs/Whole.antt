@@ -9,7 +9,8 @@ use Rattle.core_tree.specs.LayoutsOfTypes.{IsCompleted}
 use Rattle.core_tree.specs.Sound.{IsNumber}
 use Rattle.c_decls.specs.Named as n
 use Rattle.c_decls.specs.Named.{PlainNamed}
-use Rattle.c_decls.specs.ScopeList.{Table, ScopeList, named_in}
+use Rattle.c_decls.specs.ScopeList.{Table, ScopeList}
+use Rattle.core_soundness.specs.Fitting.{TableFits, ScopesFit}
 
 -- so many elements of a type make an object
 abbrev pub IsRow : Known → PlainType → ℕ → Type 0
@@ -50,15 +51,9 @@ NamedWhole k (n.Constant type value) = IsNumber value
 NamedWhole k (n.BuiltIn i) = Unit {0}
 NamedWhole k (n.Tag type) = Unit {0}
 
--- each name of a table, and of tables, is such a one
+-- so has each name of a table, and of scopes
 abbrev pub TableWhole : Known → Table → Type 0
-TableWhole k table = (name : List ℕ) (v : PlainNamed) → named_in name table ≡ Some v → NamedWhole k v
+TableWhole k table = TableFits (NamedWhole k) table
 
-abbrev pub TablesWhole : Known → List Table → Type 0
-TablesWhole k [] = Unit {0}
-TablesWhole k (table ∷ tables) = TableWhole k table × TablesWhole k tables
-
--- so is each name of scopes
-pub record NamesWhole (k : Known) (s : ScopeList) : Type 0 where
-  pub file : TableWhole k s.file
-  pub inner : TablesWhole k s.inner
+abbrev pub NamesWhole : Known → ScopeList → Type 0
+NamesWhole k s = ScopesFit (NamedWhole k) (NamedWhole k) s

@@ -14,6 +14,7 @@ use Rattle.c_decls.specs.Named as n
 use Rattle.c_decls.specs.Named.{PlainNamed}
 use Rattle.c_decls.specs.Callees.{is_format}
 use Rattle.c_decls.specs.ScopeList.{ScopeList, Table, named_in}
+use Rattle.core_soundness.specs.Fitting.{ScopesFit}
 use Rattle.c_decls.specs.Typed.{Operand, Number, PointerTo, Neither, operand, is_scalar}
 use Rattle.elaboration.specs.Context.{Piece, Does, Here, Context, Walked, local_register, integer_temporary, pointer_temporary, file_variable, literal_object}
 use Rattle.elaboration.specs.Conversions.{Found, Spot, Local, Memory, Value, Empty}
@@ -200,17 +201,8 @@ FileFits w (n.Object type i) = i < w.variables
 FileFits w (n.Register type i) = ⊥
 FileFits w other = Unit {0}
 
--- each name of a table is one of these
-abbrev pub TableFits : (PlainNamed → Type 0) → Table → Type 0
-TableFits P table = (name : List ℕ) (v : PlainNamed) → named_in name table ≡ Some v → P v
-
-abbrev pub TablesFit : (PlainNamed → Type 0) → List Table → Type 0
-TablesFit P [] = Unit {0}
-TablesFit P (table ∷ tables) = TableFits P table × TablesFit P tables
-
-pub record NamesFit (w : World) (s : ScopeList) : Type 0 where
-  pub file : TableFits (FileFits w) s.file
-  pub inner : TablesFit (InnerFits w) s.inner
+abbrev pub NamesFit : World → ScopeList → Type 0
+NamesFit w s = ScopesFit (FileFits w) (InnerFits w) s
 
 -- what the statements of a function that was walked may name
 abbrev pub walked_world : Context → Walked → World
