@@ -64,7 +64,7 @@ use Rattle.core_soundness.proofs.SolidFills.{declared_function_rises, variable_r
 use Rattle.core_soundness.proofs.SolidLayers.{has_size, declared_rises, typedef_rises, layers_rise}
 use Rattle.core_soundness.proofs.SolidTexts.{external_rises, begun_rises, first_solid, core_layouts}
 use Rattle.core_soundness.proofs.Sorting.{passed, kept_test}
-use Rattle.core_soundness.proofs.Statements.{Sane, external_sane, first_sane}
+use Rattle.core_soundness.proofs.Statements.{behind_text, Sane, external_sane, first_sane}
 use Rattle.core_soundness.proofs.TagSorts.{SortedType, SortedName, type_longer, init_layers_sorted, MembersSorted, BodySorted, BodiesSorted, Sorts}
 use Rattle.core_soundness.proofs.TypedWhole.{led_cond, typed_good, wanted_good}
 use Rattle.core_soundness.proofs.WholeTypes.{whole_stays, some_stays, some_layout}
@@ -554,16 +554,8 @@ numbered_sorted j (b ∷ bs) name v e =
 first_sorts : Sorts first_context
 first_sorts = record { names = record { file = numbered_sorted 0 built_ins; inner = tt }; list = none_fits (SortedName []); bodies = tt }
 
-calls_fitted : (functions : List Declared) (calls : List (ℕ × ℕ)) (c : Context) → Fitted c → Led Fitted (calls_defined functions calls c)
-calls_fitted functions [] c h = led_ok Fitted h
-calls_fitted functions (call ∷ calls) c h = led_cond Fitted (is_defined (slice_get functions call.0)) (calls_defined functions calls c) (refused Undeclared call.1) (calls_fitted functions calls c h) (led_refused Fitted)
-
 walked_fitted : (unit : Trees) → AreWritten unit → Led Fitted (walked unit)
-walked_fitted unit w =
-    led_after Fitted (externals unit first_context)
-    (λ x s. let r = externals_fitted unit first_context first_sane first_solid first_sorts w first_fitted x s in
-    led_after Fitted (calls_defined x.functions x.calls x)
-    (λ d k. led_unless Fitted (not (is_main d.functions (named_in (codes "main") d.scopes.file))) NoMain 1 (λ y. led_ok Fitted (calls_fitted x.functions x.calls x r d k))))
+walked_fitted unit w c q = externals_fitted unit first_context first_sane first_solid first_sorts w first_fitted c (behind_text unit c q).0
 
 -- the statics of a core
 

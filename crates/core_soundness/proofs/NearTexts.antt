@@ -64,6 +64,7 @@ use Rattle.core_soundness.proofs.Near.{Near, near_refl, near_on, near_most, near
 use Rattle.core_soundness.proofs.Scopes.{Short, AllShort, name_short}
 use Rattle.core_soundness.proofs.Walks.{weight, weights, said, commas_said}
 use Rattle.core_soundness.proofs.Choices.{either_way}
+use Rattle.core_soundness.proofs.Statements.{behind_text}
 
 -- what initializers and declarations make
 
@@ -662,20 +663,8 @@ externals_steady (tree ▹ rest) c h small g z q =
 first_steady : Steady first_context
 first_steady = record { variables = All-nil (λ (v : Variable). IsShort v.name); walked = All-nil Sized }
 
-calls_steady : (functions : List Declared) (calls : List (ℕ × ℕ)) (c : Context) → Steady c → Led Steady (calls_defined functions calls c)
-calls_steady functions [] c h = led_ok Steady h
-calls_steady functions (call ∷ calls) c h =
-    either_way (λ y0. Led Steady (calls_defined functions calls c) → Led Steady y0) (is_defined (slice_get functions call.0))
-    (λ k. k)
-    (λ k. led_refused Steady) (calls_steady functions calls c h)
-
 walked_steady : (unit : Trees) (c : Context) → weights unit ≤ 1610612736 → AllShort unit → walked unit ≡ Ok c → Steady c
-walked_steady unit c small g q =
-    led_after Steady (externals unit first_context)
-    (λ x s. let r = externals_steady unit first_context first_steady small g x s in
-    led_after Steady (calls_defined x.functions x.calls x)
-    (λ d k. led_unless Steady (not (is_main d.functions (named_in (codes "main") d.scopes.file))) NoMain 1 (λ y. led_ok Steady (calls_steady x.functions x.calls x r d k))))
-    c q
+walked_steady unit c small g q = externals_steady unit first_context first_steady small g c (behind_text unit c q).0
 
 -- the core
 

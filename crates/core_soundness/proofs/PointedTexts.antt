@@ -51,7 +51,7 @@ use Rattle.core_soundness.proofs.Growth.{good, ok_same, Reached, Led, led_ok, le
 use Rattle.core_soundness.proofs.Scopes.{Safe, SafeTable, get_left, get_last, get_push, get_below, set_get, Pushed, push_get}
 use Rattle.core_soundness.proofs.Seats.{Has, has_row, byte, PointersBelow, places, Filled, trimmed_length}
 use Rattle.core_soundness.proofs.Sorting.{passed}
-use Rattle.core_soundness.proofs.Statements.{items_walk, Sane, external_sane, first_sane}
+use Rattle.core_soundness.proofs.Statements.{behind_text, items_walk, Sane, external_sane, first_sane}
 use Rattle.core_soundness.proofs.TagSorts.{tag_after}
 use Rattle.core_soundness.proofs.TypedWhole.{led_cond}
 use Rattle.core_soundness.proofs.Choices.{either_way, some_same}
@@ -317,16 +317,8 @@ no_objects k (b ∷ list) name type i e =
 first_pointed : Pointed first_context
 first_pointed = record { there = no_objects 0 built_ins; starts = λ i v s e q. cc }
 
-calls_pointed : (functions : List Declared) (calls : List (ℕ × ℕ)) (c : Context) → Pointed c → Led Pointed (calls_defined functions calls c)
-calls_pointed functions [] c h = led_ok Pointed h
-calls_pointed functions (call ∷ calls) c h = led_cond Pointed (is_defined (slice_get functions call.0)) (calls_defined functions calls c) (refused Undeclared call.1) (calls_pointed functions calls c h) (led_refused Pointed)
-
 pub walked_pointed : (unit : Trees) → Led Pointed (walked unit)
-walked_pointed unit =
-    led_after Pointed (externals unit first_context)
-    (λ x s. let r = externals_pointed unit first_context first_sane first_pointed x s in
-    led_after Pointed (calls_defined x.functions x.calls x)
-    (λ d k. led_unless Pointed (not (is_main d.functions (named_in (codes "main") d.scopes.file))) NoMain 1 (λ y. led_ok Pointed (calls_pointed x.functions x.calls x r d k))))
+walked_pointed unit c q = externals_pointed unit first_context first_sane first_pointed c (behind_text unit c q).0
 
 -- statics of the core
 

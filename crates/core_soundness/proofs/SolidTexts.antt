@@ -66,6 +66,7 @@ use Rattle.core_soundness.proofs.Walks.{grows_tested, grows_convert_integer}
 use Rattle.core_soundness.proofs.WholeTypes.{whole_stays, extends_refl, is_layout}
 use Rattle.core_soundness.proofs.Choices.{either_way}
 use Rattle.core_soundness.proofs.Scopes.{none_fits, entered_fit, left_fit}
+use Rattle.core_soundness.proofs.Statements.{behind_text}
 
 -- statements, functions and texts keep whole types (C99 6.8, 6.9)
 
@@ -438,17 +439,8 @@ first_solid = record { made = tt; names = record { file = numbered_whole (K firs
 abbrev Ends : Context → Type 0
 Ends c = Solid c × WalkedIn c.walked
 
-calls_same : (functions : List Declared) (calls : List (ℕ × ℕ)) (c : Context) → Ends c → Led Ends (calls_defined functions calls c)
-calls_same functions [] c h = led_ok Ends h
-calls_same functions (call ∷ calls) c h = either_way (λ y0. Led Ends (calls_defined functions calls c) → Led Ends y0) (is_defined (slice_get functions call.0)) (λ k. k) (λ k. led_refused Ends) (calls_same functions calls c h)
-
 walked_ends : (unit : Trees) (c : Context) → AreWritten unit → walked unit ≡ Ok c → Ends c
-walked_ends unit c w q =
-    led_after Ends (externals unit first_context)
-    (λ x s. let r = externals_rise unit first_context first_solid w x s in
-    led_after Ends (calls_defined x.functions x.calls x)
-    (λ d k. led_unless Ends (not (is_main d.functions (named_in (codes "main") d.scopes.file))) NoMain 1 (λ y. led_ok Ends (calls_same x.functions x.calls x (r.solid, r.walked tt) d k))))
-    c q
+walked_ends unit c w q = let r = externals_rise unit first_context first_solid w c (behind_text unit c q).0 in (r.solid, r.walked tt)
 
 pub walked_solid : (unit : Trees) (c : Context) → AreWritten unit → walked unit ≡ Ok c → Solid c
 walked_solid unit c w q = (walked_ends unit c w q).0

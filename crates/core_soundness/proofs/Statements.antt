@@ -28,9 +28,11 @@ use Rattle.elaboration.specs.Externals.{begun, define, params_of, is_defined, bo
 use Rattle.elaboration.specs.Statements.{Around, below, in_loop, in_switch, in_delay, leave_to, evaluated, maybe_evaluated, leaves_if_zero, maybe_leaves, apart, has_case, with_case, cased, defaulted, dispatch, default_or, switch_operand, no_cases, switched, looped, for_start, statement, items, around_body}
 use Rattle.core_soundness.proofs.Declaring.{passes_refl, constant_passes, tail_depth, declaration_declares, specs_passes, layers_pass, introduced}
 use Rattle.core_soundness.proofs.Flows.{Marks, Way, way_on, IsWay, Stands, Leads, AreEarlier, earlier_less, Fragment, anywhere, in_scope, jump_leaves, with_ways, stm_at, Targets, Placed, Flows, targets_append, targets_map, placed_left, flows_append}
-use Rattle.core_soundness.proofs.Growth.{Led, led_ok, led_refused, led_after, led_unless, Stays, Passes, stays_trans, stays_beside, Counted, passes_trans}
+use Rattle.core_soundness.proofs.Growth.{Led, led_ok, led_refused, led_after, led_unless, Stays, Passes, stays_trans, stays_beside, Counted, passes_trans, ok_same, good, never}
 use Rattle.core_soundness.proofs.Parts.{Part, part_trans, part_ways, part_closed, ways_more, one_way, looped_code, ways_of, ways, IsOutside, Fits, fits_more, fits_below, fits_delay, fits_loop, fits_switch, IsCase, HasLabel, Among, same_labels, Walks, walks_trans, passes_part, part_anywhere, walks_passes, walks_scoped, part_below, below_labels, evaluated_passes, maybe_evaluated_passes, Tests, leaves_tests, maybe_tests, out_walks, return_from_walks, switch_operand_passes, case_among, loop_rest, for_fragment, do_fragment, label_fragment, dispatch_fragment}
 use Rattle.core_soundness.proofs.Scopes.{Safe, left_safe, entered_safe, tied_refl, tied_trans, SafeTable, Named, Strict, defined_named, defined_here, pushed_named, pushed_strict}
+use Rattle.core_soundness.proofs.Agreeing.{came}
+use Rattle.core_soundness.proofs.Sorting.{passed, kept_test}
 use Rattle.core_soundness.proofs.Choices.{either_way, some_same}
 
 -- what statements do to what is known
@@ -673,13 +675,13 @@ externals_sane (tree ▹ rest) c s = led_after Sane (external tree c) (λ d h. e
 
 -- the end of a text
 
-called : (k : Bool) (rest : Checked Context) (line : ℕ) → Led Sane rest → Led Sane (cond k rest (refused Undeclared line))
-called true rest line h = h
-called false rest line h = led_refused Sane
-
-calls_sane : (functions : List Declared) (calls : List (ℕ × ℕ)) (c : Context) → Sane c → Led Sane (calls_defined functions calls c)
-calls_sane functions [] c s = led_ok Sane s
-calls_sane functions (call ∷ calls) c s = called (is_defined (slice_get functions call.0)) (calls_defined functions calls c) call.1 (calls_sane functions calls c s)
+-- it changes nothing
+calls_same : (functions : List Declared) (calls : List (ℕ × ℕ)) (c d : Context) → calls_defined functions calls c ≡ Ok d → c ≡ d
+calls_same functions [] c d h = ok_same c d h
+calls_same functions (call ∷ calls) c d h =
+    either_way (λ x. (calls_defined functions calls c ≡ Ok d → c ≡ d) → x ≡ good d → c ≡ d) (is_defined (slice_get functions call.0))
+    (λ again q. again q)
+    (λ again q. never _ _ d q) (λ q. calls_same functions calls c d q) h
 
 -- a whole text, which has a function named `main`
 pub record Finished (c : Context) : Type 0 where
@@ -690,11 +692,14 @@ not_false : (t : Bool) → not t ≡ false → t ≡ true
 not_false true e = refl
 not_false false e = absurd (true≢false e)
 
-ended_text : (c : Context) → Sane c → Led Finished (ended c)
-ended_text c s =
-    led_after Finished (calls_defined c.functions c.calls c)
-    (λ d h. led_unless Finished (not (is_main d.functions (named_in (codes "main") d.scopes.file))) NoMain 1
-    (λ e. led_ok Finished (record { sane = calls_sane c.functions c.calls c s d h; main = not_false (is_main d.functions (named_in (codes "main") d.scopes.file)) e })))
+pub behind_text : (unit : Trees) (c : Context) → walked unit ≡ Ok c → (externals unit first_context ≡ Ok c) × (is_main c.functions (named_in (codes "main") c.scopes.file) ≡ true)
+behind_text unit c q =
+    let x = came (externals unit first_context) q in
+    let d = came (calls_defined x.value.functions x.value.calls x.value) x.last in
+    let last = passed (not (is_main d.value.functions (named_in (codes "main") d.value.scopes.file))) NoMain 1 d.value c d.last in
+    (subst (λ (y : Context). externals unit first_context ≡ Ok y) (calls_same x.value.functions x.value.calls x.value d.value d.is ∙ last) x.is,
+    subst (λ (y : Context). is_main y.functions (named_in (codes "main") y.scopes.file) ≡ true) last
+    (not_false (is_main d.value.functions (named_in (codes "main") d.value.scopes.file)) (kept_test (not (is_main d.value.functions (named_in (codes "main") d.value.scopes.file))) NoMain 1 (good d.value) c d.last)))
 
 first_safe_file : SafeTable first_scopes.file
 first_safe_file x = refl
@@ -736,7 +741,7 @@ first_sane = record {
     nothing_walked k w e = cc
 
 pub walked_finished : (unit : Trees) → Led Finished (walked unit)
-walked_finished unit = led_after Finished (externals unit first_context) (λ c h. ended_text c (externals_sane unit first_context first_sane c h))
+walked_finished unit c h = let b = behind_text unit c h in record { sane = externals_sane unit first_context first_sane c b.0; main = b.1 }
 
 pub walked_sane : (unit : Trees) → Led Sane (walked unit)
 walked_sane unit c h = (walked_finished unit c h).sane

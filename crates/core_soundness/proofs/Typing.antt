@@ -61,7 +61,7 @@ use Rattle.core_soundness.proofs.Resolved.{result_resolves, all_resolve, stateme
 use Rattle.core_soundness.proofs.Scopes.{first_fits, named_push, get_push, no_scope}
 use Rattle.core_soundness.proofs.Sitting.{Fine, Runs, runs_refl, runs_trans, ParamsFit, entered_fine}
 use Rattle.core_soundness.proofs.Sorting.{Grew, pieces_grew, CodeFits, passed, kept_test}
-use Rattle.core_soundness.proofs.Statements.{Sane, walked_sane, walked_finished}
+use Rattle.core_soundness.proofs.Statements.{behind_text, Sane, walked_sane, walked_finished}
 use Rattle.core_soundness.proofs.StatementsRun.{Stands_in, items_run, return_fits}
 use Rattle.core_soundness.proofs.Taking.{Good, body_good}
 use Rattle.core_soundness.proofs.Choices.{either_way, some_same, get_some, some_number}
@@ -370,13 +370,6 @@ defined_calls functions (call ∷ calls) c d k f line h e = by (is_defined (slic
     by true q again (suc k) h e = again k h e
     by false q again k h e = never _ _ d h
 
-calls_same : (functions : List Declared) (calls : List (ℕ × ℕ)) (c d : Context) → calls_defined functions calls c ≡ Ok d → c ≡ d
-calls_same functions [] c d h = ok_same c d h
-calls_same functions (call ∷ calls) c d h =
-    either_way (λ x. (calls_defined functions calls c ≡ Ok d → c ≡ d) → x ≡ good d → c ≡ d) (is_defined (slice_get functions call.0))
-    (λ again q. again q)
-    (λ again q. never _ _ d q) (λ q. calls_same functions calls c d q) h
-
 -- what is known behind a text
 pub record Ended (c : Context) : Type 0 where
   pub between : Between c
@@ -387,9 +380,10 @@ pub text_ended : (unit : Trees) (c : Context) → AreWritten unit → AreFormed 
 text_ended unit c p i own h =
     let x = came (externals unit first_context) h in
     let d = came (calls_defined x.value.functions x.value.calls x.value) x.last in
-    let same : x.value ≡ c = calls_same x.value.functions x.value.calls x.value d.value d.is ∙ passed (not (is_main d.value.functions (named_in (codes "main") d.value.scopes.file))) NoMain 1 d.value c d.last in
+    let b = (behind_text unit c h).0 in
+    let same = ok_same x.value c (sym x.is ∙ b) in
     record {
-      between = subst Between same (externals_between unit first_context x.value p i own first_between x.is);
+      between = externals_between unit first_context c p i own first_between b;
       sane = walked_sane unit c h;
       called = λ k f line. subst (λ (y : Context). slice_get y.calls k ≡ Some (f, line) → is_defined (slice_get y.functions f) ≡ true) same (λ e. defined_calls x.value.functions x.value.calls x.value d.value k f line d.is e);
     }
