@@ -443,9 +443,6 @@ refused_first R line x next d h = never (R d) _ d h
 again_tied : (fs : List Declared) (file : Table) (ws : List Walked) (name : List ℕ) (type : PlainType) (j : ℕ) → named_in name file ≡ Some (n.Function type j) → length fs ≤ j
     → Tied fs file ws (fs ++ (record { name = name; defined = None }) ∷ []) file ws
 again_tied fs file ws name type j e far = search (arith, get_left, get_below, get_push)
-  where
-    never_defined : (d : Declared) (k : ℕ) → d ≡ record { name = name; defined = None } → d.defined ≡ Some k → k < length ws
-    never_defined d k q p = let clash : None ≡ Some k = sym (ap (λ (x : Declared). x.defined) q) ∙ p in cc
 
 module _ (line : ℕ) (name : List ℕ) (type : PlainType) (c : Context) (file : Table) (s : Safe (record { file = file; inner = [] })) where
   abbrev flat : Context

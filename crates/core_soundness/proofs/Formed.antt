@@ -2,6 +2,7 @@
 use Rattle.std.proofs.Common.{◌≡◌, Bool, true, false, IsSome, ◌⊎◌, replicate, ◌≤◌, ℕ, zero, suc, List, [], ◌∷◌, ◌++◌, All, Option, Some, None, refl, sym, ap, ◌∙◌, subst, inl, inr, arith, ◌+◌, ◌==◌, ◌||◌, ◌&&◌, nat_le, not, if◌then◌else◌}
 use Rattle.std.proofs.lemmas.Bool.{eqb-true, and_parts}
 use Rattle.std.proofs.lemmas.List.Elements.{All-tail}
+use Rattle.std.proofs.lemmas.Bool.{false≢true}
 use Rattle.c_lexer.proofs.Constants.{constant_read}
 use Rattle.c_lexer.specs.Pieces.{IsToken}
 use Rattle.c_lexer.specs.Tokens.{IsLexed}
@@ -137,26 +138,46 @@ has_parts f.MemberNames (tree ▹ rest) scope a = a.0.1
 has_parts f.Inits none scope a = a
 has_parts form parts scope a = tt
 
--- parameter lists
+-- where no word stands, and where no node does
 
-pub no_line : (form : Form) → form_home form ≡ p.Line → ⊥
+abbrev takes_word : Place → Bool
+takes_word p.Line = false
+takes_word p.Suffixes = false
+takes_word p.Suffix = false
+takes_word p.MaybeLength = false
+takes_word p.Params = false
+takes_word p.MaybeInit = false
+takes_word p.Entry = false
+takes_word place = true
+
+word_taken : (word : Word) → takes_word (home (Leaf word)) ≡ true
+unfolding keyword_home
+word_taken (w.Key k.Void) = refl
+word_taken word = refl
+
+no_word : (word : Word) (place : Place) → takes_word place ≡ false → home (Leaf word) ≡ place → ⊥
+no_word word place e h = false≢true (sym e ∙ ap takes_word (sym h) ∙ word_taken word)
+
+abbrev takes_node : Place → Bool
+takes_node p.Line = false
+takes_node p.Str = false
+takes_node p.Name = false
+takes_node place = true
+
+node_taken : (form : Form) → takes_node (form_home form) ≡ true
 unfolding form_home
-no_line f.Unit e = cc
-no_line form e = cc
+node_taken f.Unit = refl
+node_taken form = refl
+
+no_node : (form : Form) (place : Place) → takes_node place ≡ false → form_home form ≡ place → ⊥
+no_node form place e h = false≢true (sym e ∙ ap takes_node (sym h) ∙ node_taken form)
+
+-- parameter lists
 
 suffixes_alone : (form : Form) → form_home form ≡ p.Suffixes → form ≡ f.Suffixes
 unfolding form_home
 suffixes_alone f.Suffixes e = refl
 suffixes_alone form e = cc
-
-key_no_suffixes : (keyword : Keyword) → keyword_home keyword ≡ p.Suffixes → ⊥
-unfolding keyword_home
-key_no_suffixes k.Void e = cc
-key_no_suffixes keyword e = cc
-
-word_no_suffixes : (word : Word) → home (Leaf word) ≡ p.Suffixes → ⊥
-word_no_suffixes (w.Key keyword) e = key_no_suffixes keyword e
-word_no_suffixes word e = cc
 
 no_list : {G : Type 0} → false ≡ true → G
 no_list e = cc
@@ -177,21 +198,12 @@ declarator_named place h e = subst IsDeclarator e h
 base_named : (place : Place) → IsBase place → place ≡ p.Declared → ⊥
 base_named place h e = subst IsBase e h
 
-key_no_line : (keyword : Keyword) → keyword_home keyword ≡ p.Line → ⊥
-unfolding keyword_home
-key_no_line k.Void e = cc
-key_no_line keyword e = cc
-
-pub word_no_line : (word : Word) → home (Leaf word) ≡ p.Line → ⊥
-word_no_line (w.Key keyword) e = key_no_line keyword e
-word_no_line word e = cc
-
 -- a line with one part behind it
 pub line_parts : (parts : Trees) (place : Place) (scope : Scope) → AllAllowed parts (p.Line ∷ place ∷ []) scope → (line : ℕ) × (tree : Tree) × (parts ≡ (At line ▹ tree ▹ none))
 unfolding AllAllowed Takes
 line_parts none place scope a = absurd a
-line_parts (Leaf word ▹ rest) place scope a = absurd (word_no_line word a.0)
-line_parts (Node form parts ▹ rest) place scope a = absurd (no_line form a.0)
+line_parts (Leaf word ▹ rest) place scope a = absurd (no_word word p.Line refl a.0)
+line_parts (Node form parts ▹ rest) place scope a = absurd (no_node form p.Line refl a.0)
 line_parts (At line ▹ none) place scope a = absurd a.2
 line_parts (At line ▹ tree ▹ (more ▹ rest)) place scope a = absurd a.2.2
 line_parts (At line ▹ tree ▹ none) place scope a = (line, tree, refl)
@@ -201,7 +213,7 @@ pub base_parts : (parts : Trees) (scope : Scope) → AllAllowed parts (p.Base �
 unfolding AllAllowed Takes
 base_parts none scope a = absurd a
 base_parts (base ▹ none) scope a = absurd a.2
-base_parts (base ▹ Leaf word ▹ rest) scope a = absurd (word_no_suffixes word a.2.0)
+base_parts (base ▹ Leaf word ▹ rest) scope a = absurd (no_word word p.Suffixes refl a.2.0)
 base_parts (base ▹ At line ▹ rest) scope a = let e : p.Line ≡ p.Suffixes = a.2.0 in cc
 base_parts (base ▹ Node form parts ▹ (more ▹ rest)) scope a = absurd a.2.2
 base_parts (base ▹ Node form parts ▹ none) scope a = (base, parts, ap (λ (x : Form). base ▹ Node x parts ▹ none) (suffixes_alone form a.2.0))
@@ -269,22 +281,12 @@ external_defined tree scope h = tt
 
 -- words
 
-no_str : (form : Form) → form_home form ≡ p.Str → ⊥
-unfolding form_home
-no_str f.Unit e = cc
-no_str form e = cc
-
-no_name : (form : Form) → form_home form ≡ p.Name → ⊥
-unfolding form_home
-no_name f.Unit e = cc
-no_name form e = cc
-
 strings_alone : (parts : Trees) (scope : Scope) → AllAllowed parts (places (rows p.Str (count parts))) scope → NoNodes parts
 unfolding AllAllowed Takes
 strings_alone none scope a = tt
 strings_alone (Leaf word ▹ rest) scope a = strings_alone rest _ a.2
 strings_alone (At line ▹ rest) scope a = strings_alone rest _ a.2
-strings_alone (Node form parts ▹ rest) scope a = absurd (no_str form a.0)
+strings_alone (Node form parts ▹ rest) scope a = absurd (no_node form p.Str refl a.0)
 
 strings_formed : (parts : Trees) (scope : Scope) → AllAllowed parts (places (some p.Str (count parts))) scope → NoNodes parts
 unfolding AllAllowed
@@ -295,14 +297,14 @@ line_alone : (parts : Trees) (scope : Scope) → AllAllowed parts (p.Line ∷ []
 unfolding AllAllowed Takes
 line_alone (Leaf word ▹ more ▹ rest) scope a = absurd a.2
 line_alone (At line ▹ more ▹ rest) scope a = absurd a.2
-line_alone (Node form parts ▹ rest) scope a = absurd (no_line form a.0)
+line_alone (Node form parts ▹ rest) scope a = absurd (no_node form p.Line refl a.0)
 line_alone other scope a = tt
 
 name_alone : (parts : Trees) (scope : Scope) → AllAllowed parts (p.Name ∷ []) scope → NoNodes parts
 unfolding AllAllowed Takes
 name_alone (Leaf word ▹ more ▹ rest) scope a = absurd a.2
 name_alone (At line ▹ more ▹ rest) scope a = absurd a.2
-name_alone (Node form parts ▹ rest) scope a = absurd (no_name form a.0)
+name_alone (Node form parts ▹ rest) scope a = absurd (no_node form p.Name refl a.0)
 name_alone other scope a = tt
 
 at_most : (parts : Trees) (place : Place) (scope : Scope) → AllAllowed parts (place ∷ []) scope → AtMostOne parts
@@ -401,21 +403,6 @@ members_formed (tree ▹ rest) scope a = (layer_formed tree scope (declarator_la
 
 -- suffixes
 
-word_no_length : (word : Word) → home (Leaf word) ≡ p.MaybeLength → ⊥
-unfolding keyword_home
-word_no_length (w.Key k.Void) e = cc
-word_no_length word e = cc
-
-word_no_params : (word : Word) → home (Leaf word) ≡ p.Params → ⊥
-unfolding keyword_home
-word_no_params (w.Key k.Void) e = cc
-word_no_params word e = cc
-
-word_no_suffix : (word : Word) → home (Leaf word) ≡ p.Suffix → ⊥
-unfolding keyword_home
-word_no_suffix (w.Key k.Void) e = cc
-word_no_suffix word e = cc
-
 length_form : (form : Form) → form_home form ≡ p.MaybeLength → form ≡ f.MaybeLength
 unfolding form_home
 length_form f.MaybeLength e = refl
@@ -428,14 +415,14 @@ params_form form e = cc
 
 length_formed : (tree : Tree) (scope : Scope) → home tree ≡ p.MaybeLength → Allowed tree scope → (parts : Trees) × (tree ≡ Node f.MaybeLength parts) × AtMostOne parts
 unfolding Allowed AllAllowed shape
-length_formed (Leaf word) scope h a = absurd (word_no_length word h)
+length_formed (Leaf word) scope h a = absurd (no_word word p.MaybeLength refl h)
 length_formed (At line) scope h a = let e : p.Line ≡ p.MaybeLength = h in cc
 length_formed (Node f.MaybeLength none) scope h a = (none, refl, tt)
 length_formed (Node f.MaybeLength (e ▹ rest)) scope h a = (e ▹ rest, refl, at_most (e ▹ rest) (Expression cond_level) scope a.1)
 length_formed (Node form parts) scope h a = let e : form ≡ f.MaybeLength = length_form form h in cc
 
 params_formed : (tree : Tree) → home tree ≡ p.Params → (parts : Trees) × (tree ≡ Node f.Params parts)
-params_formed (Leaf word) h = absurd (word_no_params word h)
+params_formed (Leaf word) h = absurd (no_word word p.Params refl h)
 params_formed (At line) h = let e : p.Line ≡ p.Params = h in cc
 params_formed (Node form parts) h = (parts, ap (λ (x : Form). Node x parts) (params_form form h))
 
@@ -445,7 +432,7 @@ array_formed line other h = tt
 
 suffix_formed : (tree : Tree) (scope : Scope) → home tree ≡ p.Suffix → Allowed tree scope → IsSuffix tree
 unfolding Allowed AllAllowed Takes shape form_home
-suffix_formed (Leaf word) scope h a = absurd (word_no_suffix word h)
+suffix_formed (Leaf word) scope h a = absurd (no_word word p.Suffix refl h)
 suffix_formed (At line) scope h a = let e : p.Line ≡ p.Suffix = h in cc
 suffix_formed (Node f.ArraySuffix parts) scope h a =
     let r = line_parts parts p.MaybeLength scope a.1 in
@@ -483,21 +470,11 @@ unfolding form_home
 init_form f.MaybeInit e = refl
 init_form form e = cc
 
-word_no_init : (word : Word) → home (Leaf word) ≡ p.MaybeInit → ⊥
-unfolding keyword_home
-word_no_init (w.Key k.Void) e = cc
-word_no_init word e = cc
-
-word_no_entry : (word : Word) → home (Leaf word) ≡ p.Entry → ⊥
-unfolding keyword_home
-word_no_entry (w.Key k.Void) e = cc
-word_no_entry word e = cc
-
 entry_parts : (parts : Trees) (scope : Scope) → AllAllowed parts (p.Declared ∷ p.MaybeInit ∷ []) scope → (declared : Tree) × (inits : Trees) × (parts ≡ (declared ▹ Node f.MaybeInit inits ▹ none))
 unfolding AllAllowed Takes
 entry_parts none scope a = absurd a
 entry_parts (declared ▹ none) scope a = absurd a.2
-entry_parts (declared ▹ Leaf word ▹ rest) scope a = absurd (word_no_init word a.2.0)
+entry_parts (declared ▹ Leaf word ▹ rest) scope a = absurd (no_word word p.MaybeInit refl a.2.0)
 entry_parts (declared ▹ At line ▹ rest) scope a = let e : p.Line ≡ p.MaybeInit = a.2.0 in cc
 entry_parts (declared ▹ Node form parts ▹ (more ▹ rest)) scope a = absurd a.2.2
 entry_parts (declared ▹ Node form parts ▹ none) scope a = (declared, parts, ap (λ (x : Form). declared ▹ Node x parts ▹ none) (init_form form a.2.0))
@@ -509,7 +486,7 @@ no_init (init ▹ rest) false h e = cc
 
 entry_alone : (tree : Tree) (rest : Trees) (scope : Scope) → home tree ≡ p.Entry → Allowed tree scope → scope.typedef ≡ true → NoInits rest → NoInits (tree ▹ rest)
 unfolding Allowed AllAllowed Takes shape form_home is_scope obeys
-entry_alone (Leaf word) rest scope h a e n = absurd (word_no_entry word h)
+entry_alone (Leaf word) rest scope h a e n = absurd (no_word word p.Entry refl h)
 entry_alone (At line) rest scope h a e n = let x : p.Line ≡ p.Entry = h in cc
 entry_alone (Node f.Entry parts) rest scope h a e n =
     let r = entry_parts parts scope a.1 in

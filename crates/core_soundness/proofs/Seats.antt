@@ -73,15 +73,9 @@ pub record Seat (room : ℕ) (slots : List ℕ) (at : ℕ) (l : Layout) : Type 0
 
 pub seat_whole : (l : Layout) → Seat l.size l.slots 0 l
 seat_whole l = search arith
-  where
-    zero_first : (s : ℕ) → s ≡ 0 + s
-    zero_first s = omega arith
 
 pub seat_within : (room : ℕ) (slots : List ℕ) (at offset : ℕ) (l m : Layout) → Seat room slots at l → Seat l.size l.slots offset m → Seat room slots (at + offset) m
 seat_within room slots at offset l m x y = search arith
-  where
-    outer : (s : ℕ) → at + (offset + s) ≡ at + offset + s
-    outer s = omega arith
 
 -- elements of arrays
 
