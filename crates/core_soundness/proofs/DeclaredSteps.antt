@@ -51,7 +51,7 @@ use Rattle.core_soundness.proofs.Walks.{constant_keeps, with_type_keeps, begun_k
 use Rattle.core_soundness.proofs.Parameters.{functions, functions_joined, functions_one, functions_reversed, counts, declared_counts, suffixes_counts}
 use Rattle.core_soundness.proofs.Scopes.{More, more_refl, with_tag_more, file_register}
 use Rattle.core_soundness.proofs.Sorting.{passed, kept_test}
-use Rattle.core_soundness.proofs.Steps.{with_one, IsNew, plain_stepped, param_stepped, no_nodes_each, specs_taken, pointer_taken, direct_taken, parens_taken, array_taken, open_array_taken, function_taken, member_taken, enumerator_taken, valued_enumerator_taken, record_taken, enum_taken, specs_unnamed, param_taken, not_twice, local_stepped, commas_each, local_went, inits_spoken}
+use Rattle.core_soundness.proofs.Steps.{with_one, IsNew, plain_stepped, param_stepped, no_nodes_each, specs_taken, pointer_taken, direct_taken, specs_unnamed, param_taken, not_twice, local_stepped, commas_each, local_went, inits_spoken, member_names_taken, members_taken, enumerators_taken, params_taken_each}
 use Rattle.core_soundness.proofs.TagSorts.{typed_after, wanted_after, special_after, tag_after}
 use Rattle.core_soundness.proofs.Taking.{among, HasScope, Keeps, Follows, Stepped, each, SameNames, Calm, still_names, all_still_names, left_names, no_nodes_still, Has, Inside, taken_adds, InStep, scope_more, as_before, Numbered, file_none}
 use Rattle.core_soundness.proofs.Choices.{either_way, some_same}
@@ -126,7 +126,7 @@ param_stepped_in line name type t c z deep h q =
     subst (λ (y : Context × PlainType). Stepped t c (walk.with_local name t) y.0) (passed (is_declared name c) DeclaredTwice line (with_param name type c, type) z b) (param_stepped name type t c deep fresh h)
 
 mutual
-  unfolding specs words_type tag_type members member_names enumerators layers suffix_layers suffix_layer params Formed AllFormed Shaped each taken all_taken left
+  unfolding specs words_type tag_type members member_names enumerators layers suffix_layers suffix_layer params Formed AllFormed Shaped each taken all_taken left shape is_scope name_among name_of
 
   pub specs_stepped : (tree : Tree) (t : Taken) (c : Context) (z : Context × PlainType) → Formed tree → Follows t c → specs tree c ≡ Ok z → Stepped t c (taken tree t) z.0
   specs_stepped (Node f.Specs (At line ▹ words)) t c z g h q =
@@ -148,7 +148,7 @@ mutual
       let a = named_stepped name t c start.0 g.1.1.0.0 (begun_keeps Keeps keeps_tags sort (maybe_name name) c) h in
       let b = members_stepped parts [] t1 start.0 m.value g.1.1.1.0.1 a.follows m.is in
       let e = kept_stepped (each parts t1) m.value.0 z.0 (ended_keeps Keeps keeps_tags at sort start.1 m.value.0 m.value.1 z m.last) b.follows in
-      stepped_names t (each parts t1) (taken (Node (f.RecordBody sort) (At at ▹ Node f.MaybeName name ▹ Node f.Members parts ▹ none)) t) c z.0 (record_taken t sort at name parts)
+      stepped_names t (each parts t1) (taken (Node (f.RecordBody sort) (At at ▹ Node f.MaybeName name ▹ Node f.Members parts ▹ none)) t) c z.0 (members_taken parts t1)
       (stepped_trans t t1 (each parts t1) c start.0 z.0 a (stepped_trans t1 (each parts t1) (each parts t1) start.0 m.value.0 z.0 b e))
   tag_stepped (Node (f.EnumBody trailing) (At at ▹ Node f.MaybeName name ▹ Node f.Enumerators parts ▹ none)) line t c z g h q =
       let e = came (enumerators parts (pos 0) c) q in
@@ -156,7 +156,7 @@ mutual
       let a = named_stepped name t c c g.1.1.0.0 (keeps_refl c) h in
       let b = enumerators_stepped parts (pos 0) t1 c e.value g.1.1.1.0.1 a.follows e.is in
       let k = kept_stepped (each parts t1) e.value z.0 (enum_named_keeps Keeps keeps_tags at (maybe_name name) e.value z e.last) b.follows in
-      stepped_names t (each parts t1) (taken (Node (f.EnumBody trailing) (At at ▹ Node f.MaybeName name ▹ Node f.Enumerators parts ▹ none)) t) c z.0 (enum_taken t trailing at name parts)
+      stepped_names t (each parts t1) (taken (Node (f.EnumBody trailing) (At at ▹ Node f.MaybeName name ▹ Node f.Enumerators parts ▹ none)) t) c z.0 (enumerators_taken parts t1)
       (stepped_trans t t1 (each parts t1) c c z.0 a (stepped_trans t1 (each parts t1) (each parts t1) c e.value z.0 b k))
   tag_stepped tree line t c z g h q = special_stepped line tree t c z h q
 
@@ -170,7 +170,7 @@ mutual
       let t3 = taken (Node f.Member (At line ▹ words ▹ Node f.MemberNames declarators ▹ none)) t in
       let a = specs_stepped words t c base.value g.0.1.1.0 h base.is in
       let b = member_names_stepped declarators line base.value.1 list t1 base.value.0 m.value g.0.1.1.1.0.0 g.0.1.1.1.0.1 a.follows m.is in
-      let one = stepped_names t t2 t3 c m.value.0 (member_taken t line words declarators) (stepped_trans t t1 t2 c base.value.0 m.value.0 a b) in
+      let one = stepped_names t t2 t3 c m.value.0 (member_names_taken declarators t1) (stepped_trans t t1 t2 c base.value.0 m.value.0 a b) in
       stepped_trans t t3 (each rest t3) c m.value.0 z.0 one (members_stepped rest m.value.1 t3 m.value.0 z g.1 one.follows m.last)
   members_stepped (tree ▹ rest) list t c z g h q = never _ _ z q
 
@@ -190,7 +190,7 @@ mutual
   enumerators_stepped (Node f.Enumerator (At line ▹ Leaf (w.Name name) ▹ Node f.MaybeValue none ▹ none) ▹ rest) next t c z g h q =
       let e = came (enumerator line name next c) q in
       let t1 = taken (Node f.Enumerator (At line ▹ Leaf (w.Name name) ▹ Node f.MaybeValue none ▹ none)) t in
-      let one = stepped_names t (with_one name None t) t1 c e.value.0 (enumerator_taken t line name) (enumerator_stepped line name next t c e.value h e.is) in
+      let one = stepped_names t (with_one name None t) t1 c e.value.0 (refl, refl) (enumerator_stepped line name next t c e.value h e.is) in
       stepped_trans t t1 (each rest t1) c e.value.0 z one (enumerators_stepped rest e.value.1 t1 e.value.0 z g.1 one.follows e.last)
   enumerators_stepped (Node f.Enumerator (At line ▹ Leaf (w.Name name) ▹ Node f.MaybeValue (v ▹ none) ▹ none) ▹ rest) next t c z g h q =
       let k = came (constant v c) q in
@@ -199,7 +199,7 @@ mutual
       let t2 = taken (Node f.Enumerator (At line ▹ Leaf (w.Name name) ▹ Node f.MaybeValue (v ▹ none) ▹ none)) t in
       let a = calm_stepped v t c k.value.0 (constant_calm v c k.value g.0.1.1.1.0.1.0 k.is) (constant_keeps Keeps keeps_tags v c k.value k.is) h in
       let b = enumerator_stepped line name k.value.1.value t1 k.value.0 e.value a.follows e.is in
-      let one = stepped_names t (with_one name None t1) t2 c e.value.0 (valued_enumerator_taken t line name v) (stepped_trans t t1 (with_one name None t1) c k.value.0 e.value.0 a b) in
+      let one = stepped_names t (with_one name None t1) t2 c e.value.0 (refl, refl) (stepped_trans t t1 (with_one name None t1) c k.value.0 e.value.0 a b) in
       stepped_trans t t2 (each rest t2) c e.value.0 z one (enumerators_stepped rest e.value.1 t2 e.value.0 z g.1 one.follows e.last)
   enumerators_stepped (tree ▹ rest) next t c z g h q = never _ _ z q
 
@@ -218,7 +218,7 @@ mutual
       subst (λ (y : Context × List Layer). Stepped t c (taken (Node f.Direct (base ▹ Node f.Suffixes suffixes ▹ none)) t) y.0) (ok_same (s.value.0, reverse s.value.1 ++ l.value.1) z s.last)
       (stepped_names t (each suffixes t1) (taken (Node f.Direct (base ▹ Node f.Suffixes suffixes ▹ none)) t) c s.value.0 (direct_taken t base suffixes) (stepped_trans t t1 (each suffixes t1) c l.value.0 s.value.0 a b))
   layers_stepped (Node f.Parens (At line ▹ declarator ▹ none)) t c z g o h q =
-      stepped_names t (taken declarator t) (taken (Node f.Parens (At line ▹ declarator ▹ none)) t) c z.0 (parens_taken t line declarator) (layers_stepped declarator t c z g.1.1.0 g.0 h q)
+      stepped_names t (taken declarator t) (taken (Node f.Parens (At line ▹ declarator ▹ none)) t) c z.0 (refl, refl) (layers_stepped declarator t c z g.1.1.0 g.0 h q)
   layers_stepped (Node f.Nothing none) t c z g o h q =
       subst (λ (y : Context × List Layer). Stepped t c (taken (Node f.Nothing none) t) y.0) (ok_same (c, []) z q) (stepped_names t t (taken (Node f.Nothing none) t) c c (refl, refl) (stepped_refl t c h))
   layers_stepped (Node _ parts) t c z g o h q = absurd o
@@ -237,20 +237,20 @@ mutual
   suffix_stepped : (tree : Tree) (t : Taken) (c : Context) (z : Context × Layer) → IsSuffix tree → Formed tree → Follows t c → suffix_layer tree c ≡ Ok z → Stepped t c (taken tree t) z.0
   suffix_stepped (Node f.ArraySuffix (At line ▹ Node f.MaybeLength none ▹ none)) t c z o g h q =
       subst (λ (y : Context × Layer). Stepped t c (taken (Node f.ArraySuffix (At line ▹ Node f.MaybeLength none ▹ none)) t) y.0) (ok_same (c, ArrayOf line None) z q)
-      (stepped_names t t (taken (Node f.ArraySuffix (At line ▹ Node f.MaybeLength none ▹ none)) t) c c (open_array_taken t line) (stepped_refl t c h))
+      (stepped_names t t (taken (Node f.ArraySuffix (At line ▹ Node f.MaybeLength none ▹ none)) t) c c (refl, refl) (stepped_refl t c h))
   suffix_stepped (Node f.ArraySuffix (At line ▹ Node f.MaybeLength (e ▹ none) ▹ none)) t c z o g h q =
       let x = came (wanted e (typed e (asked c))) q in
       let k = came (array_length (line_of e) x.value.1) x.last in
       let calm = shows_first (Calm e) (typed e (asked c)) _ (typed_calm e (asked c) g.1.1.0.1.0) x.value x.is in
       let keep = told_keeps x.value.0 c (wanted_after (asked c) e (typed e (asked c)) (typed_after e (asked c)) x.value x.is) in
       subst (λ (y : Context × Layer). Stepped t c (taken (Node f.ArraySuffix (At line ▹ Node f.MaybeLength (e ▹ none) ▹ none)) t) y.0) (ok_same (told x.value.0 c, ArrayOf line (Some k.value)) z k.last)
-      (stepped_names t (taken e t) (taken (Node f.ArraySuffix (At line ▹ Node f.MaybeLength (e ▹ none) ▹ none)) t) c (told x.value.0 c) (array_taken t line e) (calm_stepped e t c (told x.value.0 c) calm keep h))
+      (stepped_names t (taken e t) (taken (Node f.ArraySuffix (At line ▹ Node f.MaybeLength (e ▹ none) ▹ none)) t) c (told x.value.0 c) (refl, refl) (calm_stepped e t c (told x.value.0 c) calm keep h))
   suffix_stepped (Node f.FunctionSuffix (At line ▹ Node f.Params parts ▹ none)) t c z o g h q =
       let p = came (params parts (entered c)) q in
       let a = params_stepped parts t (entered c) p.value g.1.1.0.1 tt h p.is in
       let b = left_stepped t (each parts t) c p.value.0 h a in
       subst (λ (y : Context × Layer). Stepped t c (taken (Node f.FunctionSuffix (At line ▹ Node f.Params parts ▹ none)) t) y.0) (ok_same (left_params p.value.0, FunctionOf line p.value.1) z p.last)
-      (stepped_names t (left_scope t (each parts t)) (taken (Node f.FunctionSuffix (At line ▹ Node f.Params parts ▹ none)) t) c (left_params p.value.0) (function_taken t line parts)
+      (stepped_names t (left_scope t (each parts t)) (taken (Node f.FunctionSuffix (At line ▹ Node f.Params parts ▹ none)) t) c (left_params p.value.0) (refl, (params_taken_each parts t).1)
       (record { follows = b.follows; addressed = b.addressed; depth = b.depth; outside = b.outside }))
   suffix_stepped (Node f.VoidSuffix parts) t c z o g h q =
       subst (λ (y : Context × Layer). Stepped t c (taken (Node f.VoidSuffix parts) t) y.0) (ok_same (record c { params = [] }, FunctionOf (line_of (Node f.VoidSuffix parts)) types.none) z q)

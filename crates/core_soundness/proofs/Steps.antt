@@ -519,42 +519,6 @@ module _ (t : Taken) where
   unfolding taken all_taken left shape is_scope
   direct_taken base suffixes = same_of (each suffixes (taken base t)) (all_taken suffixes (places (rows p.Suffix (count suffixes))) (taken base t)) (rows_each p.Suffix refl suffixes (taken base t))
 
-  pub parens_taken : (line : ℕ) (declarator : Tree) → SameNames (taken declarator t) (taken (Node f.Parens (At line ▹ declarator ▹ none)) t)
-  unfolding taken all_taken left shape is_scope
-  parens_taken line declarator = (refl, refl)
-
-  pub array_taken : (line : ℕ) (e : Tree) → SameNames (taken e t) (taken (Node f.ArraySuffix (At line ▹ Node f.MaybeLength (e ▹ none) ▹ none)) t)
-  unfolding taken all_taken left shape is_scope
-  array_taken line e = (refl, refl)
-
-  pub open_array_taken : (line : ℕ) → SameNames t (taken (Node f.ArraySuffix (At line ▹ Node f.MaybeLength none ▹ none)) t)
-  unfolding taken all_taken left shape is_scope
-  open_array_taken line = (refl, refl)
-
-  pub function_taken : (line : ℕ) (parts : Trees) → SameNames (left_scope t (each parts t)) (taken (Node f.FunctionSuffix (At line ▹ Node f.Params parts ▹ none)) t)
-  unfolding taken all_taken left shape is_scope
-  function_taken line parts = (refl, (params_taken_each parts t).1)
-
-  pub member_taken : (line : ℕ) (words : Tree) (declarators : Trees) → SameNames (each declarators (taken words t)) (taken (Node f.Member (At line ▹ words ▹ Node f.MemberNames declarators ▹ none)) t)
-  unfolding taken all_taken left shape is_scope
-  member_taken line words declarators = member_names_taken declarators (taken words t)
-
-  pub enumerator_taken : (line : ℕ) (name : List ℕ) → SameNames (with_one name None t) (taken (Node f.Enumerator (At line ▹ Leaf (w.Name name) ▹ Node f.MaybeValue none ▹ none)) t)
-  unfolding taken all_taken left shape is_scope name_among name_of
-  enumerator_taken line name = (refl, refl)
-
-  pub valued_enumerator_taken : (line : ℕ) (name : List ℕ) (e : Tree) → SameNames (with_one name None (taken e t)) (taken (Node f.Enumerator (At line ▹ Leaf (w.Name name) ▹ Node f.MaybeValue (e ▹ none) ▹ none)) t)
-  unfolding taken all_taken left shape is_scope name_among name_of
-  valued_enumerator_taken line name e = (refl, refl)
-
-  pub record_taken : (sort : RecordSort) (at : ℕ) (name parts : Trees) → SameNames (each parts (taken (Node f.MaybeName name) t)) (taken (Node (f.RecordBody sort) (At at ▹ Node f.MaybeName name ▹ Node f.Members parts ▹ none)) t)
-  unfolding taken all_taken left shape is_scope
-  record_taken sort at name parts = members_taken parts (taken (Node f.MaybeName name) t)
-
-  pub enum_taken : (trailing : Bool) (at : ℕ) (name parts : Trees) → SameNames (each parts (taken (Node f.MaybeName name) t)) (taken (Node (f.EnumBody trailing) (At at ▹ Node f.MaybeName name ▹ Node f.Enumerators parts ▹ none)) t)
-  unfolding taken all_taken left shape is_scope
-  enum_taken trailing at name parts = enumerators_taken parts (taken (Node f.MaybeName name) t)
-
 first_none : (o : Option (List ℕ)) → first_name o None ≡ o
 first_none None = refl
 first_none (Some name) = refl
