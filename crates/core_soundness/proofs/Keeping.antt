@@ -72,20 +72,8 @@ shows_both P Q (Err x) next g h d e = never (P × Q) x d e
 
 -- operands
 
-wanted_shows : (P : Type 0) (tree : Tree) (x : Found) → Shows P x → Shows P (wanted tree x)
-wanted_shows P tree x h = shows_first P x _ h
-
-unused_shows : (P : Type 0) (tree : Tree) (x : Found) → Shows P x → Shows P (unused tree x)
-unused_shows P tree x h = shows_first P x _ h
-
 cast_shows : (P : Type 0) (type : PlainType) (tree : Tree) (x : Found) → Shows P x → Shows P (cast_operand type tree x)
-cast_shows P type tree x h d q = unused_shows P tree x h d (type_cast_unused type tree x d q)
-
-changing_shows : (P : Type 0) (tree : Tree) (x : Found) → Shows P x → Shows P (changing tree x)
-changing_shows P tree x h = shows_first P x _ h
-
-one_shows : (P : Type 0) (x : Found) (rule : TagTable → PlainTyped → Checked PlainTyped) → Shows P x → Shows P (one x rule)
-one_shows P x rule h = shows_first P x _ h
+cast_shows P type tree x h d q = shows_first P x _ h d (type_cast_unused type tree x d q)
 
 two_shows : (P Q : Type 0) (x : Found) (y : Context → Found) (rule : TagTable → PlainTyped → PlainTyped → Checked PlainTyped) → Shows P x → ((c : Context) → Shows Q (y c)) → Shows (P × Q) (two x y rule)
 two_shows P Q x y rule g h =
@@ -156,27 +144,11 @@ specs_still : (at line : ℕ) (words : Trees) (c : Context) → OneNode (At at �
 unfolding Still AllStill shape
 specs_still at line words c h d q = (refl, here_held p.SpecWord (At at) words, (tt, words_still words words line c h d q))
 
-named_still : (line : ℕ) (words declarator : Tree) → Still words → Still declarator → Still (Node f.Typename (At line ▹ words ▹ declarator ▹ none))
-unfolding Still AllStill shape
-named_still line words declarator s l = (refl, tt, (tt, (s, (l, tt))))
-
 -- a declarator without function layers
 
 pointer_still : (consts line : ℕ) (declarator : Tree) → Still declarator → Still (Node (f.Pointer consts) (At line ▹ declarator ▹ none))
 unfolding Still AllStill shape
 pointer_still consts line declarator s = (refl, subst (λ (ps : List Place). Held (declarator ▹ none) ps) (sym (behind_stars consts)) tt, (tt, (s, tt)))
-
-direct_still : (base : Tree) (suffixes : Trees) → Still base → AllStill suffixes → Still (Node f.Direct (base ▹ Node f.Suffixes suffixes ▹ none))
-unfolding Still AllStill shape
-direct_still base suffixes s h = (refl, tt, (s, ((refl, rows_held p.Suffix suffixes, h), tt)))
-
-parens_still : (line : ℕ) (declarator : Tree) → Still declarator → Still (Node f.Parens (At line ▹ declarator ▹ none))
-unfolding Still AllStill shape
-parens_still line declarator s = (refl, tt, (tt, (s, tt)))
-
-array_still : (line : ℕ) (e : Tree) → Still e → Still (Node f.ArraySuffix (At line ▹ Node f.MaybeLength (e ▹ none) ▹ none))
-unfolding Still AllStill shape
-array_still line e s = (refl, tt, (tt, ((refl, tt, (s, tt)), tt)))
 
 none_first : (m k : ℕ) → m + k ≡ 0 → (m ≡ 0) × (k ≡ 0)
 none_first m k e = (omega (arith, e), omega (arith, e))
@@ -193,58 +165,58 @@ mutual
   typed_calm (Node f.Index (At line ▹ e ▹ x ▹ none)) c g d q =
       binary_calm f.Index line e x refl refl tt
       (two_shows (Calm e) (Calm x) (wanted e (typed e c)) (λ k. wanted x (typed x k)) (element line)
-      (wanted_shows (Calm e) e (typed e c) (typed_calm e c g.1.1.0)) (λ k. wanted_shows (Calm x) x (typed x k) (typed_calm x k g.1.1.1.0)) d q)
+      (shows_first (Calm e) (typed e c) _ (typed_calm e c g.1.1.0)) (λ k. shows_first (Calm x) (typed x k) _ (typed_calm x k g.1.1.1.0)) d q)
   typed_calm (Node f.Call (At line ▹ e ▹ Node f.Arguments arguments ▹ none)) c g d q =
       call_calm line e arguments
       (shows_both (Calm e) (AllStill arguments) (callee e c (typed e c)) (λ k. then (values arguments k.0) (λ v. answered v.0 (call line (first_literal arguments) k.1 v.1)))
       (callee_calm e c (typed e c) (typed_calm e c g.1.1.0))
       (λ k h. shows_first (AllStill arguments) (values arguments k.0) (λ v. answered v.0 (call line (first_literal arguments) k.1 v.1)) (values_still arguments k.0 g.1.1.1.0.1)) d q)
   typed_calm (Node f.Dot (At line ▹ e ▹ Leaf (w.Name name) ▹ none)) c g d q =
-      named_calm f.Dot line e (w.Name name) refl refl tt (one_shows (Calm e) (typed e c) (rules.dot line name) (typed_calm e c g.1.1.0) d q)
+      named_calm f.Dot line e (w.Name name) refl refl tt (shows_first (Calm e) (typed e c) _ (typed_calm e c g.1.1.0) d q)
   typed_calm (Node f.Arrow (At line ▹ e ▹ Leaf (w.Name name) ▹ none)) c g d q =
-      named_calm f.Arrow line e (w.Name name) refl refl tt (one_shows (Calm e) (wanted e (typed e c)) (rules.arrow line name) (wanted_shows (Calm e) e (typed e c) (typed_calm e c g.1.1.0)) d q)
-  typed_calm (Node f.PostInc (At line ▹ e ▹ none)) c g d q = unary_calm f.PostInc line e refl refl tt (one_shows (Calm e) (changing e (typed e c)) (rules.stepped line) (changing_shows (Calm e) e (typed e c) (typed_calm e c g.1.1.0)) d q)
-  typed_calm (Node f.PostDec (At line ▹ e ▹ none)) c g d q = unary_calm f.PostDec line e refl refl tt (one_shows (Calm e) (changing e (typed e c)) (rules.stepped line) (changing_shows (Calm e) e (typed e c) (typed_calm e c g.1.1.0)) d q)
-  typed_calm (Node f.PreInc (At line ▹ e ▹ none)) c g d q = unary_calm f.PreInc line e refl refl tt (one_shows (Calm e) (changing e (typed e c)) (rules.stepped line) (changing_shows (Calm e) e (typed e c) (typed_calm e c g.1.1.0)) d q)
-  typed_calm (Node f.PreDec (At line ▹ e ▹ none)) c g d q = unary_calm f.PreDec line e refl refl tt (one_shows (Calm e) (changing e (typed e c)) (rules.stepped line) (changing_shows (Calm e) e (typed e c) (typed_calm e c g.1.1.0)) d q)
+      named_calm f.Arrow line e (w.Name name) refl refl tt (shows_first (Calm e) (wanted e (typed e c)) _ (shows_first (Calm e) (typed e c) _ (typed_calm e c g.1.1.0)) d q)
+  typed_calm (Node f.PostInc (At line ▹ e ▹ none)) c g d q = unary_calm f.PostInc line e refl refl tt (shows_first (Calm e) (changing e (typed e c)) _ (shows_first (Calm e) (typed e c) _ (typed_calm e c g.1.1.0)) d q)
+  typed_calm (Node f.PostDec (At line ▹ e ▹ none)) c g d q = unary_calm f.PostDec line e refl refl tt (shows_first (Calm e) (changing e (typed e c)) _ (shows_first (Calm e) (typed e c) _ (typed_calm e c g.1.1.0)) d q)
+  typed_calm (Node f.PreInc (At line ▹ e ▹ none)) c g d q = unary_calm f.PreInc line e refl refl tt (shows_first (Calm e) (changing e (typed e c)) _ (shows_first (Calm e) (typed e c) _ (typed_calm e c g.1.1.0)) d q)
+  typed_calm (Node f.PreDec (At line ▹ e ▹ none)) c g d q = unary_calm f.PreDec line e refl refl tt (shows_first (Calm e) (changing e (typed e c)) _ (shows_first (Calm e) (typed e c) _ (typed_calm e c g.1.1.0)) d q)
   typed_calm (Node (f.Unary u.Address) (At line ▹ e ▹ none)) c g d q =
-      calm_address line e (one_shows (Calm e) (typed e c) (λ tags x. address line x) (typed_calm e c g.1.1.0) d q)
+      calm_address line e (shows_first (Calm e) (typed e c) _ (typed_calm e c g.1.1.0) d q)
   typed_calm (Node (f.Unary op) (At line ▹ e ▹ none)) c g d q =
-      unary_calm (f.Unary op) line e refl refl tt (one_shows (Calm e) (wanted e (typed e c)) (unary line op) (wanted_shows (Calm e) e (typed e c) (typed_calm e c g.1.1.0)) d q)
+      unary_calm (f.Unary op) line e refl refl tt (shows_first (Calm e) (wanted e (typed e c)) _ (shows_first (Calm e) (typed e c) _ (typed_calm e c g.1.1.0)) d q)
   typed_calm (Node f.SizeofExpr (At line ▹ e ▹ none)) c g d q =
-      unary_calm f.SizeofExpr line e refl refl tt (one_shows (Calm e) (typed e c) (λ tags x. size line tags x.type) (typed_calm e c g.1.1.0) d q)
+      unary_calm f.SizeofExpr line e refl refl tt (shows_first (Calm e) (typed e c) _ (typed_calm e c g.1.1.0) d q)
   typed_calm (Node f.SizeofType (At line ▹ name ▹ none)) c g d q =
       size_calm line name (shows_first (Still name) (typename name c) (λ t. answered t.0 (size line t.0.tags t.1)) (typename_still name c g.1.1.0) d q)
   typed_calm (Node f.Cast (At line ▹ name ▹ e ▹ none)) c g d q =
       cast_calm line name e
       (shows_both (Still name) (Calm e) (typename name c) (λ t. one (cast_operand t.1 e (typed e t.0)) (λ tags x. cast line t.1 x)) (typename_still name c g.1.1.0)
-      (λ t h. one_shows (Calm e) (cast_operand t.1 e (typed e t.0)) (λ tags x. cast line t.1 x) (cast_shows (Calm e) t.1 e (typed e t.0) (typed_calm e t.0 g.1.1.1.0))) d q)
+      (λ t h. shows_first (Calm e) (cast_operand t.1 e (typed e t.0)) _ (cast_shows (Calm e) t.1 e (typed e t.0) (typed_calm e t.0 g.1.1.1.0))) d q)
   typed_calm (Node (f.Binary op) (At line ▹ e ▹ x ▹ none)) c g d q =
       binary_calm (f.Binary op) line e x refl refl tt
       (two_shows (Calm e) (Calm x) (wanted e (typed e c)) (λ k. wanted x (typed x k)) (binary line op)
-      (wanted_shows (Calm e) e (typed e c) (typed_calm e c g.1.1.0)) (λ k. wanted_shows (Calm x) x (typed x k) (typed_calm x k g.1.1.1.0)) d q)
+      (shows_first (Calm e) (typed e c) _ (typed_calm e c g.1.1.0)) (λ k. shows_first (Calm x) (typed x k) _ (typed_calm x k g.1.1.1.0)) d q)
   typed_calm (Node f.Cond (At line ▹ e ▹ x ▹ y ▹ none)) c g d q =
       cond_calm line e x y
-      (shows_both (Calm e) (Calm x × Calm y) (wanted e (typed e c)) (λ test. two (wanted x (typed x test.0)) (λ k. wanted y (typed y k)) (λ tags v r. choice line test.1 v r)) (wanted_shows (Calm e) e (typed e c) (typed_calm e c g.1.1.0))
+      (shows_both (Calm e) (Calm x × Calm y) (wanted e (typed e c)) (λ test. two (wanted x (typed x test.0)) (λ k. wanted y (typed y k)) (λ tags v r. choice line test.1 v r)) (shows_first (Calm e) (typed e c) _ (typed_calm e c g.1.1.0))
       (λ test h. two_shows (Calm x) (Calm y) (wanted x (typed x test.0)) (λ k. wanted y (typed y k)) (λ tags v r. choice line test.1 v r)
-      (wanted_shows (Calm x) x (typed x test.0) (typed_calm x test.0 g.1.1.1.0)) (λ k. wanted_shows (Calm y) y (typed y k) (typed_calm y k g.1.1.1.1.0))) d q)
+      (shows_first (Calm x) (typed x test.0) _ (typed_calm x test.0 g.1.1.1.0)) (λ k. shows_first (Calm y) (typed y k) _ (typed_calm y k g.1.1.1.1.0))) d q)
   typed_calm (Node (f.Assign a.Plain) (At line ▹ e ▹ x ▹ none)) c g d q =
       binary_calm (f.Assign a.Plain) line e x refl refl tt
       (two_shows (Calm e) (Calm x) (typed e c) (λ k. typed x k) (assigned line (line_of x)) (typed_calm e c g.1.1.0) (λ k. typed_calm x k g.1.1.1.0) d q)
   typed_calm (Node (f.Assign op) (At line ▹ e ▹ x ▹ none)) c g d q =
       binary_calm (f.Assign op) line e x refl refl tt
       (two_shows (Calm e) (Calm x) (changing e (typed e c)) (λ k. wanted x (typed x k)) (changed line op)
-      (changing_shows (Calm e) e (typed e c) (typed_calm e c g.1.1.0)) (λ k. wanted_shows (Calm x) x (typed x k) (typed_calm x k g.1.1.1.0)) d q)
+      (shows_first (Calm e) (typed e c) _ (typed_calm e c g.1.1.0)) (λ k. shows_first (Calm x) (typed x k) _ (typed_calm x k g.1.1.1.0)) d q)
   typed_calm (Node f.Comma (At line ▹ e ▹ x ▹ none)) c g d q =
       binary_calm f.Comma line e x refl refl tt
       (two_shows (Calm e) (Calm x) (unused e (typed e c)) (λ k. unused x (typed x k)) (λ tags v r. Ok (behind_comma r))
-      (unused_shows (Calm e) e (typed e c) (typed_calm e c g.1.1.0)) (λ k. unused_shows (Calm x) x (typed x k) (typed_calm x k g.1.1.1.0)) d q)
+      (shows_first (Calm e) (typed e c) _ (typed_calm e c g.1.1.0)) (λ k. shows_first (Calm x) (typed x k) _ (typed_calm x k g.1.1.1.0)) d q)
   typed_calm tree c g d q = never (Calm tree) _ d q
 
   values_still : (arguments : Trees) (c : Context) → AllFormed arguments → Shows (AllStill arguments) (values arguments c)
   values_still none c g d q = tt
   values_still (e ▹ rest) c g d q =
-      let h = shows_both (Calm e) (AllStill rest) (wanted e (typed e c)) (λ x. then (values rest x.0) (λ more. Ok (more.0, x.1 ∷ more.1))) (wanted_shows (Calm e) e (typed e c) (typed_calm e c g.0))
+      let h = shows_both (Calm e) (AllStill rest) (wanted e (typed e c)) (λ x. then (values rest x.0) (λ more. Ok (more.0, x.1 ∷ more.1))) (shows_first (Calm e) (typed e c) _ (typed_calm e c g.0))
       (λ x k. shows_first (AllStill rest) (values rest x.0) (λ more. Ok (more.0, x.1 ∷ more.1)) (values_still rest x.0 g.1)) d q in
       (h.0.still, h.1)
 
@@ -254,8 +226,8 @@ mutual
       let l = came (layers declarator base.value.0) base.last in
       let t = came (with_layers l.value.0.tags l.value.1 base.value.1) l.last in
       let plain = kept_test (is_function t.value) LeftOut line (good (l.value.0, t.value)) d t.last in
-      named_still line (Node f.Specs (At at ▹ words)) declarator (specs_still at at words c g.1.1.0.0 base.value base.is)
-      (layers_still declarator base.value.0 g.1.1.1.0 g.0 l.value l.is (not_function l.value.0.tags l.value.1 base.value.1 t.value t.is plain))
+      let named = layers_still declarator base.value.0 g.1.1.1.0 g.0 l.value l.is (not_function l.value.0.tags l.value.1 base.value.1 t.value t.is plain) in
+      (refl, tt, (tt, (specs_still at at words c g.1.1.0.0 base.value base.is, (named, tt))))
   typename_still tree c g d q = never (Still tree) _ d q
 
   pub layers_still : (tree : Tree) (c : Context) → Formed tree → IsLayer tree → (d : Context × List Layer) → layers tree c ≡ Ok d → functions d.1 ≡ 0 → Still tree
@@ -269,8 +241,8 @@ mutual
       let same : (s.value.0, reverse s.value.1 ++ l.value.1) ≡ d = ok_same (s.value.0, reverse s.value.1 ++ l.value.1) d s.last in
       let sum : functions s.value.1 + functions l.value.1 ≡ 0 = ap (λ (k : ℕ). k + functions l.value.1) (sym (functions_reversed s.value.1)) ∙ sym (functions_joined (reverse s.value.1) l.value.1) ∙ ap (λ (x : Context × List Layer). functions x.1) same ∙ n in
       let both = none_first (functions s.value.1) (functions l.value.1) sum in
-      direct_still base suffixes (layers_still base c g.1.0 g.0.0 l.value l.is both.1) (suffixes_still suffixes l.value.0 g.1.1.0.1 s.value s.is both.0)
-  layers_still (Node f.Parens (At line ▹ declarator ▹ none)) c g i d q n = parens_still line declarator (layers_still declarator c g.1.1.0 g.0 d q n)
+      (refl, tt, ((layers_still base c g.1.0 g.0.0 l.value l.is both.1), ((refl, rows_held p.Suffix suffixes, (suffixes_still suffixes l.value.0 g.1.1.0.1 s.value s.is both.0)), tt)))
+  layers_still (Node f.Parens (At line ▹ declarator ▹ none)) c g i d q n = (refl, tt, (tt, ((layers_still declarator c g.1.1.0 g.0 d q n), tt)))
   layers_still (Node f.Nothing none) c g i d q n = (refl, tt, tt)
   layers_still (Node _ parts) c g i d q n = absurd i
   layers_still other c g i d q n = tt
@@ -287,7 +259,7 @@ mutual
   suffix_still : (suffix : Tree) (c : Context) → Formed suffix → (d : Context × Layer) → suffix_layer suffix c ≡ Ok d → functions (d.1 ∷ []) ≡ 0 → Still suffix
   suffix_still (Node f.ArraySuffix (At line ▹ Node f.MaybeLength none ▹ none)) c g d q n = (refl, tt, (tt, ((refl, tt, tt), tt)))
   suffix_still (Node f.ArraySuffix (At line ▹ Node f.MaybeLength (e ▹ none) ▹ none)) c g d q n =
-      array_still line e (shows_first (Calm e) (wanted e (typed e c)) (λ x. then (array_length (line_of e) x.1) (λ length. Ok (x.0, ArrayOf line (Some length)))) (wanted_shows (Calm e) e (typed e c) (typed_calm e c g.1.1.0.1.0)) d q).still
+      (refl, tt, (tt, ((refl, tt, ((shows_first (Calm e) (wanted e (typed e c)) (λ x. then (array_length (line_of e) x.1) (λ length. Ok (x.0, ArrayOf line (Some length)))) (shows_first (Calm e) (typed e c) _ (typed_calm e c g.1.1.0.1.0)) d q).still, tt)), tt)))
   suffix_still (Node f.FunctionSuffix (At line ▹ Node f.Params params ▹ none)) c g d q n =
       let x = came (param_types params (in_new_scope c)) q in
       let same : (out_of_scope x.value.0, FunctionOf line x.value.1) ≡ d = ok_same (out_of_scope x.value.0, FunctionOf line x.value.1) d x.last in
