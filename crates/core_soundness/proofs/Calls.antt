@@ -48,10 +48,10 @@ use Rattle.core_soundness.specs.Spoken.{is_register, NoRegister, TakesAddress, S
 use Rattle.core_soundness.specs.Worlds.{World, world, Holds, Held, StandsAs, Stands, HoldAll, Receives, IsPrinted, Fits, type_sort, param_sorts, result_sort, local_sort, InnerFits, FileFits, NamesFit}
 use Rattle.core_soundness.proofs.Agreeing.{came, valued_from_rule}
 use Rattle.core_soundness.proofs.Growth.{good, ok_same, never, valued_unused, behind_test}
-use Rattle.core_soundness.proofs.Landing.{in_memory, not_false, number_scalar, pointer_scalar}
+use Rattle.core_soundness.proofs.Landing.{in_memory, number_scalar, pointer_scalar}
 use Rattle.core_soundness.proofs.Scopes.{more_refl, get_last, get_left, More, MoreAll, MoreTags, IsNewTag}
 use Rattle.core_soundness.proofs.Sorting.{Goes, goes_trans, goes_emit, Lands, Comes, held_grew, stands_as_grew, stands_grew, Converting, converted, write_goes, old_brings, valued_from_comes, passed, kept_test, unbarred, moved_is, changed_brings, Grew, grew_trans, holds_grew, all_grew, pieces_grew, goes_refl, Gives, gives_integer, gives_pointer, Apart, Sits, lands_sits, unused_comes}
-use Rattle.core_soundness.proofs.Choices.{some_same}
+use Rattle.core_soundness.proofs.Choices.{some_same, not_false}
 use Rattle.core_soundness.specs.Fitting.{TableFits, TablesFit}
 
 -- the sorts of what assignments write (C99 6.5.2.4, 6.5.3.1, 6.5.16)

@@ -1,5 +1,5 @@
 -- What holds of a choice where it holds of both of its sides, and what options and lists are that are equal or long enough.
-use Rattle.std.proofs.Common.{◌≡◌, ◌<◌, ℕ, zero, suc, Bool, true, false, ◌&&◌, cond, List, [], ◌∷◌, length, Option, Some, None, is_some, slice_get, refl, arith}
+use Rattle.std.proofs.Common.{◌≡◌, ◌<◌, ℕ, zero, suc, Bool, true, false, not, ◌&&◌, cond, List, [], ◌∷◌, length, Option, Some, None, is_some, slice_get, refl, arith}
 
 pub either_way : {A : Type 0} (P : A → Type 0) (test : Bool) {x y : A} → P x → P y → P (cond test x y)
 either_way P true g h = g
@@ -7,6 +7,10 @@ either_way P false g h = h
 
 pub some_same : {A : Type 0} (x y : A) → Some x ≡ Some y → x ≡ y
 some_same x y e = cc
+
+pub not_false : (t : Bool) → not t ≡ false → t ≡ true
+not_false true e = refl
+not_false false e = cc
 
 pub three_parts : (x y z : Bool) → x && y && z ≡ true → (x ≡ true) × (y ≡ true) × (z ≡ true)
 three_parts true true true e = (refl, refl, refl)

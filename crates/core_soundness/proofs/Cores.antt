@@ -262,10 +262,7 @@ called kind = None
 
 called_number : (num : Numbers) (kind : StmKind) (f : ℕ) → called (numbered num kind) ≡ Some f → (g : ℕ) × (f ≡ num.function g)
 unfolding numbered
-called_number num (Call g r args) f e = (g, same_number (num.function g) f e)
-  where
-    same_number : (a b : ℕ) → Some a ≡ Some b → b ≡ a
-    same_number a b q = cc
+called_number num (Call g r args) f e = (g, sym (some_same (num.function g) f e))
 called_number num kind f e = never_number f e
   where
     never_number : {G : Type 0} (k : ℕ) → None ≡ Some k → G

@@ -49,11 +49,11 @@ use Rattle.core_soundness.proofs.Keeping.{shows_first, typed_calm, special_still
 use Rattle.core_soundness.proofs.LocalsRun.{LocalSpoken, EntrySpoken, EntriesSpoken, DeclarationSpoken}
 use Rattle.core_soundness.proofs.Walks.{constant_keeps, with_type_keeps, begun_keeps, ended_keeps, enum_named_keeps}
 use Rattle.core_soundness.proofs.Parameters.{functions, functions_joined, functions_one, functions_reversed, counts, declared_counts, suffixes_counts}
-use Rattle.core_soundness.proofs.Scopes.{More, more_refl, with_tag_more, file_register}
+use Rattle.core_soundness.proofs.Scopes.{More, more_refl, with_tag_more, file_register, HasScope, scope_more}
 use Rattle.core_soundness.proofs.Sorting.{passed, kept_test}
 use Rattle.core_soundness.proofs.Steps.{with_one, IsNew, plain_stepped, param_stepped, no_nodes_each, specs_taken, pointer_taken, direct_taken, specs_unnamed, param_taken, not_twice, local_stepped, commas_each, local_went, inits_spoken, member_names_taken, members_taken, enumerators_taken, params_taken_each}
 use Rattle.core_soundness.proofs.TagSorts.{typed_after, wanted_after, special_after, tag_after}
-use Rattle.core_soundness.proofs.Taking.{among, HasScope, Keeps, Follows, Stepped, each, SameNames, Calm, still_names, all_still_names, left_names, no_nodes_still, Has, Inside, taken_adds, InStep, scope_more, as_before, Numbered, file_none}
+use Rattle.core_soundness.proofs.Taking.{among, Keeps, Follows, Stepped, each, SameNames, Calm, still_names, all_still_names, left_names, no_nodes_still, Has, Inside, taken_adds, InStep, as_before, Numbered, file_none}
 use Rattle.core_soundness.proofs.Choices.{either_way, some_same}
 use Rattle.core_soundness.specs.Fitting.{TableFits}
 

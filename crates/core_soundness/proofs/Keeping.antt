@@ -49,10 +49,10 @@ use Rattle.core_soundness.proofs.Agreeing.{came, found_agrees}
 use Rattle.core_soundness.proofs.Formed.{NoNodes, OneNode, IsLayer, Shaped, Formed, AllFormed, behind_stars}
 use Rattle.core_soundness.proofs.Growth.{good, ok_same, never, type_cast_unused, valued_unused, Grows, grows_refl, behind_test}
 use Rattle.core_soundness.proofs.Parameters.{functions, functions_joined, functions_one, functions_reversed, not_function}
-use Rattle.core_soundness.proofs.Scopes.{with_tag_more, More, MoreTags, MoreAll, IsNewTag, more_refl, more_trans, more_depth, left_more}
+use Rattle.core_soundness.proofs.Scopes.{with_tag_more, More, MoreTags, MoreAll, IsNewTag, more_refl, more_trans, more_depth, left_more, HasScope, scope_more}
 use Rattle.core_soundness.proofs.Sorting.{kept_test, passed, unbarred}
 use Rattle.core_soundness.proofs.TagSorts.{typed_after, wanted_after}
-use Rattle.core_soundness.proofs.Taking.{declares, restores, Held, Still, AllStill, Calm, rows_held, commas_held, here_held, some_held, no_nodes_still, calm_node, calm_address, Has, Inside, left_adds, part_adds, all_taken_adds, among, Numbered, Follows, SameNames, still_names, all_still_names, part_names, drops, Keeps, Same, Fewer, HasScope, InStep, Stepped, calm_same, scope_more}
+use Rattle.core_soundness.proofs.Taking.{declares, restores, Held, Still, AllStill, Calm, rows_held, commas_held, here_held, some_held, no_nodes_still, calm_node, calm_address, Has, Inside, left_adds, part_adds, all_taken_adds, among, Numbered, Follows, SameNames, still_names, all_still_names, part_names, drops, Keeps, Same, Fewer, InStep, Stepped, calm_same}
 use Rattle.core_soundness.proofs.Walks.{Tagging, constant_keeps, found_grows, grown_unused, grows_convert_integer, grows_tested, grown_valued, grows_convert}
 use Rattle.core_soundness.proofs.Choices.{either_way}
 

@@ -44,6 +44,7 @@ use Rattle.core_soundness.proofs.Scopes.{more_refl}
 use Rattle.core_soundness.proofs.Sorting.{Grew, holds_grew, pieces_grew, Goes, goes_refl, goes_forgotten, Gives, gives_on, gives_integer, Sits, Lands, Comes, comes_lands, HasValue, Converting, converted, tested_value_gives, passed, kept_test, moved_is, beside_is, Makes, before_gives, member_gives, move_gives, IsPointed, IsBetween, LeftOf, binary_makes, goes_trans, goes_emit, goes_here, goes_labels, gives_pointer, Apart, held_as_grew}
 use Rattle.std.proofs.lemmas.Bool.{and_parts}
 use Rattle.core_soundness.specs.Fitting.{TablesFit}
+use Rattle.core_soundness.proofs.Choices.{not_false}
 
 -- where names, literals, places and operators are, and of which sort (C99 6.5)
 
@@ -192,10 +193,6 @@ member_of_placed : (line : ℕ) (name : List ℕ) (tags : TagTable) (type : Plai
 member_of_placed line name tags (types.Struct tag) typed e = (member_placed line name (members_in tags tag) typed e, refl)
 member_of_placed line name tags (types.Union tag) typed e = (member_placed line name (members_in tags tag) typed e, refl)
 member_of_placed line name tags other typed e = never _ _ typed e
-
-pub not_false : (k : Bool) → not k ≡ false → k ≡ true
-not_false true e = refl
-not_false false e = cc
 
 pub dotted_lands : (line : ℕ) (name : List ℕ) (c : Context) (e : Found) (z : Context × Found) → 1 ≤ line → Stands (world c) e → dotted line name c e ≡ Ok z → Lands c z
 dotted_lands line name c e z l h q =

@@ -42,13 +42,13 @@ use Rattle.core_soundness.specs.Written.{Written, AllWritten}
 use Rattle.core_soundness.proofs.Agreeing.{came}
 use Rattle.core_soundness.proofs.Calls.{converting_of, same_record, names_more, all_spoken_more}
 use Rattle.core_soundness.proofs.Growth.{good, bad, ok_same, never, behind_string, behind_test}
-use Rattle.core_soundness.proofs.Landing.{in_memory, literal_there, not_false}
+use Rattle.core_soundness.proofs.Landing.{in_memory, literal_there}
 use Rattle.core_soundness.proofs.LayersRun.{TableKept, rescoped, with_local_runs, declared_runs, with_type_runs, specs_run, layers_run}
 use Rattle.core_soundness.proofs.Scopes.{pushed_fits, more_refl, all_refl, named_push, outside_spoken}
 use Rattle.core_soundness.proofs.Sitting.{opened_rests, closed_goes, Evaluates, evaluates, evaluated_goes, opened_goes, Fine, Runs, runs_refl, runs_trans, goes_runs, on_runs}
 use Rattle.core_soundness.proofs.Sorting.{Grew, holds_grew, Goes, goes_refl, goes_trans, goes_emit, gives_pointer, Gives, held_grew, stands_as_grew, converted, write_goes, kept_test, unbarred, grew_refl, pieces_grew, passed}
 use Rattle.core_soundness.proofs.TagSorts.{tag_after}
-use Rattle.core_soundness.proofs.Choices.{either_way, three_parts}
+use Rattle.core_soundness.proofs.Choices.{either_way, three_parts, not_false}
 use Rattle.core_soundness.specs.Fitting.{TablesFit}
 
 -- what initializers do to what fits (C99 6.7.8)

@@ -662,12 +662,11 @@ elements_in k (suc asked) (suc n) offset l element w e h =
 
 -- members of a struct or union
 
-rest_placed : Bool → Placed → List Layout → List (ℕ × Layout)
+abbrev pub rest_placed : Bool → Placed → List Layout → List (ℕ × Layout)
 rest_placed u p [] = []
 rest_placed u p (l ∷ ls) = (offset_after u p l, l) ∷ rest_placed u (place u p l) ls
 
-fold_rest : (u : Bool) (p : Placed) (ls : List Layout) → (fold (place u) p ls).members ≡ p.members ++ rest_placed u p ls
-unfolding rest_placed
+pub fold_rest : (u : Bool) (p : Placed) (ls : List Layout) → (fold (place u) p ls).members ≡ p.members ++ rest_placed u p ls
 fold_rest u p [] = sym (Rattle.std.proofs.Common.append-nil p.members)
 fold_rest u p (l ∷ ls) = fold_rest u (place u p l) ls ∙ append_assoc p.members ((offset_after u p l, l) ∷ []) (rest_placed u (place u p l) ls)
 

@@ -37,7 +37,7 @@ use Rattle.elaboration.specs.Context.{Piece as CodePiece, Does, Here, Context, W
 use Rattle.elaboration.specs.Resolving.{Numbers, atom_by, atoms_by, numbered, body_of, register_by, static_by, numbers_of, temporary, pointer_register, function_of, variable_static, literal_static, core_of}
 use Rattle.core_soundness.specs.Worlds.{World, walked_world, IsRegister, is_local, is_integer, is_pointer_temporary, IsObject, is_variable, is_literal, Holds, HoldAll, Receives, IsCall, IsPrinted, Fits, FitsAnswer, FitsIn, PiecesFit}
 use Rattle.core_soundness.proofs.Scopes.{get_left}
-use Rattle.core_soundness.proofs.Choices.{either_way, three_parts}
+use Rattle.core_soundness.proofs.Choices.{either_way, three_parts, some_same}
 
 -- a format that passes the test of formats is one (C99 7.19.6.1)
 
@@ -407,10 +407,7 @@ module _ (c : Context) (w : Walked) where
     pub statements_resolve : (answer : Option Sort) (pieces : List CodePiece) (point : ℕ) (stm : Stm) → PiecesFit answer here pieces → slice_get (body_of num pieces) point ≡ Some stm → (1 ≤ stm.line) × IsTyped core func stm.kind
     statements_resolve answer [] point stm h e = cc
     statements_resolve answer (Here l ∷ pieces) point stm h e = statements_resolve answer pieces point stm h.1 e
-    statements_resolve answer (Does s ∷ pieces) zero stm h e = subst (λ (x : Stm). (1 ≤ x.line) × IsTyped core func x.kind) (same_of _ stm e) (h.0.0, in_resolves answer s.kind h.0.1)
-      where
-        same_of : (x y : Stm) → Some x ≡ Some y → x ≡ y
-        same_of x y q = cc
+    statements_resolve answer (Does s ∷ pieces) zero stm h e = subst (λ (x : Stm). (1 ≤ x.line) × IsTyped core func x.kind) (some_same _ stm e) (h.0.0, in_resolves answer s.kind h.0.1)
     statements_resolve answer (Does s ∷ pieces) (suc point) stm h e = statements_resolve answer pieces point stm h.1 e
 
   -- returns
@@ -432,8 +429,5 @@ module _ (c : Context) (w : Walked) where
   pub returns_resolve : (answer : Option Sort) (pieces : List CodePiece) (point : ℕ) (stm : Stm) (a : Option Atom) → PiecesFit answer here pieces → slice_get (body_of num pieces) point ≡ Some stm → stm.kind ≡ Return a → answer_sort core func a ≡ answer
   returns_resolve answer [] point stm a h e q = cc
   returns_resolve answer (Here l ∷ pieces) point stm a h e q = returns_resolve answer pieces point stm a h.1 e q
-  returns_resolve answer (Does s ∷ pieces) zero stm a h e q = return_resolves answer s.kind a h.0.1 (ap (λ (x : Stm). x.kind) (same_of _ stm e) ∙ q)
-    where
-      same_of : (x y : Stm) → Some x ≡ Some y → x ≡ y
-      same_of x y k = cc
+  returns_resolve answer (Does s ∷ pieces) zero stm a h e q = return_resolves answer s.kind a h.0.1 (ap (λ (x : Stm). x.kind) (some_same _ stm e) ∙ q)
   returns_resolve answer (Does s ∷ pieces) (suc point) stm a h e q = returns_resolve answer pieces point stm a h.1 e q

@@ -167,6 +167,16 @@ found_same f g (t ∷ ts) (u ∷ us) name mf m sf s =
 pub same_frees : (a b : ScopeList) (name : List ℕ) → More a b → Safe a → frees (found b name) ≡ frees (found a name)
 same_frees a b name m s = found_same a.file b.file a.inner b.inner name m.file m.inner s.file s.inner
 
+-- a scope is open
+abbrev pub HasScope : List Table → Type 0
+HasScope [] = ⊥
+HasScope (scope ∷ outer) = Unit {0}
+
+pub scope_more : (ss ts : List Table) → MoreAll ss ts → HasScope ss → HasScope ts
+scope_more [] ts m h = absurd h
+scope_more (s ∷ ss) [] m h = absurd m
+scope_more (s ∷ ss) (t ∷ ts) m h = tt
+
 -- a name more
 
 pub named_push : (name key : List ℕ) (v : PlainNamed) (t : Table) → named_in name (t ++ (key, v) ∷ []) ≡ option_or (named_in name t) (cond (bytes_eq name key) (Some v) None)
@@ -238,11 +248,8 @@ pub get_last : {X : Type 0} (xs : List X) (y : X) → slice_get (xs ++ y ∷ [])
 get_last [] y = refl
 get_last (x ∷ xs) y = get_last xs y
 
-some_value : {X : Type 0} (a b : X) → Some b ≡ Some a → a ≡ b
-some_value a b q = cc
-
 pub get_push : {X : Type 0} (xs : List X) (y : X) (i : ℕ) (x : X) → slice_get (xs ++ y ∷ []) i ≡ Some x → (slice_get xs i ≡ Some x) ⊎ ((i ≡ length xs) × (x ≡ y))
-get_push [] y zero x e = inr (refl, some_value x y e)
+get_push [] y zero x e = inr (refl, sym (some_same y x e))
 get_push [] y (suc i) x e = cc
 get_push (z ∷ xs) y zero x e = inl e
 get_push (z ∷ xs) y (suc i) x e =
@@ -260,7 +267,7 @@ set_same (y ∷ xs) (suc i) old x e = set_same xs i old x e
 
 pub set_get : {X : Type 0} (xs : List X) (i : ℕ) (y : X) (j : ℕ) (x : X) → slice_get (slice_set xs i y) j ≡ Some x → ((j ≡ i) × (x ≡ y)) ⊎ ((j ≡ i → ⊥) × (slice_get xs j ≡ Some x))
 set_get [] i y j x e = cc
-set_get (z ∷ xs) zero y zero x e = inl (refl, some_value x y e)
+set_get (z ∷ xs) zero y zero x e = inl (refl, sym (some_same y x e))
 set_get (z ∷ xs) zero y (suc j) x e = inr (λ h. omega arith, e)
 set_get (z ∷ xs) (suc i) y zero x e = inr (λ h. omega arith, e)
 set_get (z ∷ xs) (suc i) y (suc j) x e =

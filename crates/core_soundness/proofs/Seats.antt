@@ -19,7 +19,7 @@ use Rattle.elaboration.specs.Conversions.{size_or_zero}
 use Rattle.elaboration.specs.Initializers.{bytes_of, with_bytes, with_pointer, without_zeros, trimmed, elements, struct_parts, parts_of}
 use Rattle.core_soundness.specs.Solid.{Solid}
 use Rattle.core_soundness.specs.Whole.{AreMade, MembersWhole}
-use Rattle.core_soundness.proofs.Ranged.{members_same, learnt}
+use Rattle.core_soundness.proofs.Ranged.{members_same, learnt, rest_placed, fold_rest}
 use Rattle.core_soundness.proofs.WholeTypes.{nothing, members_stay, learn_extends, placed_far}
 use Rattle.core_soundness.proofs.Choices.{either_way, some_same}
 
@@ -209,14 +209,6 @@ order_seats room slots low high (p ∷ ps) fits h sound split join =
     )
 
 -- members as they are placed
-
-abbrev pub rest_placed : Bool → Placed → List Layout → List (ℕ × Layout)
-rest_placed u p [] = []
-rest_placed u p (l ∷ ls) = (offset_after u p l, l) ∷ rest_placed u (place u p l) ls
-
-pub fold_rest : (u : Bool) (p : Placed) (ls : List Layout) → (fold (place u) p ls).members ≡ p.members ++ rest_placed u p ls
-fold_rest u p [] = sym (Rattle.std.proofs.Common.append-nil p.members)
-fold_rest u p (l ∷ ls) = fold_rest u (place u p l) ls ∙ Rattle.std.proofs.Common.append_assoc p.members ((offset_after u p l, l) ∷ []) (rest_placed u (place u p l) ls)
 
 order_low : (low other high : ℕ) (ps : List (ℕ × Layout)) → low ≤ other → InOrder other high ps → InOrder low high ps
 order_low low other high [] e h = omega (arith, e, h)

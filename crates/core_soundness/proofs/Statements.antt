@@ -33,7 +33,7 @@ use Rattle.core_soundness.proofs.Parts.{Part, part_trans, part_ways, part_closed
 use Rattle.core_soundness.proofs.Scopes.{Safe, left_safe, entered_safe, tied_refl, tied_trans, SafeTable, Named, Strict, defined_named, defined_here, pushed_named, pushed_strict}
 use Rattle.core_soundness.proofs.Agreeing.{came}
 use Rattle.core_soundness.proofs.Sorting.{passed, kept_test}
-use Rattle.core_soundness.proofs.Choices.{either_way, some_same}
+use Rattle.core_soundness.proofs.Choices.{either_way, some_same, not_false}
 
 -- what statements do to what is known
 
@@ -284,10 +284,6 @@ labelled_walks a c k d e fit is p w same labels s =
       stays = stays_trans c k e p.stays (stays_trans k d e (stays_recoded k d (here l (with_labels 1 k)).code d.code w.stays) s);
     }
 
-labelled_true : (t : Bool) → not t ≡ false → t ≡ true
-labelled_true true e = refl
-labelled_true false e = absurd (true≢false e)
-
 cased_walks : (line : ℕ) (a : Around) (ty : Option IntType) (place : ℕ) (v : ℤ) (c k d : Context) → Fits c.code.labels a → Passes c k → Walks a (here k.code.labels (with_labels 1 k)) d
     → Led (Walks a c) (cased line a ty place v k.code.labels d)
 cased_walks line a None place v c k d fit p w = led_refused (Walks a c)
@@ -296,13 +292,10 @@ cased_walks line a (Some ty) place v c k d fit p w =
     led_unless (Walks a c) (not a.labelled) LeftOut line (λ e.
     led_unless (Walks a c) (has_case value d) CaseTwice line (λ e2.
     led_ok (Walks a c)
-    (labelled_walks a c k d (with_case place value k.code.labels d) fit (labelled_true a.labelled e) p w refl
+    (labelled_walks a c k d (with_case place value k.code.labels d) fit (not_false a.labelled e) p w refl
     (λ l. ⊎_elim (λ (h : IsCase l (take place d.running.cases ++ ((value, k.code.labels) ∷ drop place d.running.cases))). ⊎_elim (λ (q : l ≡ k.code.labels). inl q) (λ (q : IsCase l d.running.cases). inr (inl q)) (case_among l place k.code.labels value d.running.cases h))
     (λ (h : d.running.otherwise ≡ Some l). inr (inr h)))
     (stays_beside d _ w.stays.safe refl refl refl refl refl (λ k. k) refl (tied_refl d.functions d.scopes.file d.walked) (λ h name type i e. e)))))
-
-some_is : (one other : ℕ) → Some one ≡ Some other → other ≡ one
-some_is one other e = cc
 
 defaulted_walks : (line : ℕ) (a : Around) (c d : Context) → Fits c.code.labels a → Safe c.scopes → Walks a (here c.code.labels (with_labels 1 c)) d → Led (Walks a c) (defaulted line a c.code.labels d)
 defaulted_walks line a c d fit s w =
@@ -311,8 +304,8 @@ defaulted_walks line a c d fit s w =
     led_unless (Walks a c) (not a.labelled) LeftOut line (λ e2.
     led_unless (Walks a c) (is_some d.running.otherwise) CaseTwice line (λ e3.
     led_ok (Walks a c)
-    (labelled_walks a c c d last fit (labelled_true a.labelled e2) (passes_refl c s) w refl
-    (λ l. ⊎_elim (λ (h : IsCase l d.running.cases). inr (inl h)) (λ (h : Some c.code.labels ≡ Some l). inl (some_is c.code.labels l h)))
+    (labelled_walks a c c d last fit (not_false a.labelled e2) (passes_refl c s) w refl
+    (λ l. ⊎_elim (λ (h : IsCase l d.running.cases). inr (inl h)) (λ (h : Some c.code.labels ≡ Some l). inl (sym (some_same c.code.labels l h))))
     (stays_beside d _ w.stays.safe refl refl refl refl refl (λ k. k) refl (tied_refl d.functions d.scopes.file d.walked) (λ h name type i e. e))))))
 
 -- `break` and `continue`
@@ -687,10 +680,6 @@ calls_same functions (call ∷ calls) c d h =
 pub record Finished (c : Context) : Type 0 where
   pub sane : Sane c
   pub main : is_main c.functions (named_in (codes "main") c.scopes.file) ≡ true
-
-not_false : (t : Bool) → not t ≡ false → t ≡ true
-not_false true e = refl
-not_false false e = absurd (true≢false e)
 
 pub behind_text : (unit : Trees) (c : Context) → walked unit ≡ Ok c → (externals unit first_context ≡ Ok c) × (is_main c.functions (named_in (codes "main") c.scopes.file) ≡ true)
 behind_text unit c q =

@@ -35,13 +35,13 @@ use Rattle.core_soundness.proofs.Calls.{converting_of}
 use Rattle.core_soundness.proofs.DeclaredSteps.{declaration_spoken, declaration_in_step}
 use Rattle.core_soundness.proofs.Growth.{good, bad, ok_same, never, Led, led_ok, led_after, behind_test}
 use Rattle.core_soundness.proofs.Keeping.{keeps_step, evaluated_in_step, leaves_in_step, operand_in_step, maybe_evaluated_in_step, maybe_leaves_in_step, constant_in_step, return_from_in_step, evaluated_spoken, leaves_spoken, operand_spoken, maybe_evaluated_spoken, maybe_leaves_spoken, return_from_spoken}
-use Rattle.core_soundness.proofs.Landing.{not_false}
 use Rattle.core_soundness.proofs.LayersRun.{constant_runs}
 use Rattle.core_soundness.proofs.LocalsRun.{local_declaration_runs}
 use Rattle.core_soundness.proofs.Scopes.{all_refl, all_trans}
 use Rattle.core_soundness.proofs.Sitting.{Fine, Runs, runs_refl, runs_trans, goes_runs, on_runs, entered_fine, runs_left, closed_goes, Evaluates, evaluates, evaluated_goes, evaluates_unused}
 use Rattle.core_soundness.proofs.Sorting.{Grew, grew_refl, grew_trans, holds_grew, pieces_grew, pieces_joined, Goes, goes_refl, goes_trans, goes_emit, goes_here, goes_labels, converted, integer_converted, tested_value_gives, passed, kept_test, unbarred}
 use Rattle.core_soundness.proofs.Taking.{Has, Inside, InStep, Keeps, step_left, Good, ItemsGood, behind_items, as_before, empty_taken, node_good, items_of, items_good, names_good}
+use Rattle.core_soundness.proofs.Choices.{not_false}
 
 -- expressions
 

@@ -41,11 +41,11 @@ use Rattle.core_soundness.proofs.Agreeing.{came}
 use Rattle.core_soundness.proofs.Formed.{Shaped, Formed, AllFormed, NoNodes, behind_stars}
 use Rattle.core_soundness.proofs.Growth.{good, ok_same, never, Grows, grows_refl, grows_pointer, Reached, reached_ok, reached_refused, reached_after, reached_unless, reached_barred, grown_literal, behind_string}
 use Rattle.core_soundness.proofs.Keeping.{text_calm, unary_calm, found_calm, keeps_refl, keeps_trans, grows_keeps, emit_keeps, opened_keeps, closed_keeps, found_keeps, full_keeps, calm_spoken, valued_calm, AreNumbered, keeps_stepped, stepped_trans}
-use Rattle.core_soundness.proofs.Scopes.{named_push}
+use Rattle.core_soundness.proofs.Scopes.{named_push, HasScope}
 use Rattle.core_soundness.proofs.Sorting.{passed, kept_test}
-use Rattle.core_soundness.proofs.Taking.{Inside, Keeps, Follows, Still, AllStill, Calm, some_commas_held, calm_node, among, drops, HasScope, Numbered, Fewer, Stepped, each, SameNames}
+use Rattle.core_soundness.proofs.Taking.{Inside, Keeps, Follows, Still, AllStill, Calm, some_commas_held, calm_node, among, drops, Numbered, Fewer, Stepped, each, SameNames}
 use Rattle.core_soundness.proofs.Walks.{found_grows, grown_valued, grows_convert, grows_write}
-use Rattle.core_soundness.proofs.Choices.{either_way}
+use Rattle.core_soundness.proofs.Choices.{either_way, not_false}
 
 -- initializers declare nothing, and go in step (C99 6.7.8)
 
@@ -327,10 +327,6 @@ again_plain : (w v : PlainNamed) → is_register (Some v) ≡ false → is_same_
 again_plain (n.Register type i) v e q = cc
 again_plain other v e q = refl
 
-not_of : (b : Bool) → not b ≡ false → b ≡ true
-not_of true e = refl
-not_of false e = cc
-
 -- it was there before, at file scope
 again_numbered : (file : Table) (inner : List Table) (name : List ℕ) (v w : PlainNamed) (t : Taken) (numbers : List ℕ) → is_register (Some v) ≡ false → named_in name (first_or file inner) ≡ Some w → is_twice_in (is_file inner) v (Some w) ≡ false
     → AreNumbered (record { file = file; inner = inner }) t numbers → AreNumbered (record { file = file; inner = inner }) (with_one name None t) numbers
@@ -340,7 +336,7 @@ again_numbered file [] name v w t numbers p e q h x r = by (bytes_eq x name) ref
     by : (b : Bool) → bytes_eq x name ≡ b → Numbered (with_one name None t) numbers x
     by true z =
         let same : x ≡ name = (bytes_eq-Decides x name).0 z in
-        let plain : is_register (Some w) ≡ false = again_plain w v p (and_parts true (is_same_again w v) (not_of (true && is_same_again w v) q)).1 in
+        let plain : is_register (Some w) ≡ false = again_plain w v p (and_parts true (is_same_again w v) (not_false (true && is_same_again w v) q)).1 in
         let clash : true ≡ false = sym r ∙ ap is_register (ap (λ (l : List ℕ). named_in l file) same ∙ e) ∙ plain in
         cc
     by false z = let a = h x r in (a.0, ap (λ (b : Bool). cond b None (number_of t.names x)) (unequal x name z) ∙ a.1, a.2)

@@ -29,7 +29,7 @@ use Rattle.c_decls.specs.declared.refusal.TypeKind.TheVariants.{LeftOut, TypeToo
 use Rattle.elaboration.specs.Context.{Context as TextContext, asked}
 use Rattle.elaboration.specs.Initializers.{given_length, with_init_layers}
 use Rattle.core_soundness.proofs.Growth.{Longer, Led, led_ok, led_refused, led_after, led_unless, ok_same, never, Reached, reached_ok, reached_refused, reached_after, reached_then, reached_unless, wanted_unused, type_cast_unused}
-use Rattle.core_soundness.proofs.Scopes.{name_fits, named_fits, entered_fit, left_fit, scopes_fit, get_left, get_last, Pushed, push_get, More, MoreAll, more_refl, more_trans, with_tag_more, left_more}
+use Rattle.core_soundness.proofs.Scopes.{name_fits, named_fits, entered_fit, left_fit, scopes_fit, get_left, get_last, Pushed, push_get, More, MoreAll, more_refl, more_trans, with_tag_more, left_more, HasScope, scope_more}
 use Rattle.core_soundness.specs.Fitting.{TableFits, ScopesFit}
 
 -- types name tags of the sort that these were made of (C99 6.7.2.3)
@@ -242,20 +242,11 @@ specs_leads line all (Leaf word ▹ rest) c = specs_leads line all rest c
 specs_leads line all (At at ▹ rest) c = specs_leads line all rest c
 
 -- inside a list of parameters: the scopes outside have more tags alone
-abbrev HasScope : List Table → Type 0
-HasScope [] = ⊥
-HasScope (scope ∷ outer) = Unit {0}
-
 pub record Inside (c d : Context) : Type 0 where
   pub some : HasScope d.scopes.inner
   pub outside : More (scopes.left c.scopes) (scopes.left d.scopes)
   pub made : Longer c.tags.made d.tags.made
   pub sorts : SortedScopes c.tags.made c.scopes → SortedScopes d.tags.made d.scopes
-
-all_some : (one other : List Table) → MoreAll one other → HasScope one → HasScope other
-all_some [] other m h = absurd h
-all_some (s ∷ ss) [] m h = absurd m
-all_some (s ∷ ss) (t ∷ ts) m h = tt
 
 inside_refl : (c : Context) → HasScope c.scopes.inner → Inside c c
 inside_refl c h = record { some = h; outside = more_refl (scopes.left c.scopes); made = λ i x e. e; sorts = λ k. k }
@@ -265,7 +256,7 @@ inside_trans a b c x y = record { some = y.some; outside = more_trans (scopes.le
 
 inside_leads : (a b c : Context) → Inside a b → Leads b c → Inside a c
 inside_leads a b c x y = record {
-  some = all_some b.scopes.inner c.scopes.inner y.more.inner x.some;
+  some = scope_more b.scopes.inner c.scopes.inner y.more.inner x.some;
   outside = more_trans (scopes.left a.scopes) (scopes.left b.scopes) (scopes.left c.scopes) x.outside (left_more b.scopes c.scopes y.more);
   made = λ i u e. y.made i u (x.made i u e);
   sorts = λ k. y.sorts (x.sorts k);

@@ -20,7 +20,7 @@ use Rattle.core_soundness.specs.Spoken.{is_register}
 use Rattle.core_soundness.specs.Worlds.{World, world, FileFits}
 use Rattle.core_soundness.specs.Written.{HasParts, Written, AllWritten}
 use Rattle.core_soundness.proofs.Formed.{NoNodes, Shaped, Formed, AllFormed}
-use Rattle.core_soundness.proofs.Scopes.{More, MoreAll, IsNewTag}
+use Rattle.core_soundness.proofs.Scopes.{More, MoreAll, IsNewTag, HasScope, scope_more}
 use Rattle.core_soundness.specs.Fitting.{TableFits}
 
 -- of which parameters and locals the address was taken stays known behind each tree
@@ -189,11 +189,6 @@ FollowsAt t s declared addressed =
 abbrev pub Follows : Taken → Context → Type 0
 Follows t c = FollowsAt t c.scopes c.running.declared c.running.addressed
 
--- a scope is open
-abbrev pub HasScope : List Table → Type 0
-HasScope [] = ⊥
-HasScope (scope ∷ outer) = Unit {0}
-
 -- inside a function, where no typedef names are being declared
 abbrev pub InStep : Taken → Context → Type 0
 InStep t c = (t.typedef ≡ false) × HasScope c.scopes.inner × Follows t c
@@ -254,11 +249,6 @@ register_back w f g (s ∷ ss) (t ∷ ts) name h m e =
     same : (x y : Option PlainNamed) → y ≡ x → (is_register (found_from g name ts) ≡ true → is_register (found_from f name ss) ≡ true) → is_register (option_or y (found_from g name ts)) ≡ true → is_register (option_or x (found_from f name ss)) ≡ true
     same (Some v) y q again k = sym (ap (λ (o : Option PlainNamed). is_register (option_or o (found_from g name ts))) q) ∙ k
     same None y q again k = again (sym (ap (λ (o : Option PlainNamed). is_register (option_or o (found_from g name ts))) q) ∙ k)
-
-pub scope_more : (ss ts : List Table) → MoreAll ss ts → HasScope ss → HasScope ts
-scope_more [] ts m h = absurd h
-scope_more (s ∷ ss) [] m h = absurd m
-scope_more (s ∷ ss) (t ∷ ts) m h = tt
 
 pub step_left : (t u : Taken) (c d : Context) → InStep t c → InStep u d → d.running.addressed ≡ c.running.addressed → TableFits (FileFits (world d)) d.scopes.file → MoreAll c.scopes.inner (tail d.scopes.inner) → InStep (left_scope t u) (left_context d)
 step_left t u c d s r same h m = (

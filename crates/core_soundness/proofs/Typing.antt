@@ -52,7 +52,6 @@ use Rattle.core_soundness.proofs.Cores.{behind, count_main}
 use Rattle.core_soundness.proofs.DeclaredSteps.{Begun, layers_start, body_step}
 use Rattle.core_soundness.proofs.Formed.{Shaped, Formed, AllFormed, HasParams, AreFormed}
 use Rattle.core_soundness.proofs.Growth.{good, ok_same, never, bad, behind_test}
-use Rattle.core_soundness.proofs.Landing.{not_false}
 use Rattle.core_soundness.proofs.LayersRun.{specs_run, layers_run, suffixes_run, suffix_runs, params_run}
 use Rattle.core_soundness.proofs.LocalsRun.{file_declaration_runs, function_runs}
 use Rattle.core_soundness.proofs.OwnNames.{IsOwn, HasOwnName, HaveOwnNames}
@@ -64,7 +63,7 @@ use Rattle.core_soundness.proofs.Sorting.{Grew, pieces_grew, CodeFits, passed, k
 use Rattle.core_soundness.proofs.Statements.{behind_text, Sane, walked_sane, walked_finished}
 use Rattle.core_soundness.proofs.StatementsRun.{Stands_in, items_run, return_fits}
 use Rattle.core_soundness.proofs.Taking.{Good, body_good}
-use Rattle.core_soundness.proofs.Choices.{either_way, some_same, get_some, some_number}
+use Rattle.core_soundness.proofs.Choices.{either_way, some_same, get_some, some_number, not_false}
 use Rattle.core_soundness.specs.Fitting.{TableFits, TablesFit}
 
 -- the functions of a text fit (C99 6.9)
