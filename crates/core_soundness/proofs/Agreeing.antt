@@ -1,41 +1,21 @@
 -- The type of an expression that is elaborated is the one that its types alone give it.
 use Rattle.std.proofs.Common.{◌≡◌, ◌&&◌, ℕ, pos, Bool, true, false, not, cond, List, Option, Some, Ok, Err, refl, sym, ap, ◌∙◌, subst, ◌+◌, [], ◌∷◌, length, None}
-use Rattle.c_types.specs.TagTable.{TagTable}
+use Rattle.core_soundness.proofs.Words.Trees.{Tree, Trees, Leaf, At, Node, none, ◌▹◌, AssignOp, BinaryOp, UnaryOp}
+use Rattle.core_soundness.proofs.Words.Types.{TagTable, PlainType, PlainTypes, Void, Int, Pointer, Array, named, Callee, Takes, Prints, NoFunction, called, call, no_function, line_of, answered, wanted, one, two, string, typed, values, calling, int_constant, char_constant, joined, literal, first_literal, typename, PlainNamed, held_place, element, dot, arrow, cast, choice, assigned, changed, changed_types, is_written, behind_comma, Checked, then, unless, found as declaration, address, unary, unary_of, binary, PlainTyped, Operand, Number, operand, read, is_null_constant, int, is_void, has_no_value, wanted_value, place, value, is_record, constant, NotLvalue, Operands, TypeTooLarge}
+use Rattle.core_soundness.proofs.Words.Core.{Atom, Copy}
+use Rattle.core_soundness.proofs.Words.Elaborating.{record_assigned, set_to, scalar_assigned, old_value, change_place, changed_answer, changed_by, one_found, stepped, Argument, types_of, first_type, rest_types, argument_from, call_named, Code, Context, With, asked, told, emit, here, new_label, Found, Value, Empty, Unknown, found_as, atom_in, read_spot, read_value, code_line, valued_from, valued, convert, tested_value, size_or_zero, unused, wanted_from, valued_as, name_answer, literal_answer, unevaluated, address_answer, changing, cast_operand, comma_answer, callee_name, callee, parameters, format_argument, is_printf, call_answer, found, arguments, combined, fixed_sum, offset_of, operator_of, changed_to, constant_found, object_found, built_in_found, name_found, is_inner, with_literal, literal_found, at_address, with_value, indexed, member_of, dotted, target_of, pointed, apply, applied, before_number, left_operand, tells_equal, is_pointer_ahead, ahead, between, cast_fixed, cast_to, and_ends, and_ended, or_ends, or_ended, choose_first, choose_last, choice_found, chosen, and_then, or_else, choose, type_ahead}
 use Rattle.c_types.specs.Types as ct
-use Rattle.c_types.specs.Types.{PlainType, PlainTypes, Void, Int, Pointer, Array}
 use Rattle.c_types.specs.declared.types.IntType.TheVariants as i
-use Rattle.core_tree.specs.declared.statements.Atom.{Atom}
 use Rattle.core_tree.specs.declared.statements.Atom.TheVariants as atom
-use Rattle.core_tree.specs.declared.statements.StmKind.TheVariants.{Copy}
 use Rattle.c_tree.specs.Forms as f
-use Rattle.c_tree.specs.Tree.{Tree, Trees, Leaf, At, Node, none, ◌▹◌}
 use Rattle.c_tree.specs.Words as w
-use Rattle.c_tree.specs.declared.operator.AssignOp.{AssignOp}
 use Rattle.c_tree.specs.declared.operator.AssignOp.TheVariants as a
-use Rattle.c_tree.specs.declared.operator.BinaryOp.{BinaryOp}
 use Rattle.c_tree.specs.declared.operator.BinaryOp.TheVariants as b
-use Rattle.c_tree.specs.declared.operator.UnaryOp.{UnaryOp}
 use Rattle.c_tree.specs.declared.operator.UnaryOp.TheVariants as u
-use Rattle.c_decls.specs.Callees.{named, Callee, Takes, Prints, NoFunction, called, call, no_function}
 use Rattle.c_decls.specs.Expressions as types
-use Rattle.c_decls.specs.Expressions.{line_of, answered, wanted, one, two, string, typed, values, calling, int_constant, char_constant, joined, literal, first_literal, typename}
 use Rattle.c_decls.specs.Named as n
-use Rattle.c_decls.specs.Named.{PlainNamed}
 use Rattle.c_decls.specs.PlaceRules as rules
-use Rattle.c_decls.specs.PlaceRules.{held_place, element, dot, arrow, cast, choice, assigned, changed, changed_types, is_written, behind_comma}
-use Rattle.c_decls.specs.Refusals.{Checked, then, unless}
-use Rattle.c_decls.specs.ScopeList.{found as declaration}
 use Rattle.c_decls.specs.TypeNames as names
-use Rattle.c_decls.specs.TypeRules.{address, unary, unary_of, binary}
-use Rattle.c_decls.specs.Typed.{PlainTyped, Operand, Number, operand, read, is_null_constant, int, is_void, has_no_value, wanted_value, place, value, is_record, constant}
-use Rattle.c_decls.specs.declared.refusal.TypeKind.TheVariants.{NotLvalue, Operands, TypeTooLarge}
-use Rattle.elaboration.specs.Assignments.{record_assigned, set_to, scalar_assigned, old_value, change_place, changed_answer, changed_by, one_found, stepped}
-use Rattle.elaboration.specs.Calls.{Argument, types_of, first_type, rest_types, argument_from, call_named}
-use Rattle.elaboration.specs.Context.{Code, Context, With, asked, told, emit, here, new_label}
-use Rattle.elaboration.specs.Conversions.{Found, Value, Empty, Unknown, found_as, atom_in, read_spot, read_value, code_line, valued_from, valued, convert, tested_value, size_or_zero, unused, wanted_from, valued_as}
-use Rattle.elaboration.specs.Expressions.{name_answer, literal_answer, unevaluated, address_answer, changing, cast_operand, comma_answer, callee_name, callee, parameters, format_argument, is_printf, call_answer, found, arguments}
-use Rattle.elaboration.specs.Operations.{combined, fixed_sum, offset_of, operator_of, changed_to}
-use Rattle.elaboration.specs.Rules.{constant_found, object_found, built_in_found, name_found, is_inner, with_literal, literal_found, at_address, with_value, indexed, member_of, dotted, target_of, pointed, apply, applied, before_number, left_operand, tells_equal, is_pointer_ahead, ahead, between, cast_fixed, cast_to, and_ends, and_ended, or_ends, or_ended, choose_first, choose_last, choice_found, chosen, and_then, or_else, choose, type_ahead}
 use Rattle.core_soundness.proofs.CodeWalk.{Quiet, quiet_read, quiet_convert, quiet_tested_value, quiet_write, quiet_before, quiet_combined, quiet_changed, quiet_literal, quiet_compare_again, quiet_chosen_by, quiet_choose_last, quiet_argument, quiet_call}
 use Rattle.core_soundness.proofs.Growth.{good, bad, ok_same, never}
 use Rattle.core_soundness.proofs.Choices.{either_way}

@@ -4,44 +4,18 @@ use Rattle.std.proofs.lemmas.Bool.{and_parts, leb-true, eq-eqb}
 use Rattle.std.specs.Option.{option_or}
 use Rattle.std.specs.Ordering.{int_eq}
 use Rattle.std.specs.Prelude.{int_le, nat_le, unsigned_abs}
-use Rattle.hs_base.specs.Place.{block_size}
+use Rattle.core_soundness.proofs.Words.Trees.{Tree, Trees, Leaf, At, Node, none, ◌▹◌, count, AssignOp, BinaryOp, UnaryOp}
+use Rattle.core_soundness.proofs.Words.Types.{PlainType, Void, Array, Struct, Union, Layout, IntType, named, Callee, call, line_of, string, int_constant, char_constant, joined, first_literal, typed, typename, PlainNamed, element, dot, arrow, cast, choice, assigned, changed, unconverted, Checked, refused, then, Table, named_in, found_from, found as declaration, unary, binary, address, PlainTyped, Operand, Number, PointerTo, operand, read, is_null_constant, is_record, constant, StaticTooLarge, Assignment, Folded, Is}
+use Rattle.core_soundness.proofs.Words.Core.{block_size, Start, Atom}
+use Rattle.core_soundness.proofs.Words.Elaborating.{record_assigned, scalar_assigned, old_value, changed_answer, changed_by, one_found, stepped, Argument, types_of, Code, Context, Variable, With, file_variable, literal_object, asked, told, new_label, Found, Fixed, Unknown, Nowhere, Inside, atom_in, code_line, read_spot, read_fixed, valued_from, valued, convert, size_or_zero, unused, name_answer, literal_answer, address_answer, unevaluated, changing, comma_answer, callee, callee_name, parameters, call_answer, found, arguments, cast_operand, Target, InRegister, InMemory, InStatic, static_integer, static_address, static_pointer, static_scalar, fill_scalar, scalar, fill_record, is_same_place, whole, fill_text, is_character, text, by_text, by_expression, parts_of, takes_braces, is_scalar_type, all_surplus, initialize, initialize_parts, not_whole, variable_size, literal_size, static_size, moved_by, moved_times, fixed_sum_of, fixed_sum, combined, offset_of, member_address, reallocates, opened, object_found, built_in_found, name_found, is_inner, with_static, with_literal, literal_found, indexed, dotted, target_of, pointed, before_number, apply, applied, tells_equal, is_pointer_ahead, ahead, left_operand, between, cast_to, constant_found, and_then, and_ended, or_else, or_ended, choose, type_ahead, choose_first, chosen}
 use Rattle.c_types.specs.Types as ct
-use Rattle.c_types.specs.Types.{PlainType, Void, Array, Struct, Union}
-use Rattle.c_types.specs.declared.layouts.Layout.{Layout}
-use Rattle.c_types.specs.declared.types.IntType.{IntType}
-use Rattle.core_tree.specs.declared.program.Start.{Start}
-use Rattle.core_tree.specs.declared.statements.Atom.{Atom}
 use Rattle.c_tree.specs.Forms as f
-use Rattle.c_tree.specs.Tree.{Tree, Trees, Leaf, At, Node, none, ◌▹◌, count}
 use Rattle.c_tree.specs.Words as w
-use Rattle.c_tree.specs.declared.operator.AssignOp.{AssignOp}
 use Rattle.c_tree.specs.declared.operator.AssignOp.TheVariants as a
-use Rattle.c_tree.specs.declared.operator.BinaryOp.{BinaryOp}
 use Rattle.c_tree.specs.declared.operator.BinaryOp.TheVariants as b
-use Rattle.c_tree.specs.declared.operator.UnaryOp.{UnaryOp}
 use Rattle.c_tree.specs.declared.operator.UnaryOp.TheVariants as u
-use Rattle.c_decls.specs.Callees.{named, Callee, call}
-use Rattle.c_decls.specs.Expressions.{line_of, string, int_constant, char_constant, joined, first_literal, typed, typename}
 use Rattle.c_decls.specs.Named as n
-use Rattle.c_decls.specs.Named.{PlainNamed}
-use Rattle.c_decls.specs.PlaceRules.{element, dot, arrow, cast, choice, assigned, changed, unconverted}
-use Rattle.c_decls.specs.Refusals.{Checked, refused, then}
-use Rattle.c_decls.specs.ScopeList.{Table, named_in, found_from, found as declaration}
 use Rattle.c_decls.specs.TypeNames as names
-use Rattle.c_decls.specs.TypeRules.{unary, binary, address}
-use Rattle.c_decls.specs.Typed.{PlainTyped, Operand, Number, PointerTo, operand, read, is_null_constant, is_record, constant}
-use Rattle.c_decls.specs.declared.refusal.TypeKind.TheVariants.{StaticTooLarge, Assignment}
-use Rattle.c_decls.specs.declared.typed.Folded.{Folded}
-use Rattle.c_decls.specs.declared.typed.Folded.TheVariants.{Is}
-use Rattle.elaboration.specs.Assignments.{record_assigned, scalar_assigned, old_value, changed_answer, changed_by, one_found, stepped}
-use Rattle.elaboration.specs.Calls.{Argument, types_of}
-use Rattle.elaboration.specs.Context.{Code, Context, Variable, With, file_variable, literal_object, asked, told, new_label}
-use Rattle.elaboration.specs.Conversions.{Found, Fixed, Unknown, Nowhere, Inside, atom_in, code_line, read_spot, read_fixed, valued_from, valued, convert, size_or_zero, unused}
-use Rattle.elaboration.specs.Expressions.{name_answer, literal_answer, address_answer, unevaluated, changing, comma_answer, callee, callee_name, parameters, call_answer, found, arguments, cast_operand}
-use Rattle.elaboration.specs.Initializers.{Target, InRegister, InMemory, InStatic, static_integer, static_address, static_pointer, static_scalar, fill_scalar, scalar, fill_record, is_same_place, whole, fill_text, is_character, text, by_text, by_expression, parts_of, takes_braces, is_scalar_type, all_surplus, initialize, initialize_parts, not_whole}
-use Rattle.elaboration.specs.Operations.{variable_size, literal_size, static_size, moved_by, moved_times, fixed_sum_of, fixed_sum, combined, offset_of, member_address}
-use Rattle.elaboration.specs.Reallocates.{reallocates, opened}
-use Rattle.elaboration.specs.Rules.{object_found, built_in_found, name_found, is_inner, with_static, with_literal, literal_found, indexed, dotted, target_of, pointed, before_number, apply, applied, tells_equal, is_pointer_ahead, ahead, left_operand, between, cast_to, constant_found, and_then, and_ended, or_else, or_ended, choose, type_ahead, choose_first, chosen}
 use Rattle.core_soundness.proofs.Agreeing.{came}
 use Rattle.core_soundness.proofs.Growth.{Longer, Counted, Grows, grows_refl, grows_trans, grows_told, ok_same, never, Settled, grows_settled, valued_unused, cast_unused, Led, led_ok, led_refused, led_after, led_unless, led_barred, settled_refl, settled_trans, behind_string}
 use Rattle.core_soundness.proofs.Scopes.{more_refl, get_last}

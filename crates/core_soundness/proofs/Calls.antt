@@ -4,55 +4,25 @@ use Rattle.std.proofs.lemmas.List.Concat.{flat_map-cons}
 use Rattle.std.proofs.lemmas.Bool.{and_parts}
 use Rattle.std.specs.List.{flat_map}
 use Rattle.std.specs.Option.{option_or}
-use Rattle.hs_base.specs.Numbers.{width}
-use Rattle.c_types.specs.TagTable.{TagTable}
+use Rattle.core_soundness.proofs.Words.Trees.{Form, Tree, Trees, Leaf, At, Node, none, ◌▹◌, AssignOp}
+use Rattle.core_soundness.proofs.Words.Types.{TagTable, PlainType, PlainTypes, Void, kind_of, built_ins, Callee, Takes, Prints, NoFunction, built_in_callee, function_callee, no_function, built_in_named, built_in_called, callee_at, named, called, call, prints, is_format, suit, suits_type, line_of, first_literal, promoted, PlainNamed, Tag, unconverted, unconverted_types, converts, is_written, changed, changed_types, assigned, all_convert, length_of, Checked, then, unless, named_in, ScopeList, Table, found_from, found as declaration, PlainTyped, Operand, Number, PointerTo, Neither, operand, value, is_scalar, is_record, is_array, is_void, same, has_no_size, read, has_no_value, wanted_value, BuiltIn, NotLvalue, Incomplete, Operands, Assignment, ArgumentCount, Format}
+use Rattle.core_soundness.proofs.Words.Core.{width, pieces_of, Piece, Pointer, Sort, Integer, lib_takes, lib_gives, piece_takes, Reg as Register, Atom, StmKind, Copy, Call, Malloc, Calloc, Realloc, Free, Lib, Printf, Enter, Leave}
+use Rattle.core_soundness.proofs.Words.Elaborating.{plain_name, record_assigned, set_to, scalar_assigned, old_value, change_place, changed_answer, changed_by, one_found, stepped, Argument, types_of, atoms_of, atom_at, rest_types, argument_from, lib_name, result_by, pointer_result, with_format, printing, call_built_in, call_of_built_in, call_named, element_layout, Context, emit, With, Found, Empty, Unknown, found_as, atom_in, code_line, convert, write, valued_from, size_or_zero, Spot, Local, valued, unused, call_answer, parameters as params_of, name_answer, changed_to, operator_of, name_found, is_inner, object_found, built_in_found}
+use Rattle.core_soundness.proofs.Words.Facts.{is_register, NoRegister, TakesAddress, Spoken, AllSpoken, World, world, Holds, Held, StandsAs, Stands, HoldAll, Receives, IsPrinted, Fits, type_sort, param_sorts, result_sort, local_sort, InnerFits, FileFits, NamesFit, TableFits, TablesFit}
 use Rattle.c_types.specs.Types as types
-use Rattle.c_types.specs.Types.{PlainType, PlainTypes, Void, kind_of}
 use Rattle.c_types.specs.declared.types.IntType.TheVariants as i
-use Rattle.c_print.specs.Pieces.{pieces_of}
-use Rattle.c_print.specs.declared.piece.Piece.{Piece}
 use Rattle.c_print.specs.declared.piece.Piece.TheVariants as p
-use Rattle.core_tree.specs.Sorts.{Pointer, Sort, Integer, lib_takes, lib_gives, piece_takes}
-use Rattle.core_tree.specs.declared.program.Reg.{Reg as Register}
-use Rattle.core_tree.specs.declared.statements.Atom.{Atom}
-use Rattle.core_tree.specs.declared.statements.StmKind.{StmKind}
-use Rattle.core_tree.specs.declared.statements.StmKind.TheVariants.{Copy, Call, Malloc, Calloc, Realloc, Free, Lib, Printf, Enter, Leave}
 use Rattle.c_tree.specs.Forms as f
-use Rattle.c_tree.specs.Forms.{Form}
-use Rattle.c_tree.specs.Tree.{Tree, Trees, Leaf, At, Node, none, ◌▹◌}
-use Rattle.c_tree.specs.declared.operator.AssignOp.{AssignOp}
 use Rattle.c_tree.specs.declared.operator.UnaryOp.TheVariants as u
-use Rattle.c_decls.specs.BuiltIns.{built_ins}
-use Rattle.c_decls.specs.Callees.{Callee, Takes, Prints, NoFunction, built_in_callee, function_callee, no_function, built_in_named, built_in_called, callee_at, named, called, call, prints, is_format, suit, suits_type}
-use Rattle.c_decls.specs.Expressions.{line_of, first_literal}
-use Rattle.c_decls.specs.IntegerTypes.{promoted}
 use Rattle.c_decls.specs.Named as n
-use Rattle.c_decls.specs.Named.{PlainNamed, Tag}
 use Rattle.c_decls.specs.PlaceRules as places
-use Rattle.c_decls.specs.PlaceRules.{unconverted, unconverted_types, converts, is_written, changed, changed_types, assigned, all_convert, length_of}
-use Rattle.c_decls.specs.Refusals.{Checked, then, unless}
-use Rattle.c_decls.specs.ScopeList.{named_in, ScopeList, Table, found_from, found as declaration}
-use Rattle.c_decls.specs.Typed.{PlainTyped, Operand, Number, PointerTo, Neither, operand, value, is_scalar, is_record, is_array, is_void, same, has_no_size, read, has_no_value, wanted_value}
-use Rattle.c_decls.specs.declared.built_in.BuiltIn.{BuiltIn}
 use Rattle.c_decls.specs.declared.built_in.BuiltIn.TheVariants as b
-use Rattle.c_decls.specs.declared.refusal.TypeKind.TheVariants.{NotLvalue, Incomplete, Operands, Assignment, ArgumentCount, Format}
-use Rattle.elaboration.specs.Addressed.{plain_name}
-use Rattle.elaboration.specs.Assignments.{record_assigned, set_to, scalar_assigned, old_value, change_place, changed_answer, changed_by, one_found, stepped}
-use Rattle.elaboration.specs.Calls.{Argument, types_of, atoms_of, atom_at, rest_types, argument_from, lib_name, result_by, pointer_result, with_format, printing, call_built_in, call_of_built_in, call_named, element_layout}
-use Rattle.elaboration.specs.Context.{Context, emit, With}
-use Rattle.elaboration.specs.Conversions.{Found, Empty, Unknown, found_as, atom_in, code_line, convert, write, valued_from, size_or_zero, Spot, Local, valued, unused}
-use Rattle.elaboration.specs.Expressions.{call_answer, parameters as params_of, name_answer}
-use Rattle.elaboration.specs.Operations.{changed_to, operator_of}
-use Rattle.elaboration.specs.Rules.{name_found, is_inner, object_found, built_in_found}
-use Rattle.core_soundness.specs.Spoken.{is_register, NoRegister, TakesAddress, Spoken, AllSpoken}
-use Rattle.core_soundness.specs.Worlds.{World, world, Holds, Held, StandsAs, Stands, HoldAll, Receives, IsPrinted, Fits, type_sort, param_sorts, result_sort, local_sort, InnerFits, FileFits, NamesFit}
 use Rattle.core_soundness.proofs.Agreeing.{came, valued_from_rule}
 use Rattle.core_soundness.proofs.Growth.{good, ok_same, never, valued_unused, behind_test}
 use Rattle.core_soundness.proofs.Landing.{in_memory, number_scalar, pointer_scalar}
 use Rattle.core_soundness.proofs.Scopes.{more_refl, get_last, get_left, More, MoreAll, MoreTags, IsNewTag}
 use Rattle.core_soundness.proofs.Sorting.{Goes, goes_trans, goes_emit, Lands, Comes, held_grew, stands_as_grew, stands_grew, Converting, converted, write_goes, old_brings, valued_from_comes, passed, kept_test, unbarred, moved_is, changed_brings, Grew, grew_trans, holds_grew, all_grew, pieces_grew, goes_refl, Gives, gives_integer, gives_pointer, Apart, Sits, lands_sits, unused_comes}
 use Rattle.core_soundness.proofs.Choices.{some_same, not_false}
-use Rattle.core_soundness.specs.Fitting.{TableFits, TablesFit}
 
 -- the sorts of what assignments write (C99 6.5.2.4, 6.5.3.1, 6.5.16)
 

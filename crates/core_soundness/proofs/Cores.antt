@@ -4,30 +4,15 @@ use Rattle.std.proofs.lemmas.List.{length-map}
 use Rattle.std.proofs.lemmas.List.Sums.{sum_by-append, sum_by-cons}
 use Rattle.std.proofs.lemmas.Slice.Eq.{bytes_eq-Decides}
 use Rattle.std.proofs.lemmas.Bool.{and_parts}
-use Rattle.hs_base.specs.Place.{block_size}
-use Rattle.c_types.specs.TagTable.{TagTable}
-use Rattle.c_types.specs.Types.{PlainType, Int, Function, none}
+use Rattle.core_soundness.proofs.Words.Trees.{Trees}
+use Rattle.core_soundness.proofs.Words.Types.{TagTable, PlainType, Int, Function, none, PlainNamed, Checked, then, named_in, same}
+use Rattle.core_soundness.proofs.Words.Core.{block_size, EachFunc, EachStatement, LeadsOn, HasScopes, code_size, is_main, operands, edges, Core, Func, Static, Stm, StmKind, Call, Lib, Printf, Return}
+use Rattle.core_soundness.proofs.Words.Elaborating.{Piece, Does, Here, Context, Walked, Declared, walked, elaborated, piece_length, is_defined, Numbers, numbered, atom_by, point_in, body_of, numbers_of, function_of, variable_static, literal_static, core_of, definition_of, function_by}
+use Rattle.core_soundness.proofs.Words.Facts.{HasFlow, HasSizes, CallsInside}
 use Rattle.c_types.specs.declared.types.IntType.TheVariants as i
-use Rattle.core_tree.specs.Sound.{EachFunc, EachStatement, LeadsOn, HasScopes, code_size, is_main}
-use Rattle.core_tree.specs.Statements.{operands, edges}
-use Rattle.core_tree.specs.declared.program.Core.{Core}
-use Rattle.core_tree.specs.declared.program.Func.{Func}
-use Rattle.core_tree.specs.declared.program.Static.{Static}
-use Rattle.core_tree.specs.declared.statements.Stm.{Stm}
-use Rattle.core_tree.specs.declared.statements.StmKind.{StmKind}
-use Rattle.core_tree.specs.declared.statements.StmKind.TheVariants.{Call, Lib, Printf, Return}
-use Rattle.c_tree.specs.Tree.{Trees}
 use Rattle.c_decls.specs.Named as n
-use Rattle.c_decls.specs.Named.{PlainNamed}
-use Rattle.c_decls.specs.Refusals.{Checked, then}
-use Rattle.c_decls.specs.ScopeList.{named_in}
-use Rattle.c_decls.specs.Typed.{same}
-use Rattle.elaboration.specs.Context.{Piece, Does, Here, Context, Walked, Declared}
-use Rattle.elaboration.specs.Elaboration.{walked, elaborated}
 use Rattle.elaboration.specs.Externals as externals
-use Rattle.elaboration.specs.Externals.{piece_length, is_defined}
-use Rattle.elaboration.specs.Resolving.{Numbers, numbered, atom_by, point_in, body_of, numbers_of, function_of, variable_static, literal_static, plain_name, core_of, definition_of, function_by}
-use Rattle.core_soundness.specs.Laws.{HasFlow, HasSizes, CallsInside}
+use Rattle.elaboration.specs.Resolving.{plain_name}
 use Rattle.core_soundness.proofs.Flows.{steps, stm_at, body_length, inside, ahead, scopes}
 use Rattle.core_soundness.proofs.Growth.{variable_bytes, literal_bytes, ok_same, never}
 use Rattle.core_soundness.proofs.OwnNames.{IsOwn}

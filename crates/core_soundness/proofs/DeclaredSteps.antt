@@ -1,46 +1,26 @@
 -- Declarators and declarations go in step with the walk over addresses.
 use Rattle.std.proofs.Common.{◌≡◌, ◌||◌, ℕ, suc, ℤ, pos, ◌+ℤ◌, false, is_some, length, reverse, List, [], ◌∷◌, ◌++◌, Option, Some, None, Result, Ok, Err, refl, sym, ap, ◌∙◌, subst, Bool, true, cond, IsSome, ◌≤◌, ◌+◌, nat_lt, arith}
 use Rattle.std.specs.Option.{option_or}
-use Rattle.hs_base.specs.Numbers.{wrapped}
-use Rattle.hs_base.specs.declared.ends.IntKind.TheVariants.{I32}
-use Rattle.c_types.specs.TagTable.{TagTable, completion, known}
+use Rattle.core_soundness.proofs.Words.Trees.{Form, shape, name_of, places, name_among, first_name, has_typedef, is_scope, leads_to_name, suffix_params, first_list, params_of, params_among, Tree, Trees, Leaf, At, Node, none, ◌▹◌, count, RecordSort}
+use Rattle.core_soundness.proofs.Words.Types.{TagTable, completion, known, PlainType, PlainTypes, Int, Struct, Union, first, TagError, line_of, typed, wanted, PlainNamed, Checked, then, unless, named_in, innermost, with_name, tag_name, Table, found_from, first_or, Layer, ArrayOf, FunctionOf, word_type, with_new_tag, special_type, array_length, with_layers, with_param_layers, adjusted, has, tag_named, is_void, is_record, is_function, has_no_size, DeclaredTwice, Incomplete, LeftOut}
+use Rattle.core_soundness.proofs.Words.Core.{wrapped, I32}
+use Rattle.core_soundness.proofs.Words.Elaborating.{Taken, left_scope, taken, all_taken, with_known, declare, nothing_taken, params_taken, Context, asked, told, entered, Spot, Storage, Typedef, Outside, is_outside_word, storage_of, specs_alone, specs_before, fill_local, local_object, local_name, name_in, entry, entries, declaration, function_number, with_function, declared_function, constant, with_type, maybe_name, begun_as, completed_by, complete, ended, with_member, member, enumerator, enum_named, is_declared, param, left_params, specs, words_type, tag_type, members, member_names, enumerators, layers, suffix_layers, suffix_layer, params, body_begun, with_init_layers, declared_as, with_param, is_twice, with_local}
+use Rattle.core_soundness.proofs.Words.Facts.{AllSpoken, is_register, World, world, FileFits, Written, AllWritten, TableFits}
 use Rattle.c_types.specs.Types as types
-use Rattle.c_types.specs.Types.{PlainType, PlainTypes, Int, Struct, Union, first}
-use Rattle.c_types.specs.declared.tags.TagError.{TagError}
 use Rattle.c_types.specs.declared.types.IntType.TheVariants as i
 use Rattle.c_tree.specs.Forms as f
-use Rattle.c_tree.specs.Forms.{Form}
-use Rattle.c_tree.specs.Grammar.{shape}
 use Rattle.c_tree.specs.Places as p
-use Rattle.c_tree.specs.Scopes.{name_of, places, name_among, first_name, has_typedef, is_scope, leads_to_name, suffix_params, first_list, params_of, params_among}
-use Rattle.c_tree.specs.Tree.{Tree, Trees, Leaf, At, Node, none, ◌▹◌, count}
 use Rattle.c_tree.specs.Words as w
-use Rattle.c_tree.specs.declared.operator.RecordSort.{RecordSort}
 use Rattle.c_tree.specs.declared.operator.RecordSort.TheVariants as r
-use Rattle.c_decls.specs.Expressions.{line_of, typed, wanted}
 use Rattle.c_decls.specs.Named as n
-use Rattle.c_decls.specs.Named.{PlainNamed}
-use Rattle.c_decls.specs.Refusals.{Checked, then, unless}
-use Rattle.c_decls.specs.ScopeList.{named_in, innermost, with_name, tag_name, Table, found_from, first_or}
 use Rattle.c_decls.specs.TypeNames as names
-use Rattle.c_decls.specs.TypeNames.{Layer, PointerTo, ArrayOf, FunctionOf, word_type, with_new_tag, special_type, array_length, with_layers, with_param_layers, adjusted, has, tag_named}
-use Rattle.c_decls.specs.Typed.{is_void, is_record, is_function, has_no_size}
-use Rattle.c_decls.specs.declared.refusal.TypeKind.TheVariants.{DeclaredTwice, Incomplete, LeftOut}
+use Rattle.c_decls.specs.TypeNames.{PointerTo}
 use Rattle.elaboration.specs.Addressed as walk
-use Rattle.elaboration.specs.Addressed.{Taken, left_scope, left, taken, all_taken, with_known, declare, nothing_taken, params_taken}
+use Rattle.elaboration.specs.Addressed.{left}
 use Rattle.elaboration.specs.Context as context
-use Rattle.elaboration.specs.Context.{Context, asked, told, entered}
-use Rattle.elaboration.specs.Conversions.{Spot}
 use Rattle.elaboration.specs.Declarations as storages
-use Rattle.elaboration.specs.Declarations.{Storage, Typedef, Outside, is_outside_word, storage_of, specs_alone, specs_before, fill_local, local_object, local_name, name_in, entry, entries, declaration, function_number, with_function, declared_function}
 use Rattle.elaboration.specs.Declarators as d
-use Rattle.elaboration.specs.Declarators.{constant, with_type, maybe_name, begun_as, begun, completed_by, complete, ended, with_member, member, enumerator, enum_named, is_declared, param, left_params, specs, words_type, tag_type, members, member_names, enumerators, layers, suffix_layers, suffix_layer, params}
-use Rattle.elaboration.specs.Externals.{body_begun}
-use Rattle.elaboration.specs.Initializers.{with_init_layers}
-use Rattle.elaboration.specs.Locals.{declared_as, with_param, is_twice, with_local}
-use Rattle.core_soundness.specs.Spoken.{AllSpoken, is_register}
-use Rattle.core_soundness.specs.Worlds.{World, world, FileFits}
-use Rattle.core_soundness.specs.Written.{Written, AllWritten}
+use Rattle.elaboration.specs.Declarators.{begun}
 use Rattle.core_soundness.proofs.Agreeing.{came}
 use Rattle.core_soundness.proofs.Declaring.{tail_depth}
 use Rattle.core_soundness.proofs.Formed.{NoNodes, OneNode, IsLayer, AreLayers, IsSuffix, AreSuffixes, Shaped, Formed, AllFormed, of_typedefs, NoInits}
@@ -55,7 +35,6 @@ use Rattle.core_soundness.proofs.Steps.{with_one, IsNew, plain_stepped, param_st
 use Rattle.core_soundness.proofs.TagSorts.{typed_after, wanted_after, special_after, tag_after}
 use Rattle.core_soundness.proofs.Taking.{among, Keeps, Follows, Stepped, each, SameNames, Calm, still_names, all_still_names, left_names, no_nodes_still, Has, Inside, taken_adds, InStep, as_before, Numbered, file_none}
 use Rattle.core_soundness.proofs.Choices.{either_way, some_same}
-use Rattle.core_soundness.specs.Fitting.{TableFits}
 
 -- specs, tags with braces and declarators go in step (C99 6.7.2, 6.7.5)
 

@@ -2,54 +2,17 @@
 use Rattle.std.proofs.Common.{◌≡◌, ◌≤◌, ◌+◌, ◌*◌, not, ℕ, Bool, true, false, cond, take, List, [], ◌∷◌, Option, Some, None, Ok, refl, sym, ap, ◌∙◌, subst, arith, length-take, ◌<◌, ◌++◌, ◌==◌, ◌&&◌, is_some, nat_lt, codes, All, length, slice_get, slice_set, unwrap_or, ⊎_elim, bytes_eq}
 use Rattle.std.proofs.lemmas.Bool.{ltb-true, ltb-false, eqb-true}
 use Rattle.std.specs.List.{find}
-use Rattle.hs_base.specs.Numbers.{low_bits}
-use Rattle.hs_base.specs.Place.{block_size}
+use Rattle.core_soundness.proofs.Words.Trees.{name_of, Tree, Trees, At, Node, none, ◌▹◌, count}
+use Rattle.core_soundness.proofs.Words.Types.{layout_of, number_layout, pointer_layout, array_layout, Known, no_layout, CompletedTag, known, TagTable, layout_in, PlainType, Void, Int, Pointer, Array, Struct, Union, Function, width_of, Layout, TagInfo, IntType, built_ins, numbered_from, line_of, typed, string, PlainNamed, unconverted, refused, then, unless, Table, named_in, is_null_constant, is_function, has_no_size, same, BuiltIn, Assignment, DeclaredTwice, Incomplete, StaticTooLarge, Undeclared, NoMain, Folded, Is}
+use Rattle.core_soundness.proofs.Words.Core.{low_bits, block_size, IsStatic, Core, Start}
+use Rattle.core_soundness.proofs.Words.Elaborating.{addressed_in, Code, Context, asked, Variable, Declared, first_context, Found, Fixed, Unknown, Nowhere, Inside, valued, size_or_zero, Storage, Typedef, storage_of, specs_before, declared_function, no_initializer, variable_number_of, with_new_variable, with_variable, start_of, start_in, started_variable, fill_variable, file_object, file_function, file_value, file_name, name_in, entry, entries, declaration, layers, walked, elaborated, found, begun, is_defined, external, externals, calls_defined, is_main, Target, InRegister, InMemory, InStatic, bytes_of, static_integer, static_address, static_pointer, static_scalar, fill_scalar, scalar, fill_record, is_same_place, whole, fill_text, is_character, text, by_text, by_expression, parts_of, takes_braces, is_scalar_type, all_surplus, initialize, initialize_parts, not_whole, surplus, no_start, with_init_layers, is_twice_in, declared_as, reallocates, opened, core_of, with_static}
+use Rattle.core_soundness.proofs.Words.Facts.{HasLayouts, Solid, TableFits, Whole, Written, AllWritten, AreWritten}
 use Rattle.c_types.proofs.MemberLemmas.{some_array, Extends, layout_stays}
-use Rattle.c_types.specs.Layouts.{layout_of, number_layout, pointer_layout, array_layout, Known, no_layout}
-use Rattle.c_types.specs.TagTable.{CompletedTag, known, TagTable, layout_in}
-use Rattle.c_types.specs.Types.{PlainType, Void, Int, Pointer, Array, Struct, Union, Function, width_of}
-use Rattle.c_types.specs.declared.layouts.Layout.{Layout}
-use Rattle.c_types.specs.declared.tags.TagInfo.{TagInfo}
-use Rattle.c_types.specs.declared.types.IntType.{IntType}
 use Rattle.c_types.specs.declared.types.IntType.TheVariants as i
-use Rattle.core_tree.specs.Sound.{IsStatic}
-use Rattle.core_tree.specs.declared.program.Core.{Core}
-use Rattle.core_tree.specs.declared.program.Start.{Start}
 use Rattle.c_tree.specs.Forms as f
-use Rattle.c_tree.specs.Scopes.{name_of}
-use Rattle.c_tree.specs.Tree.{Tree, Trees, At, Node, none, ◌▹◌, count}
 use Rattle.c_decls.proofs.SameTypes.{same_equal}
 use Rattle.c_decls.specs.BuiltIns as names
-use Rattle.c_decls.specs.BuiltIns.{built_ins, numbered_from}
-use Rattle.c_decls.specs.Expressions.{line_of, typed, string}
 use Rattle.c_decls.specs.Named as n
-use Rattle.c_decls.specs.Named.{PlainNamed}
-use Rattle.c_decls.specs.PlaceRules.{unconverted}
-use Rattle.c_decls.specs.Refusals.{refused, then, unless}
-use Rattle.c_decls.specs.ScopeList.{Table, named_in}
-use Rattle.c_decls.specs.Typed.{is_null_constant, is_function, has_no_size, same}
-use Rattle.c_decls.specs.declared.built_in.BuiltIn.{BuiltIn}
-use Rattle.c_decls.specs.declared.refusal.TypeKind.TheVariants.{Assignment, DeclaredTwice, Incomplete, StaticTooLarge, Undeclared, NoMain}
-use Rattle.c_decls.specs.declared.typed.Folded.{Folded}
-use Rattle.c_decls.specs.declared.typed.Folded.TheVariants.{Is}
-use Rattle.elaboration.specs.Addressed.{addressed_in}
-use Rattle.elaboration.specs.Context.{Code, Context, asked, Variable, Declared, first_context}
-use Rattle.elaboration.specs.Conversions.{Found, Fixed, Unknown, Nowhere, Inside, valued, size_or_zero}
-use Rattle.elaboration.specs.Declarations.{Storage, Typedef, storage_of, specs_before, declared_function, no_initializer, variable_number_of, with_new_variable, with_variable, start_of, start_in, started_variable, fill_variable, file_object, file_function, file_value, file_name, name_in, entry, entries, declaration}
-use Rattle.elaboration.specs.Declarators.{layers}
-use Rattle.elaboration.specs.Elaboration.{walked, elaborated}
-use Rattle.elaboration.specs.Expressions.{found}
-use Rattle.elaboration.specs.Externals.{begun, is_defined, external, externals, calls_defined, is_main}
-use Rattle.elaboration.specs.Initializers.{Target, InRegister, InMemory, InStatic, bytes_of, static_integer, static_address, static_pointer, static_scalar, fill_scalar, scalar, fill_record, is_same_place, whole, fill_text, is_character, text, by_text, by_expression, parts_of, takes_braces, is_scalar_type, all_surplus, initialize, initialize_parts, not_whole, surplus, no_start, with_init_layers}
-use Rattle.elaboration.specs.Locals.{is_twice_in, declared_as}
-use Rattle.elaboration.specs.Reallocates.{reallocates, opened}
-use Rattle.elaboration.specs.Resolving.{core_of}
-use Rattle.elaboration.specs.Rules.{with_static}
-use Rattle.core_soundness.specs.Laws.{HasLayouts}
-use Rattle.core_soundness.specs.Solid.{Solid}
-use Rattle.core_soundness.specs.Fitting.{TableFits}
-use Rattle.core_soundness.specs.Whole.{Whole}
-use Rattle.core_soundness.specs.Written.{Written, AllWritten, AreWritten}
 use Rattle.core_soundness.proofs.Agreeing.{valued_agrees, found_agrees, came}
 use Rattle.core_soundness.proofs.Aiming.{VariablesStay, There, initialize_points}
 use Rattle.core_soundness.proofs.Cores.{behind as core_behind}

@@ -2,16 +2,8 @@
 use Rattle.std.proofs.Common.{◌≡◌, ◌⊎◌, ◌≤◌, ◌<◌, ◌+◌, ℕ, false, cond, nat_eq, List, [], ◌∷◌, ◌++◌, refl, sym, ap, ◌∙◌, subst, arith, inl, inr, eq-eqb, ne_eqb, ◌-◌, zero, suc, Bool, true, length, Option, Some, option_map, slice_get, slice_index_or, All, Contains, ⊎_elim, eqb-true, true≢false}
 use Rattle.std.proofs.lemmas.Bool.{false≢true, eqb-false}
 use Rattle.std.proofs.lemmas.List.Elements.{All-nil, All-cons}
-use Rattle.core_tree.specs.Sound.{EachStatement, LeadsOn, HasScopes, Opens, start, goes, scopes_after}
-use Rattle.core_tree.specs.Statements.{edges, edges_of_lib}
-use Rattle.core_tree.specs.declared.statements.Atom.{Atom}
-use Rattle.core_tree.specs.declared.statements.LibName.{LibName}
-use Rattle.core_tree.specs.declared.statements.LibName.TheVariants.{Exit, Abort}
-use Rattle.core_tree.specs.declared.statements.Stm.{Stm}
-use Rattle.core_tree.specs.declared.statements.StmKind.{StmKind}
-use Rattle.core_tree.specs.declared.statements.StmKind.TheVariants.{Jump, Zero, Case, Loop, Enter, Leave, Return, Lib}
-use Rattle.elaboration.specs.Context.{Piece, Does, Here}
-use Rattle.elaboration.specs.Resolving.{Numbers, numbered, atom_by, point_in, body_of}
+use Rattle.core_soundness.proofs.Words.Core.{EachStatement, LeadsOn, HasScopes, Opens, start, goes, scopes_after, edges, edges_of_lib, Atom, LibName, Exit, Abort, Stm, StmKind, Jump, Zero, Case, Loop, Enter, Leave, Return, Lib}
+use Rattle.core_soundness.proofs.Words.Elaborating.{Piece, Does, Here, Numbers, numbered, atom_by, point_in, body_of}
 
 -- the flow of control through pieces of code: where the labels stand, and how many scopes are open there
 

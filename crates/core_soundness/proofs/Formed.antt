@@ -3,29 +3,14 @@ use Rattle.std.proofs.Common.{◌≡◌, Bool, true, false, IsSome, ◌⊎◌, r
 use Rattle.std.proofs.lemmas.Bool.{eqb-true, and_parts}
 use Rattle.std.proofs.lemmas.List.Elements.{All-tail}
 use Rattle.std.proofs.lemmas.Bool.{false≢true}
+use Rattle.core_soundness.proofs.Words.Trees.{IsToken, IsLexed, Token, TokenKind, Takes, IsBase, IsDeclarator, Allowed, AllAllowed, IsExternal, AreExternals, Tally, with_keyword, with_word, tally, is_integer_type, is_one_type, are_specs, obeys, is_none, Form, Item, Says, Here, Part, key, shape, form_home, keyword_home, home, rows, some, commas, behind_commas, some_commas, expr, cond_level, HasTree, Place, Expression, name_of, has_typedef, params_of, Scope, leads_to_name, places, params_among, suffix_params, first_list, first_scope, is_scope, after, left, Piece, Said, Line, filled, spell, spell_all, IsWord, Spells, Tree, Trees, Leaf, At, Node, none, ◌▹◌, count, Word, Keyword}
+use Rattle.core_soundness.proofs.Words.Facts.{HasLists, HasParameters, IsDefinition, WordNames, Names, AllNames, IsHeld, HasParts, Written, AllWritten, Each, AreWritten}
 use Rattle.c_lexer.proofs.Constants.{constant_read}
-use Rattle.c_lexer.specs.Pieces.{IsToken}
-use Rattle.c_lexer.specs.Tokens.{IsLexed}
-use Rattle.c_lexer.specs.declared.token.Token.{Token}
-use Rattle.c_lexer.specs.declared.token.TokenKind.{TokenKind}
 use Rattle.c_lexer.specs.declared.token.TokenKind.TheVariants as kind
-use Rattle.c_tree.specs.Allowed.{Takes, IsBase, IsDeclarator, Allowed, AllAllowed, IsExternal, AreExternals, Tally, with_keyword, with_word, tally, is_integer_type, is_one_type, are_specs, obeys, is_none}
 use Rattle.c_tree.specs.Forms as f
-use Rattle.c_tree.specs.Forms.{Form}
-use Rattle.c_tree.specs.Grammar.{Item, Says, Here, Part, key, shape, form_home, keyword_home, home, rows, some, commas, behind_commas, some_commas, expr, cond_level}
-use Rattle.c_tree.specs.HasTree.{HasTree}
 use Rattle.c_tree.specs.Places as p
-use Rattle.c_tree.specs.Places.{Place, Expression}
-use Rattle.c_tree.specs.Scopes.{name_of, has_typedef, params_of, Scope, leads_to_name, places, params_among, suffix_params, first_list, first_scope, is_scope, after, left}
-use Rattle.c_tree.specs.Spelling.{Piece, Said, Line, filled, spell, spell_all, IsWord, Spells}
-use Rattle.c_tree.specs.Tree.{Tree, Trees, Leaf, At, Node, none, ◌▹◌, count}
 use Rattle.c_tree.specs.Words as w
-use Rattle.c_tree.specs.Words.{Word}
-use Rattle.c_tree.specs.declared.word.Keyword.{Keyword}
 use Rattle.c_tree.specs.declared.word.Keyword.TheVariants as k
-use Rattle.core_soundness.specs.Spoken.{HasLists, HasParameters, IsDefinition}
-use Rattle.core_soundness.specs.Texts.{WordNames, Names, AllNames}
-use Rattle.core_soundness.specs.Written.{IsHeld, HasParts, Written, AllWritten, Each, AreWritten}
 
 -- the shapes of trees that the walk over addresses stands on: what elaboration does not look at has no nodes, and nothing stands where a declarator or a suffix is looked for but one of these
 

@@ -1,11 +1,10 @@
 -- Each function of a core is sound, and so is the core.
 use Rattle.std.proofs.Common.{◌≡◌, Ok}
-use Rattle.c_types.specs.TagTable.{TagTable}
-use Rattle.core_tree.specs.Sound.{EachFunc, IsFunction, IsSound}
-use Rattle.core_tree.specs.declared.program.Core.{Core}
-use Rattle.c_tree.specs.Tree.{Trees}
-use Rattle.elaboration.specs.Elaboration.{elaborated}
-use Rattle.core_soundness.specs.Texts.{IsOfTexts}
+use Rattle.core_soundness.proofs.Words.Trees.{Trees}
+use Rattle.core_soundness.proofs.Words.Types.{TagTable}
+use Rattle.core_soundness.proofs.Words.Core.{EachFunc, IsFunction, IsSound, Core}
+use Rattle.core_soundness.proofs.Words.Elaborating.{elaborated}
+use Rattle.core_soundness.proofs.Words.Facts.{IsOfTexts}
 use Rattle.core_soundness.proofs.Cores.{core_flows, core_sizes}
 use Rattle.core_soundness.proofs.FittedTexts.{core_statics}
 use Rattle.core_soundness.proofs.NearTexts.{core_short}

@@ -2,49 +2,25 @@
 use Rattle.std.proofs.Common.{◌≡◌, ◌+◌, ℕ, true, false, List, [], ◌∷◌, ◌++◌, reverse, Some, Ok, Err, refl, sym, ap, ◌∙◌, subst, arith, ◌||◌, Bool, Option, None, zero, suc, not, length, ⊎_elim}
 use Rattle.std.proofs.lemmas.Bool.{eq-eqb}
 use Rattle.std.specs.Option.{option_or}
-use Rattle.c_types.specs.TagTable.{TagTable}
+use Rattle.core_soundness.proofs.Words.Trees.{Form, shape, assign_level, Place, Expression, places, is_scope, Tree, Trees, Leaf, At, Node, none, ◌▹◌, count}
+use Rattle.core_soundness.proofs.Words.Types.{TagTable, PlainType, Void, IntType, call, no_function, Found, line_of, answered, wanted, changing, one, two, callee, first_literal, typed, values, typename, layers, suffix_layers, suffix_layer, param_types, in_new_scope, out_of_scope, unused, cast_operand, constant_from, promoted, PlainNamed, element, choice, assigned, changed, behind_comma, size, cast, converts, unconverted, Checked, then, ScopeList, found, Table, named_in, found_from, Context, Layer, ArrayOf, FunctionOf, special_type, specs_type, array_length, with_layers, address, unary, binary, PlainTyped, is_function, Operand, Number, operand, is_scalar, is_void, Constant, LeftOut, Operands, Assignment}
+use Rattle.core_soundness.proofs.Words.Core.{Atom, StmKind, Zero, Leave, Return}
+use Rattle.core_soundness.proofs.Words.Elaborating.{Taken, Known, number_of, plain_name, with_number, with_address, left_part, taken, all_taken, asked, Context as TextContext, told, emit, anew, valued, unused as unused_value, Found as FoundCode, atom_in, code_line, convert_integer, tested_value, convert, constant, opened, reallocates, closed, evaluated, maybe_evaluated, condition, leaves_if_zero, maybe_leaves, return_of, return_from, switch_operand, closed_atom, switch_operand_of, leaves, returned, return_value}
+use Rattle.core_soundness.proofs.Words.Facts.{is_register, NoRegister, TakesAddress, Spoken, AllSpoken, Written, AllWritten}
 use Rattle.c_types.specs.Types as ct
-use Rattle.c_types.specs.Types.{PlainType, Void}
-use Rattle.c_types.specs.declared.types.IntType.{IntType}
-use Rattle.core_tree.specs.declared.statements.Atom.{Atom}
-use Rattle.core_tree.specs.declared.statements.StmKind.{StmKind}
-use Rattle.core_tree.specs.declared.statements.StmKind.TheVariants.{Zero, Leave, Return}
 use Rattle.c_tree.specs.Forms as f
-use Rattle.c_tree.specs.Forms.{Form}
-use Rattle.c_tree.specs.Grammar.{shape, assign_level}
 use Rattle.c_tree.specs.Places as p
-use Rattle.c_tree.specs.Places.{Place, Expression}
-use Rattle.c_tree.specs.Scopes.{places, is_scope}
-use Rattle.c_tree.specs.Tree.{Tree, Trees, Leaf, At, Node, none, ◌▹◌, count}
 use Rattle.c_tree.specs.Words as w
 use Rattle.c_tree.specs.declared.operator.AssignOp.TheVariants as a
 use Rattle.c_tree.specs.declared.operator.UnaryOp.TheVariants as u
-use Rattle.c_decls.specs.Callees.{call, no_function}
-use Rattle.c_decls.specs.Expressions.{Found, line_of, answered, wanted, changing, one, two, callee, first_literal, typed, values, typename, layers, suffix_layers, suffix_layer, param_types, in_new_scope, out_of_scope, unused, cast_operand, constant_from}
-use Rattle.c_decls.specs.IntegerTypes.{promoted}
-use Rattle.c_decls.specs.Named.{PlainNamed}
 use Rattle.c_decls.specs.PlaceRules as rules
-use Rattle.c_decls.specs.PlaceRules.{element, choice, assigned, changed, behind_comma, size, cast, converts, unconverted}
-use Rattle.c_decls.specs.Refusals.{Checked, then}
 use Rattle.c_decls.specs.ScopeList as scopes
-use Rattle.c_decls.specs.ScopeList.{ScopeList, found, Table, named_in, found_from}
 use Rattle.c_decls.specs.TypeNames as names
-use Rattle.c_decls.specs.TypeNames.{Context, Layer, PointerTo, ArrayOf, FunctionOf, special_type, specs_type, array_length, with_layers}
-use Rattle.c_decls.specs.TypeRules.{address, unary, binary}
-use Rattle.c_decls.specs.Typed.{PlainTyped, is_function, Operand, Number, operand, is_scalar, is_void}
-use Rattle.c_decls.specs.declared.constant.Constant.{Constant}
-use Rattle.c_decls.specs.declared.refusal.TypeKind.TheVariants.{LeftOut, Operands, Assignment}
-use Rattle.elaboration.specs.Addressed.{Taken, Known, number_of, plain_name, with_number, with_address, left, left_part, taken, all_taken}
+use Rattle.c_decls.specs.TypeNames.{PointerTo}
+use Rattle.elaboration.specs.Addressed.{left}
 use Rattle.elaboration.specs.Context as elaboration
-use Rattle.elaboration.specs.Context.{asked, Context as TextContext, told, emit, anew}
 use Rattle.elaboration.specs.Conversions as conversions
-use Rattle.elaboration.specs.Conversions.{valued, unused as unused_value, Found as FoundCode, atom_in, code_line, convert_integer, tested_value, convert}
-use Rattle.elaboration.specs.Declarators.{constant}
 use Rattle.elaboration.specs.Expressions as expressions
-use Rattle.elaboration.specs.Reallocates.{opened, reallocates, closed}
-use Rattle.elaboration.specs.Statements.{evaluated, maybe_evaluated, condition, leaves_if_zero, maybe_leaves, return_of, return_from, switch_operand, closed_atom, switch_operand_of, leaves, returned, return_value}
-use Rattle.core_soundness.specs.Spoken.{is_register, NoRegister, TakesAddress, Spoken, AllSpoken}
-use Rattle.core_soundness.specs.Written.{Written, AllWritten}
 use Rattle.core_soundness.proofs.Agreeing.{came, found_agrees}
 use Rattle.core_soundness.proofs.Formed.{NoNodes, OneNode, IsLayer, Shaped, Formed, AllFormed, behind_stars}
 use Rattle.core_soundness.proofs.Growth.{good, ok_same, never, type_cast_unused, valued_unused, Grows, grows_refl, behind_test}

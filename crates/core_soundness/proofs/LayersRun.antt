@@ -1,27 +1,16 @@
 -- What declarators, specs and prototypes do to what fits.
 use Rattle.std.proofs.Common.{◌≡◌, ℕ, ◌+◌, Bool, true, false, cond, is_some, nat_lt, List, [], ◌∷◌, length, Option, Some, None, ◌≤◌, refl, ap, ◌∙◌, arith, ◌<◌, not, option_map, sym, subst, ⊎_elim, length-append, zero, suc, ◌||◌, ◌++◌, slice_get, unwrap_or, Ok}
 use Rattle.std.proofs.lemmas.Bool.{ltb-false}
-use Rattle.c_types.specs.Layouts.{no_layout}
-use Rattle.c_types.specs.TagTable.{TagTable, layout_in}
-use Rattle.c_types.specs.Types.{PlainType, Int, PlainTypes, Pointer}
+use Rattle.core_soundness.proofs.Words.Trees.{Tree, Trees}
+use Rattle.core_soundness.proofs.Words.Types.{no_layout, TagTable, layout_in, PlainType, Int, PlainTypes, Pointer, PlainNamed, Checked, ScopeList, Table, named_in, innermost, with_name, tag_name, after_declaration, first_or, is_scalar, DeclaredTwice}
+use Rattle.core_soundness.proofs.Words.Core.{Sort, sort_of, Reg as Register}
+use Rattle.core_soundness.proofs.Words.Elaborating.{Context, Running, told, entered, Code, Variable, asked, local_register, Spot, Memory, left_params, specs, layers, params, constant, with_type, suffix_layers, suffix_layer, counted, with_named, prototype_param, function_param, is_prototype, with_param, is_pointer, is_twice, declared_as, next_is_memory, with_register, with_memory, memory_param, register_param, local_in, with_local}
+use Rattle.core_soundness.proofs.Words.Facts.{World, world, local_sort, type_sort, is_local, Held, StandsAs, InnerFits, FileFits, NamesFit, PiecesFit, TablesFit}
 use Rattle.c_types.specs.declared.types.IntType.TheVariants as i
-use Rattle.core_tree.specs.Sorts.{Sort, sort_of}
-use Rattle.core_tree.specs.declared.program.Reg.{Reg as Register}
 use Rattle.core_tree.specs.declared.statements.Atom.TheVariants as atom
-use Rattle.c_tree.specs.Tree.{Tree, Trees}
 use Rattle.c_decls.specs.Named as n
-use Rattle.c_decls.specs.Named.{PlainNamed}
-use Rattle.c_decls.specs.Refusals.{Checked}
 use Rattle.c_decls.specs.ScopeList as scopes
-use Rattle.c_decls.specs.ScopeList.{ScopeList, Table, named_in, innermost, with_name, tag_name, after_declaration, first_or}
 use Rattle.c_decls.specs.TypeNames as names
-use Rattle.c_decls.specs.Typed.{is_scalar}
-use Rattle.c_decls.specs.declared.refusal.TypeKind.TheVariants.{DeclaredTwice}
-use Rattle.elaboration.specs.Context.{Context, Running, told, entered, Code, Variable, asked, local_register}
-use Rattle.elaboration.specs.Conversions.{Spot, Memory}
-use Rattle.elaboration.specs.Declarators.{left_params, specs, layers, params, constant, with_type, suffix_layers, suffix_layer}
-use Rattle.elaboration.specs.Locals.{counted, with_named, prototype_param, function_param, is_prototype, with_param, is_pointer, is_twice, declared_as, next_is_memory, with_register, with_memory, memory_param, register_param, local_in, with_local}
-use Rattle.core_soundness.specs.Worlds.{World, world, local_sort, type_sort, is_local, Held, StandsAs, InnerFits, FileFits, NamesFit, PiecesFit}
 use Rattle.core_soundness.proofs.Calls.{names_more, sort_kept}
 use Rattle.core_soundness.proofs.Declaring.{tail_depth}
 use Rattle.core_soundness.proofs.Growth.{Reached, reached_ok, reached_after, Led, led_ok, led_unless}
@@ -31,7 +20,6 @@ use Rattle.core_soundness.proofs.Sorting.{Grew, grew_refl, pieces_grew, goes_tol
 use Rattle.core_soundness.proofs.TagSorts.{After}
 use Rattle.core_soundness.proofs.Walks.{Steps, specs_keep, layers_keep, params_keep, constant_keeps, tagging, suffixes_keep, suffix_keeps}
 use Rattle.core_soundness.proofs.Choices.{either_way}
-use Rattle.core_soundness.specs.Fitting.{TablesFit}
 
 -- parts that stand inside a scope: their parameter lists are those of prototypes, of which nothing is made (C99 6.2.1)
 

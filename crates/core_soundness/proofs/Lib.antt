@@ -42,3 +42,4 @@ mod Typing
 mod Renamed
 pub mod Texts
 mod Functions
+mod Words

@@ -2,43 +2,18 @@
 use Rattle.std.proofs.Common.{◌≡◌, ◌≤◌, ◌<◌, ◌+◌, ℕ, pos, Bool, true, false, cond, min, take, length, List, [], ◌∷◌, Option, Some, None, Ok, refl, sym, subst, arith, zero, suc, nat_lt, is_some, ◌++◌, slice_get, slice_set, unwrap_or, ap, ◌∙◌, bytes_eq, length-append}
 use Rattle.std.proofs.lemmas.Bool.{ltb-true}
 use Rattle.std.specs.Option.{option_or}
-use Rattle.hs_base.specs.Place.{block_size}
-use Rattle.c_types.specs.Layouts.{no_layout}
-use Rattle.c_types.specs.TagTable.{layout_in}
+use Rattle.core_soundness.proofs.Words.Trees.{name_of, Tree, Trees, At, Node, none, ◌▹◌, count, Leaf}
+use Rattle.core_soundness.proofs.Words.Types.{no_layout, layout_in, PlainType, Array, Struct, Union, Function, line_of, PlainNamed, unconverted, Checked, refused, then, unless, ScopeList, Table, named_in, innermost, with_name, after_declaration, tag_name, Layer, tag_named, is_record, same, is_function, has_no_size, Assignment, DeclaredTwice, Incomplete, LeftOut, StaticTooLarge}
+use Rattle.core_soundness.proofs.Words.Core.{block_size, Pointer, Sort, Integer, Start, Atom, Off, Copy, Set, Clear}
+use Rattle.core_soundness.proofs.Words.Elaborating.{Context, emit, Variable, asked, Found, Local, Memory, atom_in, code_line, valued, convert, write, size_or_zero, Spot, Storage, storage_of, specs_before, fill_local, entry, Typedef, Outside, specs_alone, zero_of, cleared, fill_memory, fill_register, fill_at, local_object, local_name, function_number, with_function, declared_function, no_initializer, variable_number_of, with_new_variable, with_variable, start_of, start_in, started_variable, started, fill_variable, file_object, file_function, file_value, file_name, name_in, entries, declaration, layers, found, Target, InRegister, InMemory, InStatic, static_scalar, member_place, store_at, fill_scalar, scalar, copy_to, fill_record, is_same_place, whole, fill_text, is_character, text, by_text, by_expression, parts_of, takes_braces, is_scalar_type, all_surplus, initialize, initialize_parts, with_bytes, with_init_layers, surplus, no_start, with_local, is_twice, declared_as, opened, closed, with_literal, with_static}
+use Rattle.core_soundness.proofs.Words.Facts.{Spoken, AllSpoken, World, world, Holds, StandsAs, Stands, NamesFit, InnerFits, FileFits, Written, AllWritten, TablesFit}
 use Rattle.c_types.specs.Types as types
-use Rattle.c_types.specs.Types.{PlainType, Array, Struct, Union, Function}
-use Rattle.core_tree.specs.Sorts.{Pointer, Sort, Integer}
-use Rattle.core_tree.specs.declared.program.Start.{Start}
-use Rattle.core_tree.specs.declared.statements.Atom.{Atom}
 use Rattle.core_tree.specs.declared.statements.Atom.TheVariants as atom
-use Rattle.core_tree.specs.declared.statements.StmKind.TheVariants.{Off, Copy, Set, Clear}
 use Rattle.c_tree.specs.Forms as f
-use Rattle.c_tree.specs.Scopes.{name_of}
-use Rattle.c_tree.specs.Tree.{Tree, Trees, At, Node, none, ◌▹◌, count, Leaf}
 use Rattle.c_tree.specs.Words as w
-use Rattle.c_decls.specs.Expressions.{line_of}
 use Rattle.c_decls.specs.Named as n
-use Rattle.c_decls.specs.Named.{PlainNamed}
-use Rattle.c_decls.specs.PlaceRules.{unconverted}
-use Rattle.c_decls.specs.Refusals.{Checked, refused, then, unless}
 use Rattle.c_decls.specs.ScopeList as scopes
-use Rattle.c_decls.specs.ScopeList.{ScopeList, Table, named_in, innermost, with_name, after_declaration, tag_name}
-use Rattle.c_decls.specs.TypeNames.{Layer, tag_named}
-use Rattle.c_decls.specs.Typed.{is_record, same, is_function, has_no_size}
-use Rattle.c_decls.specs.declared.refusal.TypeKind.TheVariants.{Assignment, DeclaredTwice, Incomplete, LeftOut, StaticTooLarge}
-use Rattle.elaboration.specs.Context.{Context, emit, Variable, asked}
-use Rattle.elaboration.specs.Conversions.{Found, Local, Memory, atom_in, code_line, valued, convert, write, size_or_zero, Spot}
 use Rattle.elaboration.specs.Declarations as storages
-use Rattle.elaboration.specs.Declarations.{Storage, storage_of, specs_before, fill_local, entry, Typedef, Outside, specs_alone, zero_of, cleared, fill_memory, fill_register, fill_at, local_object, local_name, function_number, with_function, declared_function, no_initializer, variable_number_of, with_new_variable, with_variable, start_of, start_in, started_variable, started, fill_variable, file_object, file_function, file_value, file_name, name_in, entries, declaration}
-use Rattle.elaboration.specs.Declarators.{layers}
-use Rattle.elaboration.specs.Expressions.{found}
-use Rattle.elaboration.specs.Initializers.{Target, InRegister, InMemory, InStatic, static_scalar, member_place, store_at, fill_scalar, scalar, copy_to, fill_record, is_same_place, whole, fill_text, is_character, text, by_text, by_expression, parts_of, takes_braces, is_scalar_type, all_surplus, initialize, initialize_parts, with_bytes, with_init_layers, surplus, no_start}
-use Rattle.elaboration.specs.Locals.{with_local, is_twice, declared_as}
-use Rattle.elaboration.specs.Reallocates.{opened, closed}
-use Rattle.elaboration.specs.Rules.{with_literal, with_static}
-use Rattle.core_soundness.specs.Spoken.{Spoken, AllSpoken}
-use Rattle.core_soundness.specs.Worlds.{World, world, Holds, StandsAs, Stands, NamesFit, InnerFits, FileFits}
-use Rattle.core_soundness.specs.Written.{Written, AllWritten}
 use Rattle.core_soundness.proofs.Agreeing.{came}
 use Rattle.core_soundness.proofs.Calls.{converting_of, same_record, names_more, all_spoken_more}
 use Rattle.core_soundness.proofs.Growth.{good, bad, ok_same, never, behind_string, behind_test}
@@ -49,7 +24,6 @@ use Rattle.core_soundness.proofs.Sitting.{opened_rests, closed_goes, Evaluates, 
 use Rattle.core_soundness.proofs.Sorting.{Grew, holds_grew, Goes, goes_refl, goes_trans, goes_emit, gives_pointer, Gives, held_grew, stands_as_grew, converted, write_goes, kept_test, unbarred, grew_refl, pieces_grew, passed}
 use Rattle.core_soundness.proofs.TagSorts.{tag_after}
 use Rattle.core_soundness.proofs.Choices.{either_way, three_parts, not_false}
-use Rattle.core_soundness.specs.Fitting.{TablesFit}
 
 -- what initializers do to what fits (C99 6.7.8)
 

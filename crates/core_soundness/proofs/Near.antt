@@ -2,41 +2,15 @@
 use Rattle.std.proofs.Common.{◌≡◌, ◌≤◌, ◌+◌, ◌*◌, ℕ, List, [], ◌∷◌, ◌++◌, length, All, arith, max, Option, unwrap_or, length-append, nat_lt, Bool, true, false, cond, Some, None}
 use Rattle.std.proofs.lemmas.List.Elements.{All-push}
 use Rattle.std.specs.Prelude.{IfSome}
-use Rattle.hs_base.specs.Place.{block_size}
-use Rattle.c_types.specs.Layouts.{no_layout}
-use Rattle.c_types.specs.TagTable.{layout_in}
-use Rattle.c_types.specs.Types.{PlainType}
-use Rattle.c_types.specs.declared.types.IntType.{IntType}
-use Rattle.c_lexer.specs.declared.token.Token.{Token}
-use Rattle.core_tree.specs.Sound.{IsShort}
-use Rattle.core_tree.specs.declared.program.Mem.{Mem}
-use Rattle.core_tree.specs.declared.program.Reg.{Reg as Register}
-use Rattle.core_tree.specs.declared.statements.Atom.{Atom}
+use Rattle.core_soundness.proofs.Words.Trees.{Token, Allowed, AllAllowed, IsExternal, AreExternals, Item, Says, Here, Part, shape, rows, HasTree, Place, Scope, places, first_scope, Piece, Said, Line, filled, spell, spell_all, Spells, Tree, Trees, Node, none, ◌▹◌, count}
+use Rattle.core_soundness.proofs.Words.Types.{no_layout, layout_in, PlainType, IntType, PlainNamed, Checked, after_declaration, PlainTyped, StaticTooLarge, DeclaredTwice}
+use Rattle.core_soundness.proofs.Words.Core.{block_size, IsShort, Mem, Reg as Register, Atom, StmKind}
+use Rattle.core_soundness.proofs.Words.Elaborating.{with_format, Context, Variable, Walked, integer_by, pointer_by, With, local_register, Found, Spot, unused, valued, convert_integer, convert, tested_value, write, Memory, constant, with_type, specs, layers, found, is_pointer, with_register, with_memory, is_twice, declared_as, next_is_memory, with_named, memory_param, register_param, function_param, prototype_param, is_prototype, with_param, with_static, with_literal}
 use Rattle.core_tree.specs.declared.statements.Atom.TheVariants as atom
-use Rattle.core_tree.specs.declared.statements.StmKind.{StmKind}
-use Rattle.c_tree.specs.Allowed.{Allowed, AllAllowed, IsExternal, AreExternals}
 use Rattle.c_tree.specs.Forms as f
-use Rattle.c_tree.specs.Grammar.{Item, Says, Here, Part, shape, rows}
-use Rattle.c_tree.specs.HasTree.{HasTree}
 use Rattle.c_tree.specs.Places as p
-use Rattle.c_tree.specs.Places.{Place}
-use Rattle.c_tree.specs.Scopes.{Scope, places, first_scope}
-use Rattle.c_tree.specs.Spelling.{Piece, Said, Line, filled, spell, spell_all, Spells}
-use Rattle.c_tree.specs.Tree.{Tree, Trees, Node, none, ◌▹◌, count}
 use Rattle.c_decls.specs.Named as n
-use Rattle.c_decls.specs.Named.{PlainNamed}
-use Rattle.c_decls.specs.Refusals.{Checked}
-use Rattle.c_decls.specs.ScopeList.{after_declaration}
 use Rattle.c_decls.specs.TypeNames as names
-use Rattle.c_decls.specs.Typed.{PlainTyped}
-use Rattle.c_decls.specs.declared.refusal.TypeKind.TheVariants.{StaticTooLarge, DeclaredTwice}
-use Rattle.elaboration.specs.Calls.{with_format}
-use Rattle.elaboration.specs.Context.{Context, Variable, Walked, integer_by, pointer_by, With, local_register}
-use Rattle.elaboration.specs.Conversions.{Found, Spot, unused, valued, convert_integer, convert, tested_value, write, Memory}
-use Rattle.elaboration.specs.Declarators.{constant, with_type, specs, layers}
-use Rattle.elaboration.specs.Expressions.{found}
-use Rattle.elaboration.specs.Locals.{is_pointer, with_register, with_memory, is_twice, declared_as, next_is_memory, with_named, memory_param, register_param, function_param, prototype_param, is_prototype, with_param}
-use Rattle.elaboration.specs.Rules.{with_static, with_literal}
 use Rattle.core_soundness.proofs.Agreeing.{came}
 use Rattle.core_soundness.proofs.CodeWalk.{Writes, unused_keeps, valued_keeps, convert_integer_keeps, convert_keeps, tested_value_keeps, write_keeps}
 use Rattle.core_soundness.proofs.Growth.{Reached, reached_ok, Led, led_ok, led_unless, reached_after}

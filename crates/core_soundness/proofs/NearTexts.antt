@@ -3,60 +3,21 @@ use Rattle.std.proofs.Common.{◌≡◌, ◌≤◌, ◌+◌, ◌*◌, ◌==◌, 
 use Rattle.std.proofs.lemmas.List.{length-replicate}
 use Rattle.std.proofs.lemmas.List.Elements.{All-push, All-head, All-tail, All-cons, All-nil, All-weaker, All-append, All-map, All-replicate}
 use Rattle.std.specs.Prelude.{IfSome}
-use Rattle.hs_base.specs.Numbers.{wrapped}
-use Rattle.c_types.specs.Layouts.{no_layout}
-use Rattle.c_types.specs.TagTable.{layout_in, TagTable}
-use Rattle.c_types.specs.Types.{PlainType, Array, Struct, Union, kind_of, Void}
-use Rattle.c_types.specs.declared.types.IntType.{IntType}
-use Rattle.c_lexer.specs.Tokens.{first_place, behind, IsCut, answer_with, answer_of, HasTokens}
+use Rattle.core_soundness.proofs.Words.Trees.{first_place, behind, IsCut, answer_with, answer_of, HasTokens, PieceKind, LexError, Token, some_commas, shape, Place, name_of, Tree, Trees, Leaf, At, Node, none, ◌▹◌, count}
+use Rattle.core_soundness.proofs.Words.Types.{no_layout, layout_in, TagTable, PlainType, Array, Struct, Union, kind_of, Void, IntType, line_of, promoted, unconverted, Checked, refused, then, unless, named_in, innermost, tag_name, tag_named, with_layers, is_function, has_no_size, Operand, Number, operand, is_void, is_scalar, Assignment, DeclaredTwice, Incomplete, LeftOut, Operands, StrayBreak, CaseTwice, ProgramTooLong, NoMain}
+use Rattle.core_soundness.proofs.Words.Core.{wrapped, IsShort, AreShort, Core, Func, Mem, Reg as Register, Start, Static, Atom, Off, Enter, Leave, Jump, Return}
+use Rattle.core_soundness.proofs.Words.Elaborating.{addressed_in, Context, With, Variable, asked, emit, anew, left, entered, here, new_label, with_labels, with_pieces, Walked, Declared, first_context, Found, Spot, Local, Memory, atom_in, valued, convert, write, size_or_zero, convert_integer, tested_value, unused, Storage, Typedef, Outside, storage_of, specs_alone, specs_before, cleared, fill_memory, fill_register, fill_at, fill_local, local_object, local_name, function_number, with_function, declared_function, no_initializer, variable_number_of, with_new_variable, with_variable, start_of, start_in, started_variable, started, fill_variable, file_object, file_function, file_value, file_name, name_in, entry, entries, declaration, layers, specs, walked, elaborated, found, begun, params_of, is_defined, body_begun, last_answer, piece_length, body_ended, body, defined, named_definition, definition, external, externals, calls_defined, is_main, Target, InRegister, InMemory, InStatic, static_scalar, member_place, store_at, fill_scalar, scalar, copy_to, fill_record, is_same_place, whole, fill_text, is_character, text, by_text, by_expression, parts_of, takes_braces, is_scalar_type, surplus, all_surplus, initialize, initialize_parts, no_start, with_init_layers, not_whole, is_twice, declared_as, next_is_memory, with_memory, with_register, local_in, with_local, reallocates, opened, closed, function_of, variable_static, literal_static, temporary, pointer_register, core_of, with_static, with_literal, Around, below, in_loop, in_switch, in_delay, leaves, leave_to, evaluated, maybe_evaluated, condition, leaves_if_zero, maybe_leaves, apart, return_of, return_from, has_case, case_of, cased, defaulted, switch_operand_of, switch_operand, no_cases, for_start, statement, items, around_body}
+use Rattle.core_soundness.proofs.Words.Facts.{AreWithin, HasShortLists}
 use Rattle.c_lexer.specs.declared.piece.Piece.{Piece}
-use Rattle.c_lexer.specs.declared.piece.PieceKind.{PieceKind}
 use Rattle.c_lexer.specs.declared.piece.PieceKind.TheVariants as kind
 use Rattle.c_lexer.specs.declared.place.Place.{Place as SourcePlace}
-use Rattle.c_lexer.specs.declared.token.LexError.{LexError}
-use Rattle.c_lexer.specs.declared.token.Token.{Token}
-use Rattle.core_tree.specs.Sound.{IsShort, AreShort}
-use Rattle.core_tree.specs.declared.program.Core.{Core}
-use Rattle.core_tree.specs.declared.program.Func.{Func}
-use Rattle.core_tree.specs.declared.program.Mem.{Mem}
-use Rattle.core_tree.specs.declared.program.Reg.{Reg as Register}
-use Rattle.core_tree.specs.declared.program.Start.{Start}
-use Rattle.core_tree.specs.declared.program.Static.{Static}
-use Rattle.core_tree.specs.declared.statements.Atom.{Atom}
 use Rattle.core_tree.specs.declared.statements.Atom.TheVariants as atom
-use Rattle.core_tree.specs.declared.statements.StmKind.TheVariants.{Off, Enter, Leave, Jump, Return}
 use Rattle.c_tree.specs.Forms as f
-use Rattle.c_tree.specs.Grammar.{some_commas, shape}
 use Rattle.c_tree.specs.Places as p
-use Rattle.c_tree.specs.Places.{Place}
-use Rattle.c_tree.specs.Scopes.{name_of}
-use Rattle.c_tree.specs.Tree.{Tree, Trees, Leaf, At, Node, none, ◌▹◌, count}
 use Rattle.c_tree.specs.Words as w
-use Rattle.c_decls.specs.Expressions.{line_of}
-use Rattle.c_decls.specs.IntegerTypes.{promoted}
 use Rattle.c_decls.specs.Named as n
-use Rattle.c_decls.specs.PlaceRules.{unconverted}
-use Rattle.c_decls.specs.Refusals.{Checked, refused, then, unless}
-use Rattle.c_decls.specs.ScopeList.{named_in, innermost, tag_name}
-use Rattle.c_decls.specs.TypeNames.{tag_named, with_layers}
-use Rattle.c_decls.specs.Typed.{is_function, has_no_size, Operand, Number, operand, is_void, is_scalar}
-use Rattle.c_decls.specs.declared.refusal.TypeKind.TheVariants.{Assignment, DeclaredTwice, Incomplete, LeftOut, Operands, StrayBreak, CaseTwice, ProgramTooLong, NoMain}
-use Rattle.elaboration.specs.Addressed.{addressed_in}
-use Rattle.elaboration.specs.Context.{Context, With, Variable, asked, emit, anew, left, entered, here, new_label, with_labels, with_pieces, Walked, Declared, first_context}
-use Rattle.elaboration.specs.Conversions.{Found, Spot, Local, Memory, atom_in, valued, convert, write, size_or_zero, convert_integer, tested_value, unused}
 use Rattle.elaboration.specs.Declarations as storages
-use Rattle.elaboration.specs.Declarations.{Storage, Typedef, Outside, storage_of, specs_alone, specs_before, cleared, fill_memory, fill_register, fill_at, fill_local, local_object, local_name, function_number, with_function, declared_function, no_initializer, variable_number_of, with_new_variable, with_variable, start_of, start_in, started_variable, started, fill_variable, file_object, file_function, file_value, file_name, name_in, entry, entries, declaration}
-use Rattle.elaboration.specs.Declarators.{layers, specs}
-use Rattle.elaboration.specs.Elaboration.{walked, elaborated}
-use Rattle.elaboration.specs.Expressions.{found}
-use Rattle.elaboration.specs.Externals.{begun, params_of, is_defined, body_begun, last_answer, piece_length, body_ended, body, defined, named_definition, definition, external, externals, calls_defined, is_main}
-use Rattle.elaboration.specs.Initializers.{Target, InRegister, InMemory, InStatic, static_scalar, member_place, store_at, fill_scalar, scalar, copy_to, fill_record, is_same_place, whole, fill_text, is_character, text, by_text, by_expression, parts_of, takes_braces, is_scalar_type, surplus, all_surplus, initialize, initialize_parts, no_start, with_init_layers, not_whole}
-use Rattle.elaboration.specs.Locals.{is_twice, declared_as, next_is_memory, with_memory, with_register, local_in, with_local}
-use Rattle.elaboration.specs.Reallocates.{reallocates, opened, closed}
-use Rattle.elaboration.specs.Resolving.{function_of, variable_static, literal_static, temporary, pointer_register, plain_name, core_of}
-use Rattle.elaboration.specs.Rules.{with_static, with_literal}
-use Rattle.elaboration.specs.Statements.{Around, below, in_loop, in_switch, in_delay, leaves, leave_to, evaluated, maybe_evaluated, condition, leaves_if_zero, maybe_leaves, apart, return_of, return_from, has_case, case_of, cased, defaulted, switch_operand_of, switch_operand, no_cases, for_start, statement, items, around_body}
-use Rattle.core_soundness.specs.Laws.{AreWithin, HasShortLists}
+use Rattle.elaboration.specs.Resolving.{plain_name}
 use Rattle.core_soundness.proofs.Agreeing.{came}
 use Rattle.core_soundness.proofs.Cores.{behind as core_behind, core_sizes}
 use Rattle.core_soundness.proofs.Growth.{Reached, reached_ok, reached_refused, reached_after, reached_unless, reached_barred, Led, led_ok, led_refused, led_after, led_unless, led_barred, behind_string}

@@ -3,16 +3,11 @@ use Rattle.std.proofs.Common.{◌≡◌, ◌==◌, ℕ, Bool, true, false, cond,
 use Rattle.std.proofs.lemmas.Bool.{eqb-true}
 use Rattle.std.proofs.lemmas.List.{append-nil}
 use Rattle.std.specs.Prelude.{codes, IfSome}
-use Rattle.c_lexer.specs.Bytes.{is_space, is_letter, is_digit, is_name_byte, class_of}
-use Rattle.c_lexer.specs.Pieces.{kind_of, IsToken}
+use Rattle.core_soundness.proofs.Words.Trees.{is_space, is_letter, is_digit, is_name_byte, class_of, kind_of, IsToken, IsDotted, IsSuffixed, name_of, Tree, Trees, Node, none, ◌▹◌}
+use Rattle.core_soundness.proofs.Words.Facts.{Names, AllNames, Each}
 use Rattle.c_lexer.specs.declared.token.TokenKind.TheVariants as kind
 use Rattle.c_tree.specs.Forms as f
-use Rattle.c_tree.specs.Renaming.{IsDotted, IsSuffixed}
-use Rattle.c_tree.specs.Scopes.{name_of}
-use Rattle.c_tree.specs.Tree.{Tree, Trees, Node, none, ◌▹◌}
 use Rattle.elaboration.specs.Resolving.{plain_name}
-use Rattle.core_soundness.specs.Texts.{Names, AllNames}
-use Rattle.core_soundness.specs.Written.{Each}
 use Rattle.core_soundness.proofs.Scopes.{name_named}
 
 -- a name that is `main` without its suffix has none

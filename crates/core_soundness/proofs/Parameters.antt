@@ -1,38 +1,22 @@
 -- The registers that declarators make.
 use Rattle.std.proofs.Common.{◌≡◌, ◌≤◌, ◌+◌, ℕ, zero, suc, ℤ, pos, ◌+ℤ◌, Bool, true, false, ◌||◌, cond, is_some, map, length, reverse, unwrap_or, ◌⊎◌, inl, inr, ⊎_elim, List, [], ◌∷◌, ◌++◌, Option, Some, None, Result, Ok, Err, refl, sym, ap, ◌∙◌, subst, arith, append-nil, append_assoc}
 use Rattle.std.proofs.lemmas.List.{reverse-append, map-append}
-use Rattle.hs_base.specs.Numbers.{wrapped}
-use Rattle.hs_base.specs.declared.ends.IntKind.TheVariants.{I32}
-use Rattle.c_types.specs.TagTable.{TagTable, completion, known}
+use Rattle.core_soundness.proofs.Words.Trees.{name_of, Tree, Trees, Leaf, At, Node, none, ◌▹◌, RecordSort}
+use Rattle.core_soundness.proofs.Words.Types.{TagTable, completion, known, PlainType, PlainTypes, Int, Struct, Union, Function, first, TagError, line_of, typed, wanted, constant_from, PlainNamed, Checked, then, unless, named_in, innermost, with_name, tag_name, after_declaration, Table, Layer, ArrayOf, FunctionOf, word_type, special_type, array_length, layered, with_layers, with_param_layers, adjusted, is_void, is_record, is_function, is_array, has_no_size, Constant, DeclaredTwice, Incomplete, LeftOut}
+use Rattle.core_soundness.proofs.Words.Core.{wrapped, I32, Sort, sort_of, Atom}
+use Rattle.core_soundness.proofs.Words.Elaborating.{Context, Running, asked, told, entered, local_register, Spot, Local, Memory, write, constant, with_type, maybe_name, begun_as, completed_by, complete, ended, with_member, member, enumerator, enum_named, is_declared, param, left_params, specs, words_type, tag_type, members, member_names, enumerators, layers, suffix_layers, suffix_layer, params, is_pointer, declared_as, next_is_memory, with_register, with_memory, with_named, memory_param, register_param, function_param, prototype_param, with_param}
+use Rattle.core_soundness.proofs.Words.Facts.{type_sort, param_sorts}
 use Rattle.c_types.specs.Types as types
-use Rattle.c_types.specs.Types.{PlainType, PlainTypes, Int, Struct, Union, Function, first}
-use Rattle.c_types.specs.declared.tags.TagError.{TagError}
 use Rattle.c_types.specs.declared.types.IntType.TheVariants as i
-use Rattle.core_tree.specs.Sorts.{Sort, sort_of}
-use Rattle.core_tree.specs.declared.statements.Atom.{Atom}
 use Rattle.core_tree.specs.declared.statements.Atom.TheVariants as atom
 use Rattle.c_tree.specs.Forms as f
-use Rattle.c_tree.specs.Scopes.{name_of}
-use Rattle.c_tree.specs.Tree.{Tree, Trees, Leaf, At, Node, none, ◌▹◌}
 use Rattle.c_tree.specs.Words as w
-use Rattle.c_tree.specs.declared.operator.RecordSort.{RecordSort}
 use Rattle.c_tree.specs.declared.operator.RecordSort.TheVariants as r
-use Rattle.c_decls.specs.Expressions.{line_of, typed, wanted, constant_from}
 use Rattle.c_decls.specs.Named as n
-use Rattle.c_decls.specs.Named.{PlainNamed}
-use Rattle.c_decls.specs.Refusals.{Checked, then, unless}
-use Rattle.c_decls.specs.ScopeList.{named_in, innermost, with_name, tag_name, after_declaration, Table}
 use Rattle.c_decls.specs.TypeNames as names
-use Rattle.c_decls.specs.TypeNames.{Layer, PointerTo, ArrayOf, FunctionOf, word_type, special_type, array_length, layered, with_layers, with_param_layers, adjusted}
-use Rattle.c_decls.specs.Typed.{is_void, is_record, is_function, is_array, has_no_size}
-use Rattle.c_decls.specs.declared.constant.Constant.{Constant}
-use Rattle.c_decls.specs.declared.refusal.TypeKind.TheVariants.{DeclaredTwice, Incomplete, LeftOut}
-use Rattle.elaboration.specs.Context.{Context, Running, asked, told, entered, local_register}
-use Rattle.elaboration.specs.Conversions.{Spot, Local, Memory, write}
+use Rattle.c_decls.specs.TypeNames.{PointerTo}
 use Rattle.elaboration.specs.Declarators as d
-use Rattle.elaboration.specs.Declarators.{constant, with_type, maybe_name, begun_as, begun, completed_by, complete, ended, with_member, member, enumerator, enum_named, is_declared, param, left_params, specs, words_type, tag_type, members, member_names, enumerators, layers, suffix_layers, suffix_layer, params}
-use Rattle.elaboration.specs.Locals.{is_pointer, declared_as, next_is_memory, with_register, with_memory, with_named, memory_param, register_param, function_param, prototype_param, with_param}
-use Rattle.core_soundness.specs.Worlds.{type_sort, param_sorts}
+use Rattle.elaboration.specs.Declarators.{begun}
 use Rattle.core_soundness.proofs.Agreeing.{came}
 use Rattle.core_soundness.proofs.Declaring.{levels_refl, param_levels, layers_level, suffix_levels}
 use Rattle.core_soundness.proofs.Growth.{good, bad, ok_same, never, behind_test, Reached, reached_ok}

@@ -1,22 +1,9 @@
 -- Parts of code behind one another, and the code of statements.
 use Rattle.std.proofs.Common.{◌≡◌, ◌⊎◌, ◌≤◌, ◌<◌, ◌+◌, ℕ, zero, suc, List, [], ◌∷◌, ◌++◌, refl, sym, ap, ◌∙◌, subst, arith, inl, inr, ⊎_elim, append_assoc, ℤ, Bool, false, not, length, take, drop, Option, Some, None, ap₂, append-nil, map}
-use Rattle.c_types.specs.Types.{PlainType, Void}
-use Rattle.c_types.specs.declared.types.IntType.{IntType}
-use Rattle.core_tree.specs.declared.statements.Atom.{Atom}
-use Rattle.core_tree.specs.declared.statements.Stm.{Stm}
-use Rattle.core_tree.specs.declared.statements.StmKind.{StmKind}
-use Rattle.core_tree.specs.declared.statements.StmKind.TheVariants.{Jump, Zero, Case, Loop, Leave, Return}
-use Rattle.c_tree.specs.Tree.{Tree, Trees, none, ◌▹◌}
-use Rattle.c_decls.specs.Expressions.{line_of}
-use Rattle.c_decls.specs.IntegerTypes.{promoted}
-use Rattle.c_decls.specs.PlaceRules.{unconverted}
-use Rattle.c_decls.specs.Typed.{Operand, Number, operand, is_void, is_scalar}
-use Rattle.c_decls.specs.declared.refusal.TypeKind.TheVariants.{Operands, Assignment}
-use Rattle.elaboration.specs.Context.{Piece, Does, Here, Code, Context, Running, entered, left, emit}
-use Rattle.elaboration.specs.Conversions.{Found, atom_in, valued, convert, convert_integer, code_line, tested_value, unused}
-use Rattle.elaboration.specs.Expressions.{found}
-use Rattle.elaboration.specs.Reallocates.{opened, closed}
-use Rattle.elaboration.specs.Statements.{Around, below, in_loop, in_switch, in_delay, leaves, evaluated, maybe_evaluated, condition, leaves_if_zero, maybe_leaves, returned, return_of, return_from, switch_operand_of, switch_operand, does}
+use Rattle.core_soundness.proofs.Words.Trees.{Tree, Trees, none, ◌▹◌}
+use Rattle.core_soundness.proofs.Words.Types.{PlainType, Void, IntType, line_of, promoted, unconverted, Operand, Number, operand, is_void, is_scalar, Operands, Assignment}
+use Rattle.core_soundness.proofs.Words.Core.{Atom, Stm, StmKind, Jump, Zero, Case, Loop, Leave, Return}
+use Rattle.core_soundness.proofs.Words.Elaborating.{Piece, Does, Here, Code, Context, Running, entered, left, emit, Found, atom_in, valued, convert, convert_integer, code_line, tested_value, unused, found, opened, closed, Around, below, in_loop, in_switch, in_delay, leaves, evaluated, maybe_evaluated, condition, leaves_if_zero, maybe_leaves, returned, return_of, return_from, switch_operand_of, switch_operand, does}
 use Rattle.core_soundness.proofs.Declaring.{passes_refl, tail_depth}
 use Rattle.core_soundness.proofs.Flows.{Marks, Target, Targets, Places, Placed, steps, Goes, Flows, agree_refl, steps_append, targets_append, places_append, Way, way_on, way_back, IsWay, Leads, AreEarlier, leads_less, Fragment, joined, with_ways, within, closed_by, opened_by, loop_leaves, stm_at, earlier_less, anywhere, zero_leaves, Agree, agree_trans, targets_map, places_map, placed_left, placed_right, placed_below, flows_append, flows_agree, marked, Stands, leads_agree, Entered, ArePlaced, Made}
 use Rattle.core_soundness.proofs.Growth.{Grows, grows_refl, grows_trans, Reached, reached_ok, reached_refused, reached_after, reached_unless, Led, led_ok, led_after, led_unless, led_barred, Stays, Passes, stays_trans, grows_passes, grows_closed, stays_beside}

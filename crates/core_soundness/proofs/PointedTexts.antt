@@ -6,43 +6,16 @@ use Rattle.std.proofs.lemmas.List.Elements.{All-cons, All-nil, All-append, All-h
 use Rattle.std.proofs.lemmas.Option.{slice_get-map}
 use Rattle.std.specs.List.{IsDistinct}
 use Rattle.std.specs.Prelude.{Contains, nat_eq}
-use Rattle.hs_base.specs.Place.{block_size}
-use Rattle.c_types.specs.Layouts.{no_layout, array_layout, number_layout}
-use Rattle.c_types.specs.TagTable.{TagTable, layout_in}
-use Rattle.c_types.specs.Types.{PlainType}
-use Rattle.core_tree.specs.LayoutsOfTypes.{IsLayoutOfType}
-use Rattle.core_tree.specs.Sound.{IsTarget, IsStatic}
-use Rattle.core_tree.specs.declared.program.Core.{Core}
-use Rattle.core_tree.specs.declared.program.Start.{Start}
-use Rattle.core_tree.specs.declared.program.Static.{Static}
-use Rattle.core_tree.specs.declared.statements.StmKind.TheVariants.{Return}
+use Rattle.core_soundness.proofs.Words.Trees.{name_of, Tree, Trees, Leaf, At, Node, none, ◌▹◌}
+use Rattle.core_soundness.proofs.Words.Types.{no_layout, array_layout, number_layout, TagTable, layout_in, PlainType, built_ins, numbered_from, PlainNamed, refused, ScopeList, Table, named_in, innermost, with_name, with_name_in, after_declaration, tag_name, with_layers, tag_named, is_function, has_no_size, BuiltIn, DeclaredTwice, Incomplete, LeftOut, StaticTooLarge, ProgramTooLong, Undeclared, NoMain}
+use Rattle.core_soundness.proofs.Words.Core.{block_size, IsLayoutOfType, IsTarget, IsStatic, Core, Start, Static, Return}
+use Rattle.core_soundness.proofs.Words.Elaborating.{addressed_in, Context, Variable, Declared, asked, emit, first_context, size_or_zero, Storage, Typedef, storage_of, specs_alone, specs_before, function_number, with_function, declared_function, no_initializer, variable_number_of, with_new_variable, with_variable, start_of, start_in, started_variable, fill_variable, file_object, file_function, file_value, file_name, name_in, entry, entries, declaration, specs, layers, walked, elaborated, begun, is_defined, body_begun, last_answer, piece_length, params_of, body_ended, body, defined, named_definition, definition, external, externals, calls_defined, is_main, Target, InStatic, initialize, surplus, no_start, with_init_layers, trimmed, is_twice, declared_as, static_by, variable_static, literal_static, core_of, start_by, with_static, around_body, items}
+use Rattle.core_soundness.proofs.Words.Facts.{HasLayouts}
 use Rattle.c_tree.specs.Forms as f
-use Rattle.c_tree.specs.Scopes.{name_of}
-use Rattle.c_tree.specs.Tree.{Tree, Trees, Leaf, At, Node, none, ◌▹◌}
 use Rattle.c_tree.specs.Words as w
 use Rattle.c_decls.specs.BuiltIns as names
-use Rattle.c_decls.specs.BuiltIns.{built_ins, numbered_from}
 use Rattle.c_decls.specs.Named as n
-use Rattle.c_decls.specs.Named.{PlainNamed}
-use Rattle.c_decls.specs.Refusals.{refused}
-use Rattle.c_decls.specs.ScopeList.{ScopeList, Table, named_in, innermost, with_name, with_name_in, after_declaration, tag_name}
-use Rattle.c_decls.specs.TypeNames.{with_layers, tag_named}
-use Rattle.c_decls.specs.Typed.{is_function, has_no_size}
-use Rattle.c_decls.specs.declared.built_in.BuiltIn.{BuiltIn}
-use Rattle.c_decls.specs.declared.refusal.TypeKind.TheVariants.{DeclaredTwice, Incomplete, LeftOut, StaticTooLarge, ProgramTooLong, Undeclared, NoMain}
-use Rattle.elaboration.specs.Addressed.{addressed_in}
-use Rattle.elaboration.specs.Context.{Context, Variable, Declared, asked, emit, first_context}
-use Rattle.elaboration.specs.Conversions.{size_or_zero}
-use Rattle.elaboration.specs.Declarations.{Storage, Typedef, storage_of, specs_alone, specs_before, function_number, with_function, declared_function, no_initializer, variable_number_of, with_new_variable, with_variable, start_of, start_in, started_variable, fill_variable, file_object, file_function, file_value, file_name, name_in, entry, entries, declaration}
-use Rattle.elaboration.specs.Declarators.{specs, layers}
-use Rattle.elaboration.specs.Elaboration.{walked, elaborated}
-use Rattle.elaboration.specs.Externals.{begun, is_defined, body_begun, last_answer, piece_length, params_of, body_ended, body, defined, named_definition, definition, external, externals, calls_defined, is_main}
-use Rattle.elaboration.specs.Initializers.{Target, InStatic, initialize, surplus, no_start, with_init_layers, trimmed}
-use Rattle.elaboration.specs.Locals.{is_twice, declared_as}
-use Rattle.elaboration.specs.Resolving.{static_by, variable_static, plain_name, literal_static, core_of, start_by}
-use Rattle.elaboration.specs.Rules.{with_static}
-use Rattle.elaboration.specs.Statements.{around_body, items}
-use Rattle.core_soundness.specs.Laws.{HasLayouts}
+use Rattle.elaboration.specs.Resolving.{plain_name}
 use Rattle.core_soundness.proofs.Agreeing.{came}
 use Rattle.core_soundness.proofs.Aiming.{Aims, in_variable, in_literal, VariablesStay, same_variables, ObjectsThere, There, there_on, PointersIn, pointers_stay, TargetIn, initialize_points}
 use Rattle.core_soundness.proofs.Cores.{behind as core_behind}

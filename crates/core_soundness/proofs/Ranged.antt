@@ -5,51 +5,22 @@ use Rattle.std.proofs.lemmas.Int.{ints, SFits-int_wrap}
 use Rattle.std.specs.Int.{w8, w16, w32, w64}
 use Rattle.std.specs.List.{find}
 use Rattle.std.specs.Option.{option_or}
+use Rattle.core_soundness.proofs.Words.Trees.{Tree, BinaryOp, UnaryOp}
+use Rattle.core_soundness.proofs.Words.Types.{Known, no_layout, Placed, none_placed, offset_after, placed, keeps_union_rule, layout_of, CompletedTag, known, layout_in, TagTable, PlainMember, learn, tag_layout, member_layout, refusal, placed_members, members_in, PlainType, Int, Pointer, Struct, Union, kind_of, Array, Layout, PointerInUnion, TooLarge, IntType, typed, line_of, promoted, common_type, immovable, result_type, moving, sum_types, difference_types, integer_types, binary, is_void, has_no_size, PlainTyped, Operand, Number, PointerTo, Neither, operand, read, value, int, TypeKind, Operands, Incomplete}
+use Rattle.core_soundness.proofs.Words.Core.{wrapped, IntKind, I8, U8, I16, U16, I32, U32, I64, U64, IsLayoutOfType, IsNumber, Mem, Atom, CmpOp, StmKind, Set, Conv, Load, Loadp, Store, Storep, Test, Un, Bin, Cmp, Add, Sub, Off, Diff, Pcmp}
+use Rattle.core_soundness.proofs.Words.Elaborating.{byte_layout, element_layout, Piece, Does, Here, Context, emit, here, integer_by, pointer_by, Variable, Walked, asked, told, Code, Found, code_line, valued, convert, atom_in, write, Spot, unused, size_or_zero, Local, Memory, Value, Empty, read_spot, read_value, valued_from, atom_of, holds_all, convert_integer, convert_to, tested, found, elements, struct_parts, parts_of, offset_among, offset_of, working, Working, Calculates, Shifts, Compares, Branches, convert_both, work, on_integers, before_integer, move_pointer, between_pointers, pointer_beside, beside_integer, combine, combined, change, changed_to, member_address, reallocates, opened}
+use Rattle.core_soundness.proofs.Words.Facts.{IsStep, AtomIn, KindIn, PiecesIn, IsElement, MemsLaid, VariablesLaid, WalkedLaid, Solid, Whole, AreMade, TableWhole, NamesWhole, MembersWhole}
 use Rattle.hs_base.proofs.Wrapping.{low_bits_lt}
-use Rattle.hs_base.specs.Numbers.{wrapped}
-use Rattle.hs_base.specs.declared.ends.IntKind.{IntKind}
-use Rattle.hs_base.specs.declared.ends.IntKind.TheVariants.{I8, U8, I16, U16, I32, U32, I64, U64}
 use Rattle.c_types.proofs.MemberLemmas.{Extends, sized_stays, layout_stays, some_array}
 use Rattle.c_types.proofs.Places.{stays_known}
 use Rattle.c_types.proofs.Sound.{rounded_le}
-use Rattle.c_types.specs.Layouts.{Known, no_layout, Placed, none_placed, offset_after, place, placed, keeps_union_rule, layout_of}
-use Rattle.c_types.specs.TagTable.{CompletedTag, known, layout_in, TagTable, PlainMember, learn, tag_layout, member_layout, refusal, placed_members, members_in}
-use Rattle.c_types.specs.Types.{PlainType, Int, Pointer, Struct, Union, kind_of, Array}
-use Rattle.c_types.specs.declared.layouts.Layout.{Layout}
-use Rattle.c_types.specs.declared.tags.TagError.TheVariants.{PointerInUnion, TooLarge}
-use Rattle.c_types.specs.declared.types.IntType.{IntType}
-use Rattle.core_tree.specs.LayoutsOfTypes.{IsLayoutOfType}
-use Rattle.core_tree.specs.Sound.{IsNumber}
-use Rattle.core_tree.specs.declared.program.Mem.{Mem}
-use Rattle.core_tree.specs.declared.statements.Atom.{Atom}
+use Rattle.c_types.specs.Layouts.{place}
 use Rattle.core_tree.specs.declared.statements.Atom.TheVariants as atom
-use Rattle.core_tree.specs.declared.statements.CmpOp.{CmpOp}
 use Rattle.core_tree.specs.declared.statements.CmpOp.TheVariants as cmp
-use Rattle.core_tree.specs.declared.statements.StmKind.{StmKind}
-use Rattle.core_tree.specs.declared.statements.StmKind.TheVariants.{Set, Conv, Load, Loadp, Store, Storep, Test, Un, Bin, Cmp, Add, Sub, Off, Diff, Pcmp}
 use Rattle.core_tree.specs.declared.statements.UnOp.TheVariants as un
-use Rattle.c_tree.specs.Tree.{Tree}
-use Rattle.c_tree.specs.declared.operator.BinaryOp.{BinaryOp}
 use Rattle.c_tree.specs.declared.operator.BinaryOp.TheVariants as b
-use Rattle.c_tree.specs.declared.operator.UnaryOp.{UnaryOp}
 use Rattle.c_tree.specs.declared.operator.UnaryOp.TheVariants as u
-use Rattle.c_decls.specs.Expressions.{typed, line_of}
-use Rattle.c_decls.specs.IntegerTypes.{promoted, common_type}
 use Rattle.c_decls.specs.TypeNames as names
-use Rattle.c_decls.specs.TypeRules.{immovable, result_type, moving, sum_types, difference_types, integer_types, binary}
-use Rattle.c_decls.specs.Typed.{is_void, has_no_size, PlainTyped, Operand, Number, PointerTo, Neither, operand, read, value, int}
-use Rattle.c_decls.specs.declared.refusal.TypeKind.{TypeKind}
-use Rattle.c_decls.specs.declared.refusal.TypeKind.TheVariants.{Operands, Incomplete}
-use Rattle.elaboration.specs.Calls.{byte_layout, element_layout}
-use Rattle.elaboration.specs.Context.{Piece, Does, Here, Context, emit, here, integer_by, pointer_by, Variable, Walked, asked, told, Code}
-use Rattle.elaboration.specs.Conversions.{Found, code_line, valued, convert, atom_in, write, Spot, unused, size_or_zero, Local, Memory, Value, Empty, read_spot, read_value, valued_from, atom_of, holds_all, convert_integer, convert_to, tested}
-use Rattle.elaboration.specs.Expressions.{found}
-use Rattle.elaboration.specs.Initializers.{elements, struct_parts, parts_of}
-use Rattle.elaboration.specs.Operations.{offset_among, offset_of, working, Working, Calculates, Shifts, Compares, Branches, convert_both, work, on_integers, before_integer, move_pointer, between_pointers, pointer_beside, beside_integer, combine, combined, change, changed_to, member_address}
-use Rattle.elaboration.specs.Reallocates.{reallocates, opened}
-use Rattle.core_soundness.specs.Ranges.{IsStep, AtomIn, KindIn, PiecesIn, IsElement}
-use Rattle.core_soundness.specs.Solid.{MemsLaid, VariablesLaid, WalkedLaid, Solid}
-use Rattle.core_soundness.specs.Whole.{Whole, AreMade, TableWhole, NamesWhole, MembersWhole}
 use Rattle.core_soundness.proofs.Agreeing.{unused_agrees, found_agrees, came}
 use Rattle.core_soundness.proofs.CodeWalk.{quiet_convert, quiet_write}
 use Rattle.core_soundness.proofs.Growth.{Grows, Kept, grows_refl, valued_unused, good, ok_same, never, behind_test}

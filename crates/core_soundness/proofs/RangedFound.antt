@@ -2,55 +2,23 @@
 use Rattle.std.proofs.Common.{◌≡◌, ◌<◌, ◌+◌, ◌&&◌, ◌^◌, not, ℕ, pos, zero, suc, Bool, true, false, length, drop, List, [], ◌∷◌, ◌++◌, slice_get, Option, Some, None, unwrap_or, Ok, refl, sym, subst, arith, option_map, ℤ}
 use Rattle.std.proofs.lemmas.Int.{ints}
 use Rattle.std.specs.Prelude.{slice_index_or}
-use Rattle.hs_base.specs.declared.ends.IntKind.TheVariants.{I8}
+use Rattle.core_soundness.proofs.Words.Trees.{number_value, Tree, Trees, Leaf, At, Node, none, ◌▹◌, AssignOp, BinaryOp, UnaryOp}
+use Rattle.core_soundness.proofs.Words.Types.{TagTable, CompletedTag, known, layout_in, PlainType, PlainTypes, Void, Int, Pointer, Layout, built_ins, constant_of, named, built_in_named, built_in_value, Callee, Takes, NoFunction, called, call, line_of, string, typed, int_constant, char_constant, joined, first_literal, typename, PlainNamed, element, element_types, dot, arrow, cast, choice, assigned, changed, changed_types, moves, size, size_answer, Checked, then, found as declaration, unary, binary, moving, address, PlainTyped, Operand, Number, PointerTo, operand, place, value, constant, is_null_constant, is_record, BuiltIn, Constant, Operands, StaticTooLarge}
+use Rattle.core_soundness.proofs.Words.Core.{I8, IsNumber, Atom, StmKind, Set, Cmp, Zero, Jump, Copy, Call, Malloc, Calloc, Realloc, Free, Lib, Printf, Enter, Leave}
+use Rattle.core_soundness.proofs.Words.Elaborating.{record_assigned, scalar_assigned, old_value, changed_answer, changed_by, one_found, stepped, Argument, atoms_of, atom_at, argument_from, lib_name, result_by, with_format, call_built_in, call_of_built_in, call_named, element_layout, types_of, first_type, rest_types, Code, Context, emit, here, new_label, with_labels, integer_by, asked, told, Walked, anew, Found, Spot, Value, found_as, atom_in, valued_from, convert, tested_value, code_line, write, size_or_zero, valued_as, valued, unused, name_answer, literal_answer, unevaluated, changing, comma_answer, callee, callee_name, parameters, format_argument, is_printf, call_answer, found, arguments, cast_operand, working, Branches, offset_of, operator_of, changed_to, reallocates, opened, closed, set_again, compare_again, constant_found, object_found, built_in_found, name_found, is_inner, with_static, with_literal, indexed, dotted, target_of, pointed, negated, before_number, apply, applied, tells_equal, is_pointer_ahead, ahead, left_operand, between, cast_to, and_then, and_ends, and_ended, or_else, or_ended, chosen_by, choose_first, choice_spot, chosen, choose, type_ahead}
+use Rattle.core_soundness.proofs.Words.Facts.{AtomIn, AtomsIn, PiecesIn, Solid, Whole, NamedWhole, AllWhole, AreMade, Written, AllWritten}
 use Rattle.c_types.proofs.MemberLemmas.{Extends}
-use Rattle.c_types.specs.TagTable.{TagTable, CompletedTag, known, layout_in}
 use Rattle.c_types.specs.Types as ct
-use Rattle.c_types.specs.Types.{PlainType, PlainTypes, Void, Int, Pointer}
-use Rattle.c_types.specs.declared.layouts.Layout.{Layout}
-use Rattle.c_lexer.specs.Numbers.{number_value}
-use Rattle.core_tree.specs.Sound.{IsNumber}
-use Rattle.core_tree.specs.declared.statements.Atom.{Atom}
 use Rattle.core_tree.specs.declared.statements.Atom.TheVariants as atom
 use Rattle.core_tree.specs.declared.statements.CmpOp.TheVariants as cmp
-use Rattle.core_tree.specs.declared.statements.StmKind.{StmKind}
-use Rattle.core_tree.specs.declared.statements.StmKind.TheVariants.{Set, Cmp, Zero, Jump, Copy, Call, Malloc, Calloc, Realloc, Free, Lib, Printf, Enter, Leave}
 use Rattle.c_tree.specs.Forms as f
-use Rattle.c_tree.specs.Tree.{Tree, Trees, Leaf, At, Node, none, ◌▹◌}
 use Rattle.c_tree.specs.Words as w
-use Rattle.c_tree.specs.declared.operator.AssignOp.{AssignOp}
 use Rattle.c_tree.specs.declared.operator.AssignOp.TheVariants as a
-use Rattle.c_tree.specs.declared.operator.BinaryOp.{BinaryOp}
 use Rattle.c_tree.specs.declared.operator.BinaryOp.TheVariants as b
-use Rattle.c_tree.specs.declared.operator.UnaryOp.{UnaryOp}
 use Rattle.c_tree.specs.declared.operator.UnaryOp.TheVariants as u
-use Rattle.c_decls.specs.BuiltIns.{built_ins, constant_of}
-use Rattle.c_decls.specs.Callees.{named, built_in_named, built_in_value, Callee, Takes, NoFunction, called, call}
-use Rattle.c_decls.specs.Expressions.{line_of, string, typed, int_constant, char_constant, joined, first_literal, typename}
 use Rattle.c_decls.specs.Named as n
-use Rattle.c_decls.specs.Named.{PlainNamed}
-use Rattle.c_decls.specs.PlaceRules.{element, element_types, dot, arrow, cast, choice, assigned, changed, changed_types, moves, size, size_answer}
-use Rattle.c_decls.specs.Refusals.{Checked, then}
-use Rattle.c_decls.specs.ScopeList.{found as declaration}
 use Rattle.c_decls.specs.TypeNames as names
-use Rattle.c_decls.specs.TypeRules.{unary, binary, moving, address}
-use Rattle.c_decls.specs.Typed.{PlainTyped, Operand, Number, PointerTo, operand, place, value, constant, is_null_constant, is_record}
-use Rattle.c_decls.specs.declared.built_in.BuiltIn.{BuiltIn}
 use Rattle.c_decls.specs.declared.built_in.BuiltIn.TheVariants as built
-use Rattle.c_decls.specs.declared.constant.Constant.{Constant}
-use Rattle.c_decls.specs.declared.refusal.TypeKind.TheVariants.{Operands, StaticTooLarge}
-use Rattle.elaboration.specs.Assignments.{record_assigned, scalar_assigned, old_value, changed_answer, changed_by, one_found, stepped}
-use Rattle.elaboration.specs.Calls.{Argument, atoms_of, atom_at, argument_from, lib_name, result_by, with_format, call_built_in, call_of_built_in, call_named, element_layout, types_of, first_type, rest_types}
-use Rattle.elaboration.specs.Context.{Code, Context, emit, here, new_label, with_labels, integer_by, asked, told, Walked, anew}
-use Rattle.elaboration.specs.Conversions.{Found, Spot, Value, found_as, atom_in, valued_from, convert, tested_value, code_line, write, size_or_zero, valued_as, valued, unused}
-use Rattle.elaboration.specs.Expressions.{name_answer, literal_answer, unevaluated, changing, comma_answer, callee, callee_name, parameters, format_argument, is_printf, call_answer, found, arguments, cast_operand}
-use Rattle.elaboration.specs.Operations.{working, Branches, offset_of, operator_of, changed_to}
-use Rattle.elaboration.specs.Reallocates.{reallocates, opened, closed}
-use Rattle.elaboration.specs.Rules.{set_again, compare_again, constant_found, object_found, built_in_found, name_found, is_inner, with_static, with_literal, indexed, dotted, target_of, pointed, negated, before_number, apply, applied, tells_equal, is_pointer_ahead, ahead, left_operand, between, cast_to, and_then, and_ends, and_ended, or_else, or_ended, chosen_by, choose_first, choice_spot, chosen, choose, type_ahead}
-use Rattle.core_soundness.specs.Ranges.{AtomIn, AtomsIn, PiecesIn}
-use Rattle.core_soundness.specs.Solid.{Solid}
-use Rattle.core_soundness.specs.Whole.{Whole, NamedWhole, AllWhole, AreMade}
-use Rattle.core_soundness.specs.Written.{Written, AllWritten}
 use Rattle.core_soundness.proofs.Agreeing.{came, left_typed, changing_first}
 use Rattle.core_soundness.proofs.CodeWalk.{quiet_read, quiet_tested_value}
 use Rattle.core_soundness.proofs.Growth.{good, ok_same, never, Led, led_ok, led_after, led_unless, Grows, grows_refl, valued_unused, cast_unused, behind_test}

@@ -2,17 +2,10 @@
 use Rattle.std.proofs.Common.{◌≡◌, ◌≤◌, ◌+◌, ℕ, Bool, true, false, List, [], Option, Some, None, is_some, ◌||◌, if◌then◌else◌, suc, refl, sym, ap, ◌∙◌, subst, arith, inl, inr, ◌⊎◌}
 use Rattle.std.proofs.lemmas.List.{append-nil}
 use Rattle.std.proofs.Math.Path.{transport, transport⁻¹}
+use Rattle.core_soundness.proofs.Words.Trees.{Form, shape, IsRenamed, IsSuffixed, Renames, RenamesAll, RenamesSome, first_name, word_name, word_is_typedef, has_typedef, leads_to_name, name_of, name_among, first_list, params_of, params_among, suffix_params, Tree, Trees, Leaf, At, Node, none, ◌▹◌, count, Word}
+use Rattle.core_soundness.proofs.Words.Facts.{IsList, HasLists, HasParameters, IsDefinition, joined, WordNames, Names, AllNames, IsHeld, HasParts, Written, AllWritten, Each}
 use Rattle.c_tree.specs.Forms as f
-use Rattle.c_tree.specs.Forms.{Form}
-use Rattle.c_tree.specs.Grammar.{shape}
-use Rattle.c_tree.specs.Renaming.{IsRenamed, IsSuffixed, Renames, RenamesAll, RenamesSome}
-use Rattle.c_tree.specs.Scopes.{first_name, word_name, word_is_typedef, has_typedef, leads_to_name, name_of, name_among, first_list, params_of, params_among, suffix_params}
-use Rattle.c_tree.specs.Tree.{Tree, Trees, Leaf, At, Node, none, ◌▹◌, count}
 use Rattle.c_tree.specs.Words as w
-use Rattle.c_tree.specs.Words.{Word}
-use Rattle.core_soundness.specs.Spoken.{IsList, HasLists, HasParameters, IsDefinition}
-use Rattle.core_soundness.specs.Texts.{joined, WordNames, Names, AllNames}
-use Rattle.core_soundness.specs.Written.{IsHeld, HasParts, Written, AllWritten, Each}
 use Rattle.core_soundness.proofs.Formed.{NoNodes, OneNode, AtMostOne, IsLayer, AreLayers, IsSuffix, AreSuffixes, of_typedefs, NoInits, Shaped, Formed, AllFormed, HasParams, Grammatical}
 use Rattle.core_soundness.proofs.Walks.{said, weight, weights}
 

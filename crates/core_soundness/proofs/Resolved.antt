@@ -9,33 +9,16 @@ use Rattle.std.specs.Char.{is_ascii_digit}
 use Rattle.std.specs.Cmp.Lexicographic.{pointwise}
 use Rattle.std.specs.List.{flat_map, find, prefix_len, take_while, starts_with}
 use Rattle.std.specs.Str.Parse.{digits_value}
-use Rattle.hs_base.specs.declared.ends.IntKind.{IntKind}
-use Rattle.hs_base.specs.declared.ends.IntKind.TheVariants.{I32}
+use Rattle.core_soundness.proofs.Words.Types.{behind_flags, digits_at, behind_digits, behind_length, is_item, is_format_of, is_format}
+use Rattle.core_soundness.proofs.Words.Core.{IntKind, I32, plain_byte, GoesOnPlain, ReadsPieces, IsFormat, is_flag, StartsOutside, ReadsItem, length_bytes, is_one_of, kind_of, length_at, item_at, join, pieces_from, pieces_of, Piece, Plain, Item, Sort, Integer, Pointer, sort_of, register_sort, atom_sort, TakesAll, GivesResult, TakesCall, TakesFormat, IsTyped, HasRegister, piece_takes, lib_takes, lib_gives, answer_sort, Core, Func, Reg as Register, Atom, Stm, StmKind, Set, Conv, Un, Bin, Cmp, Add, Sub, Off, Diff, Pcmp, Test, Load, Loadp, Store, Storep, Copy, Clear, Zero, Case, Call, Malloc, Calloc, Realloc, Free, Lib, Printf, Return}
+use Rattle.core_soundness.proofs.Words.Elaborating.{Piece as CodePiece, Does, Here, Context, Walked, local_register, integer_temporary, pointer_temporary, file_variable, literal_object, Numbers, atom_by, atoms_by, numbered, body_of, register_by, static_by, numbers_of, temporary, pointer_register, function_of, variable_static, literal_static, core_of}
+use Rattle.core_soundness.proofs.Words.Facts.{World, walked_world, IsRegister, is_local, is_integer, is_pointer_temporary, IsObject, is_variable, is_literal, Holds, HoldAll, Receives, IsCall, IsPrinted, Fits, FitsAnswer, FitsIn, PiecesFit}
 use Rattle.c_print.proofs.Convs.{conv_is_letter}
 use Rattle.c_print.proofs.Fronts.{front_passes, rest_starts_outside}
 use Rattle.c_print.proofs.Parts.{item_is_no_percent}
 use Rattle.c_print.proofs.Pieces.{some_bytes}
 use Rattle.c_print.proofs.Widths.{width_bytes_value}
-use Rattle.c_print.specs.Format.{plain_byte, GoesOnPlain, ReadsPieces, IsFormat}
-use Rattle.c_print.specs.Item.{is_flag, StartsOutside, ReadsItem}
-use Rattle.c_print.specs.Length.{length_bytes, is_one_of, kind_of}
-use Rattle.c_print.specs.Pieces.{length_at, item_at, join, pieces_from, pieces_of}
-use Rattle.c_print.specs.declared.piece.Piece.{Piece}
-use Rattle.c_print.specs.declared.piece.Piece.TheVariants.{Plain, Item}
-use Rattle.core_tree.specs.Sorts.{Sort, Integer, Pointer, sort_of, register_sort, atom_sort, TakesAll, GivesResult, TakesCall, TakesFormat, IsTyped, HasRegister, piece_takes, lib_takes, lib_gives}
-use Rattle.core_tree.specs.Sound.{answer_sort}
-use Rattle.core_tree.specs.declared.program.Core.{Core}
-use Rattle.core_tree.specs.declared.program.Func.{Func}
-use Rattle.core_tree.specs.declared.program.Reg.{Reg as Register}
-use Rattle.core_tree.specs.declared.statements.Atom.{Atom}
 use Rattle.core_tree.specs.declared.statements.Atom.TheVariants as atom
-use Rattle.core_tree.specs.declared.statements.Stm.{Stm}
-use Rattle.core_tree.specs.declared.statements.StmKind.{StmKind}
-use Rattle.core_tree.specs.declared.statements.StmKind.TheVariants.{Set, Conv, Un, Bin, Cmp, Add, Sub, Off, Diff, Pcmp, Test, Load, Loadp, Store, Storep, Copy, Clear, Zero, Case, Call, Malloc, Calloc, Realloc, Free, Lib, Printf, Return}
-use Rattle.c_decls.specs.Callees.{behind_flags, digits_at, behind_digits, behind_length, is_item, is_format_of, is_format}
-use Rattle.elaboration.specs.Context.{Piece as CodePiece, Does, Here, Context, Walked, local_register, integer_temporary, pointer_temporary, file_variable, literal_object}
-use Rattle.elaboration.specs.Resolving.{Numbers, atom_by, atoms_by, numbered, body_of, register_by, static_by, numbers_of, temporary, pointer_register, function_of, variable_static, literal_static, core_of}
-use Rattle.core_soundness.specs.Worlds.{World, walked_world, IsRegister, is_local, is_integer, is_pointer_temporary, IsObject, is_variable, is_literal, Holds, HoldAll, Receives, IsCall, IsPrinted, Fits, FitsAnswer, FitsIn, PiecesFit}
 use Rattle.core_soundness.proofs.Scopes.{get_left}
 use Rattle.core_soundness.proofs.Choices.{either_way, three_parts, some_same}
 

@@ -4,28 +4,17 @@ use Rattle.std.proofs.lemmas.Bool.{eqb-false}
 use Rattle.std.proofs.lemmas.Slice.Eq.{bytes_eq-Decides}
 use Rattle.std.specs.Option.{option_or}
 use Rattle.std.specs.Prelude.{IfSome}
-use Rattle.c_types.specs.Types.{PlainType}
-use Rattle.core_tree.specs.Sound.{IsShort}
+use Rattle.core_soundness.proofs.Words.Trees.{Form, first_name, word_name, leads_to_name, name_of, name_among, Tree, Trees, Leaf, At, Node, none, ◌▹◌, Word}
+use Rattle.core_soundness.proofs.Words.Types.{PlainType, PlainNamed, Tag, ScopeList, Table, named_in, found_from, found, with_name, tag_name, first_or, innermost}
+use Rattle.core_soundness.proofs.Words.Core.{IsShort}
+use Rattle.core_soundness.proofs.Words.Elaborating.{plain_name, built_in_at, Declared, Walked, is_realloc}
+use Rattle.core_soundness.proofs.Words.Facts.{is_register, NoRegister, TakesAddress, Spoken, AllSpoken, WordNames, Names, AllNames, TableFits, TablesFit, ScopesFit, World, FileFits, Written, AllWritten}
 use Rattle.c_tree.specs.Forms as f
-use Rattle.c_tree.specs.Forms.{Form}
-use Rattle.c_tree.specs.Scopes.{first_name, word_name, leads_to_name, name_of, name_among}
-use Rattle.c_tree.specs.Tree.{Tree, Trees, Leaf, At, Node, none, ◌▹◌}
 use Rattle.c_tree.specs.Words as w
-use Rattle.c_tree.specs.Words.{Word}
 use Rattle.c_tree.specs.declared.operator.UnaryOp.TheVariants as u
 use Rattle.c_decls.specs.Named as n
-use Rattle.c_decls.specs.Named.{PlainNamed, Tag, Function}
+use Rattle.c_decls.specs.Named.{Function}
 use Rattle.c_decls.specs.ScopeList as scopes
-use Rattle.c_decls.specs.ScopeList.{ScopeList, Table, named_in, found_from, found, with_name, tag_name, first_or, innermost}
-use Rattle.elaboration.specs.Addressed.{plain_name}
-use Rattle.elaboration.specs.Calls.{built_in_at}
-use Rattle.elaboration.specs.Context.{Declared, Walked}
-use Rattle.elaboration.specs.Reallocates.{is_realloc}
-use Rattle.core_soundness.specs.Spoken.{is_register, NoRegister, TakesAddress, Spoken, AllSpoken}
-use Rattle.core_soundness.specs.Texts.{WordNames, Names, AllNames}
-use Rattle.core_soundness.specs.Fitting.{TableFits, TablesFit, ScopesFit}
-use Rattle.core_soundness.specs.Worlds.{World, FileFits}
-use Rattle.core_soundness.specs.Written.{Written, AllWritten}
 use Rattle.core_soundness.proofs.Choices.{either_way, some_same}
 
 -- names that stand for `realloc`: expressions declare no names but tags, and these have names of their own

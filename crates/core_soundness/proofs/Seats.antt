@@ -4,21 +4,14 @@ use Rattle.std.proofs.lemmas.Bool.{eqb-true, eq-eqb, leb-true, and_parts, cases_
 use Rattle.std.proofs.lemmas.List.{reverse-append, reverse-reverse, length-reverse, length-replicate}
 use Rattle.std.specs.List.{flat_map, range_with_len, list_any, list_all, IsDistinct, AllByRecursion, find}
 use Rattle.std.specs.Prelude.{nat_le, nat_eq}
+use Rattle.core_soundness.proofs.Words.Types.{Placed, none_placed, offset_after, placed, moved, array_layout, members_layout, has_slot, keeps_union_rule, AreSlots, IsSound, Known, layout_of, CompletedTag, PlainMember, known, learn, tag_layout, member_layout, placed_members, PlainType, Void, Int, Pointer, Array, Struct, Union, Function, Layout, TagError, PointerInUnion}
+use Rattle.core_soundness.proofs.Words.Core.{Start}
+use Rattle.core_soundness.proofs.Words.Elaborating.{Context, size_or_zero, bytes_of, with_bytes, with_pointer, without_zeros, trimmed, elements, struct_parts, parts_of}
+use Rattle.core_soundness.proofs.Words.Facts.{Solid, AreMade, MembersWhole}
 use Rattle.c_types.proofs.MemberLemmas.{Extends, some_array}
 use Rattle.c_types.proofs.Places.{stays_known}
 use Rattle.c_types.proofs.Sound.{rounded_le, layout_sound, member_sound, known_sound}
-use Rattle.c_types.specs.Layouts.{Placed, none_placed, offset_after, place, placed, moved, array_layout, members_layout, has_slot, keeps_union_rule, AreSlots, IsSound, Known, layout_of}
-use Rattle.c_types.specs.TagTable.{CompletedTag, PlainMember, known, learn, tag_layout, member_layout, placed_members}
-use Rattle.c_types.specs.Types.{PlainType, Void, Int, Pointer, Array, Struct, Union, Function}
-use Rattle.c_types.specs.declared.layouts.Layout.{Layout}
-use Rattle.c_types.specs.declared.tags.TagError.{TagError}
-use Rattle.c_types.specs.declared.tags.TagError.TheVariants.{PointerInUnion}
-use Rattle.core_tree.specs.declared.program.Start.{Start}
-use Rattle.elaboration.specs.Context.{Context}
-use Rattle.elaboration.specs.Conversions.{size_or_zero}
-use Rattle.elaboration.specs.Initializers.{bytes_of, with_bytes, with_pointer, without_zeros, trimmed, elements, struct_parts, parts_of}
-use Rattle.core_soundness.specs.Solid.{Solid}
-use Rattle.core_soundness.specs.Whole.{AreMade, MembersWhole}
+use Rattle.c_types.specs.Layouts.{place}
 use Rattle.core_soundness.proofs.Ranged.{members_same, learnt, rest_placed, fold_rest}
 use Rattle.core_soundness.proofs.WholeTypes.{nothing, members_stay, learn_extends, placed_far}
 use Rattle.core_soundness.proofs.Choices.{either_way, some_same}

@@ -1,41 +1,22 @@
 -- Each expression is where it says, and its code fits.
 use Rattle.std.proofs.Common.{◌≡◌, ◌≤◌, ◌+◌, ℕ, ℤ, pos, Bool, true, false, cond, is_some, ⊎_elim, List, [], ◌∷◌, Option, Some, None, Ok, refl, sym, ap, ◌∙◌, subst, length, arith}
-use Rattle.c_types.specs.TagTable.{size_in}
+use Rattle.core_soundness.proofs.Words.Trees.{Tree, Trees, Leaf, At, Node, none, ◌▹◌}
+use Rattle.core_soundness.proofs.Words.Types.{size_in, PlainType, PlainTypes, Void, Callee, Takes, Prints, NoFunction, called, line_of, int_constant, char_constant, joined, literal, typed, typename, PlainNamed, choice, size_answer, Checked, then, named_in, found_from, found as declaration, ScopeList, Table, entered as scope_entered, binary, PlainTyped, operand, is_record, integer, Is}
+use Rattle.core_soundness.proofs.Words.Core.{Sort, Enter, Leave}
+use Rattle.core_soundness.proofs.Words.Elaborating.{plain_name, record_assigned, scalar_assigned, old_value, Argument, first_type, rest_types, argument_from, Context, With, asked, told, new_label, emit, anew, entered, left, Found, valued_as, atom_in, valued, unused, code_line, unevaluated, changing, comma_answer, callee_name, callee, parameters, format_argument, is_printf, found, arguments, cast_operand, reallocates, opened, closed, constant_found, ahead, ahead_of, typed_value, left_operand, and_then, or_else, choose, choice_ahead, choice_type, type_ahead, choose_first}
+use Rattle.core_soundness.proofs.Words.Facts.{NoRegister, TakesAddress, Spoken, AllSpoken, FileFits, World, world, HeldAs, Held, StandsAs, Stands, NamesFit, InnerFits, TableFits}
 use Rattle.c_types.specs.Types as ct
-use Rattle.c_types.specs.Types.{PlainType, PlainTypes, Void}
 use Rattle.c_types.specs.declared.types.IntType.TheVariants as i
-use Rattle.core_tree.specs.Sorts.{Sort}
 use Rattle.core_tree.specs.declared.statements.Atom.TheVariants as atom
-use Rattle.core_tree.specs.declared.statements.StmKind.TheVariants.{Enter, Leave}
 use Rattle.c_tree.specs.Forms as f
-use Rattle.c_tree.specs.Tree.{Tree, Trees, Leaf, At, Node, none, ◌▹◌}
 use Rattle.c_tree.specs.Words as w
 use Rattle.c_tree.specs.declared.operator.AssignOp.TheVariants as a
 use Rattle.c_tree.specs.declared.operator.BinaryOp.TheVariants as b
 use Rattle.c_tree.specs.declared.operator.UnaryOp.TheVariants as u
-use Rattle.c_decls.specs.Callees.{Callee, Takes, Prints, NoFunction, called}
 use Rattle.c_decls.specs.Expressions as types
-use Rattle.c_decls.specs.Expressions.{line_of, int_constant, char_constant, joined, literal, typed, typename}
 use Rattle.c_decls.specs.Named as n
-use Rattle.c_decls.specs.Named.{PlainNamed}
-use Rattle.c_decls.specs.PlaceRules.{choice, size_answer}
-use Rattle.c_decls.specs.Refusals.{Checked, then}
 use Rattle.c_decls.specs.ScopeList as scopes
-use Rattle.c_decls.specs.ScopeList.{named_in, found_from, found as declaration, ScopeList, Table, entered as scope_entered}
 use Rattle.c_decls.specs.TypeNames as names
-use Rattle.c_decls.specs.TypeRules.{binary}
-use Rattle.c_decls.specs.Typed.{PlainTyped, operand, is_record, integer}
-use Rattle.c_decls.specs.declared.typed.Folded.TheVariants.{Is}
-use Rattle.elaboration.specs.Addressed.{plain_name}
-use Rattle.elaboration.specs.Assignments.{record_assigned, scalar_assigned, old_value}
-use Rattle.elaboration.specs.Calls.{Argument, first_type, rest_types, argument_from}
-use Rattle.elaboration.specs.Context.{Context, With, asked, told, new_label, emit, anew, entered, left}
-use Rattle.elaboration.specs.Conversions.{Found, valued_as, atom_in, valued, unused, code_line}
-use Rattle.elaboration.specs.Expressions.{unevaluated, changing, comma_answer, callee_name, callee, parameters, format_argument, is_printf, found, arguments, cast_operand}
-use Rattle.elaboration.specs.Reallocates.{reallocates, opened, closed}
-use Rattle.elaboration.specs.Rules.{constant_found, ahead, ahead_of, typed_value, left_operand, and_then, or_else, choose, choice_ahead, choice_type, type_ahead, choose_first}
-use Rattle.core_soundness.specs.Spoken.{NoRegister, TakesAddress, Spoken, AllSpoken}
-use Rattle.core_soundness.specs.Worlds.{FileFits, World, world, HeldAs, Held, StandsAs, Stands, NamesFit, InnerFits}
 use Rattle.core_soundness.proofs.Agreeing.{came, quiet_left, quiet_first, valued_agrees, found_agrees, changing_first}
 use Rattle.core_soundness.proofs.Calls.{record_lands, scalar_lands, changing_rule, changed_comes, stepped_comes, arguments_grew, AllHeld, argument_goes, CallOf, call_of, call_lands, ready_on, NamesRegister, Rests, rests, name_local, valued_operated, names_more, all_spoken_more, unused_operated, inner_kept}
 use Rattle.core_soundness.proofs.Declaring.{tail_depth}
@@ -45,7 +26,6 @@ use Rattle.core_soundness.proofs.Scopes.{entered_fit, left_fit, MoreAll, all_ref
 use Rattle.core_soundness.proofs.Sorting.{Grew, Goes, goes_refl, goes_trans, goes_told, Sits, Lands, Comes, comes_lands, value_grew, stands_grew, held_grew, old_brings, Converting, grew_refl, grew_trans, CodeFits, goes_emit, unused_comes}
 use Rattle.core_soundness.proofs.TagSorts.{typed_after, typename_after}
 use Rattle.core_soundness.proofs.Choices.{either_way}
-use Rattle.core_soundness.specs.Fitting.{TableFits}
 
 -- each expression is where it says, and its code fits (C99 6.5)
 

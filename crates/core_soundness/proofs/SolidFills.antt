@@ -1,43 +1,17 @@
 -- Initializers and declarations keep whole types, and what they make has the layouts of types (C99 6.7, 6.7.8, 6.9.2).
 use Rattle.std.proofs.Common.{◌≡◌, ◌≤◌, ◌+◌, not, ℕ, zero, suc, pos, Bool, true, false, is_some, nat_lt, min, length, List, [], ◌∷◌, slice_get, slice_set, Option, Some, None, unwrap_or, Ok, refl, subst, arith}
-use Rattle.hs_base.specs.Place.{block_size}
+use Rattle.core_soundness.proofs.Words.Trees.{name_of, Tree, Trees, Leaf, At, Node, none, ◌▹◌, count}
+use Rattle.core_soundness.proofs.Words.Types.{Known, no_layout, TagTable, known, layout_in, PlainType, Array, Struct, Union, Function, line_of, string, unconverted, Checked, refused, then, unless, named_in, innermost, tag_name, after_declaration, Layer, ArrayOf, layered_before, tag_named, is_function, has_no_size, Assignment, DeclaredTwice, Incomplete, LeftOut, StaticTooLarge}
+use Rattle.core_soundness.proofs.Words.Core.{block_size, IsLayoutOfType, IsNumber, Start, Atom, Set, Clear, Off, Copy}
+use Rattle.core_soundness.proofs.Words.Elaborating.{Context, Variable, asked, emit, Found, Spot, Local, Memory, atom_in, valued, convert, write, size_or_zero, Storage, Typedef, Outside, storage_of, specs_alone, specs_before, zero_of, cleared, fill_memory, fill_register, fill_at, fill_local, local_object, local_name, function_number, with_function, declared_function, no_initializer, variable_number_of, with_new_variable, with_variable, start_of, start_in, started_variable, started, fill_variable, file_object, file_function, file_value, file_name, name_in, entry, entries, declaration, layers, found, Target, InRegister, InMemory, InStatic, static_scalar, member_place, store_at, fill_scalar, scalar, copy_to, fill_record, is_same_place, whole, fill_text, is_character, text, by_text, by_expression, parts_of, takes_braces, is_scalar_type, surplus, all_surplus, initialize, initialize_parts, no_start, text_length, given_length, with_init_layers, not_whole, is_twice, declared_as, next_is_memory, with_memory, with_register, local_in, counted_local, with_local, opened, with_static, with_literal}
+use Rattle.core_soundness.proofs.Words.Facts.{AtomIn, VariablesLaid, Solid, Whole, HasParts, Written, AllWritten}
 use Rattle.c_types.proofs.MemberLemmas.{Extends}
-use Rattle.c_types.specs.Layouts.{Known, no_layout}
-use Rattle.c_types.specs.TagTable.{TagTable, known, layout_in}
 use Rattle.c_types.specs.Types as types
-use Rattle.c_types.specs.Types.{PlainType, Array, Struct, Union, Function}
-use Rattle.core_tree.specs.LayoutsOfTypes.{IsLayoutOfType}
-use Rattle.core_tree.specs.Sound.{IsNumber}
-use Rattle.core_tree.specs.declared.program.Start.{Start}
-use Rattle.core_tree.specs.declared.statements.Atom.{Atom}
 use Rattle.core_tree.specs.declared.statements.Atom.TheVariants as atom
-use Rattle.core_tree.specs.declared.statements.StmKind.TheVariants.{Set, Clear, Off, Copy}
 use Rattle.c_tree.specs.Forms as f
-use Rattle.c_tree.specs.Scopes.{name_of}
-use Rattle.c_tree.specs.Tree.{Tree, Trees, Leaf, At, Node, none, ◌▹◌, count}
 use Rattle.c_tree.specs.Words as w
-use Rattle.c_decls.specs.Expressions.{line_of, string}
 use Rattle.c_decls.specs.Named as n
-use Rattle.c_decls.specs.PlaceRules.{unconverted}
-use Rattle.c_decls.specs.Refusals.{Checked, refused, then, unless}
-use Rattle.c_decls.specs.ScopeList.{named_in, innermost, tag_name, after_declaration}
-use Rattle.c_decls.specs.TypeNames.{Layer, ArrayOf, layered_before, tag_named}
-use Rattle.c_decls.specs.Typed.{is_function, has_no_size}
-use Rattle.c_decls.specs.declared.refusal.TypeKind.TheVariants.{Assignment, DeclaredTwice, Incomplete, LeftOut, StaticTooLarge}
-use Rattle.elaboration.specs.Context.{Context, Variable, asked, emit}
-use Rattle.elaboration.specs.Conversions.{Found, Spot, Local, Memory, atom_in, valued, convert, write, size_or_zero}
 use Rattle.elaboration.specs.Declarations as storages
-use Rattle.elaboration.specs.Declarations.{Storage, Typedef, Outside, storage_of, specs_alone, specs_before, zero_of, cleared, fill_memory, fill_register, fill_at, fill_local, local_object, local_name, function_number, with_function, declared_function, no_initializer, variable_number_of, with_new_variable, with_variable, start_of, start_in, started_variable, started, fill_variable, file_object, file_function, file_value, file_name, name_in, entry, entries, declaration}
-use Rattle.elaboration.specs.Declarators.{layers}
-use Rattle.elaboration.specs.Expressions.{found}
-use Rattle.elaboration.specs.Initializers.{Target, InRegister, InMemory, InStatic, static_scalar, member_place, store_at, fill_scalar, scalar, copy_to, fill_record, is_same_place, whole, fill_text, is_character, text, by_text, by_expression, parts_of, takes_braces, is_scalar_type, surplus, all_surplus, initialize, initialize_parts, no_start, text_length, given_length, with_init_layers, not_whole}
-use Rattle.elaboration.specs.Locals.{is_twice, declared_as, next_is_memory, with_memory, with_register, local_in, counted_local, with_local}
-use Rattle.elaboration.specs.Reallocates.{opened}
-use Rattle.elaboration.specs.Rules.{with_static, with_literal}
-use Rattle.core_soundness.specs.Ranges.{AtomIn}
-use Rattle.core_soundness.specs.Solid.{VariablesLaid, Solid}
-use Rattle.core_soundness.specs.Whole.{Whole}
-use Rattle.core_soundness.specs.Written.{HasParts, Written, AllWritten}
 use Rattle.core_soundness.proofs.CodeWalk.{quiet_literal}
 use Rattle.core_soundness.proofs.Growth.{grows_refl, Longer, grown_literal, Led, led_ok, led_refused, led_after, led_unless, led_barred, behind_string}
 use Rattle.core_soundness.proofs.Ranged as base

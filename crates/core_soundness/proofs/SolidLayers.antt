@@ -2,41 +2,21 @@
 use Rattle.std.proofs.Common.{◌≡◌, ℕ, ℤ, pos, Bool, true, false, ◌||◌, cond, is_some, is_none, All, List, [], ◌∷◌, ◌++◌, length, reverse, slice_get, unwrap_or, option_map, Option, Some, None, Ok, refl, ap, ◌∙◌, arith}
 use Rattle.std.proofs.lemmas.List.Elements.{All-cons}
 use Rattle.std.specs.Option.{option_map_or}
-use Rattle.hs_base.specs.Numbers.{wrapped}
-use Rattle.hs_base.specs.declared.ends.IntKind.TheVariants.{I32}
-use Rattle.c_types.specs.Layouts.{Known, layout_of}
+use Rattle.core_soundness.proofs.Words.Trees.{name_of, Tree, Trees, Leaf, At, Node, none, ◌▹◌, RecordSort}
+use Rattle.core_soundness.proofs.Words.Types.{Known, layout_of, TagTable, CompletedTag, refusal, layout_in, PlainType, PlainTypes, Void, Int, Pointer, Array, Struct, Union, Layout, TagError, TagInfo, line_of, typed, wanted, constant_from, PlainNamed, Checked, then, unless, Table, named_in, innermost, first_or, with_name, tag_name, Layer, record_type, is_union, special_type, array_length, with_layers, with_param_layers, adjusted, is_void, is_record, is_array, is_function, has_no_size, DeclaredTwice, Incomplete, LeftOut}
+use Rattle.core_soundness.proofs.Words.Core.{wrapped, I32, HasLayout}
+use Rattle.core_soundness.proofs.Words.Elaborating.{Context, asked, entered, local_register, Memory, constant, with_type, maybe_name, newly_named, begun_as, completed_by, complete, ended, with_member, member, enumerator, enum_named, is_declared, param, left_params, specs, words_type, tag_type, members, member_names, enumerators, layers, suffix_layers, suffix_layer, params, is_twice, declared_as, next_is_memory, with_register, with_memory, counted, with_named, memory_param, register_param, function_param, prototype_param, is_prototype, with_param}
+use Rattle.core_soundness.proofs.Words.Facts.{Solid, Whole, AllWhole, MembersWhole, NamedWhole, TableWhole, HasParts, Written, AllWritten}
 use Rattle.c_types.specs.TagTable as tables
-use Rattle.c_types.specs.TagTable.{TagTable, CompletedTag, refusal, layout_in}
-use Rattle.c_types.specs.Types.{PlainType, PlainTypes, Void, Int, Pointer, Array, Struct, Union}
-use Rattle.c_types.specs.declared.layouts.Layout.{Layout}
-use Rattle.c_types.specs.declared.tags.TagError.{TagError}
-use Rattle.c_types.specs.declared.tags.TagInfo.{TagInfo}
 use Rattle.c_types.specs.declared.types.IntType.TheVariants as i
-use Rattle.core_tree.specs.LayoutsOfTypes.{HasLayout}
 use Rattle.core_tree.specs.declared.statements.Atom.TheVariants as atom
 use Rattle.c_tree.specs.Forms as f
-use Rattle.c_tree.specs.Scopes.{name_of}
-use Rattle.c_tree.specs.Tree.{Tree, Trees, Leaf, At, Node, none, ◌▹◌}
 use Rattle.c_tree.specs.Words as w
-use Rattle.c_tree.specs.declared.operator.RecordSort.{RecordSort}
 use Rattle.c_tree.specs.declared.operator.RecordSort.TheVariants as r
-use Rattle.c_decls.specs.Expressions.{line_of, typed, wanted, constant_from}
 use Rattle.c_decls.specs.Named as n
-use Rattle.c_decls.specs.Named.{PlainNamed}
-use Rattle.c_decls.specs.Refusals.{Checked, then, unless}
-use Rattle.c_decls.specs.ScopeList.{Table, named_in, innermost, first_or, with_name, tag_name}
 use Rattle.c_decls.specs.TypeNames as names
-use Rattle.c_decls.specs.TypeNames.{Layer, record_type, is_union, special_type, array_length, with_layers, with_param_layers, adjusted}
-use Rattle.c_decls.specs.Typed.{is_void, is_record, is_array, is_function, has_no_size}
-use Rattle.c_decls.specs.declared.refusal.TypeKind.TheVariants.{DeclaredTwice, Incomplete, LeftOut}
-use Rattle.elaboration.specs.Context.{Context, asked, entered, local_register}
-use Rattle.elaboration.specs.Conversions.{Memory}
 use Rattle.elaboration.specs.Declarators as d
-use Rattle.elaboration.specs.Declarators.{constant, with_type, maybe_name, newly_named, begun_as, begun, completed_by, complete, ended, with_member, member, enumerator, enum_named, is_declared, param, left_params, specs, words_type, tag_type, members, member_names, enumerators, layers, suffix_layers, suffix_layer, params}
-use Rattle.elaboration.specs.Locals.{is_twice, declared_as, next_is_memory, with_register, with_memory, counted, with_named, memory_param, register_param, function_param, prototype_param, is_prototype, with_param}
-use Rattle.core_soundness.specs.Solid.{Solid}
-use Rattle.core_soundness.specs.Whole.{Whole, AllWhole, MembersWhole, NamedWhole, TableWhole}
-use Rattle.core_soundness.specs.Written.{HasParts, Written, AllWritten}
+use Rattle.elaboration.specs.Declarators.{begun}
 use Rattle.core_soundness.proofs.Agreeing.{came}
 use Rattle.core_soundness.proofs.Growth.{good, ok_same, never, Led, led_ok, led_refused, led_after, led_unless, behind_test}
 use Rattle.core_soundness.proofs.Ranged.{wrapped_number, mems_push, K, fit_of, told_whole, layers_stay, layer_stays, laid}

@@ -3,56 +3,17 @@ use Rattle.std.proofs.Common.{take, drop, ◌≡◌, ◌≤◌, ◌+◌, ◌*◌
 use Rattle.std.proofs.lemmas.List.Elements.{All-cons, All-nil}
 use Rattle.std.proofs.lemmas.List.Sums.{sum_by-append, sum_by-cons}
 use Rattle.std.specs.List.{flat_map}
-use Rattle.hs_base.specs.Place.{block_size}
-use Rattle.c_types.specs.Layouts.{Known, array_layout, number_layout}
-use Rattle.c_types.specs.TagTable.{TagTable}
+use Rattle.core_soundness.proofs.Words.Trees.{name_of, Tree, Trees, At, Node, none, ◌▹◌}
+use Rattle.core_soundness.proofs.Words.Types.{Known, array_layout, number_layout, TagTable, PlainType, Void, Function, IntType, built_ins, numbered_from, line_of, promoted, unconverted, Checked, then, unless, named_in, with_layers, Operand, Number, operand, is_void, is_scalar, is_function, BuiltIn, Operands, Assignment, StrayBreak, CaseTwice, LeftOut, DeclaredTwice, ProgramTooLong, NoMain}
+use Rattle.core_soundness.proofs.Words.Core.{block_size, IsLayoutOfType, IsNumber, EachFunc, EachStatement, atom_numbers, element_layouts, HasNumbers, given, operands, Core, Func, Mem, Static, Atom, Stm, StmKind, Enter, Leave, Return, Jump, Zero, Loop, Case, Add, Sub, Off, Diff, Copy, Clear, Malloc, Calloc, Realloc}
+use Rattle.core_soundness.proofs.Words.Elaborating.{addressed_in, Here, Code, left, Context, Variable, Walked, scoped, entered, emit, here, new_label, with_labels, with_pieces, first_context, Declared, Piece, Does, Found, atom_in, valued, convert, convert_integer, tested_value, code_line, unused, function_number, declared_function, specs, layers, constant, walked, elaborated, found, begun, answer_of, params_of, is_defined, body_begun, last_answer, body_ended, body, defined, named_definition, definition, external, externals, calls_defined, is_main, opened, closed, function_of, variable_static, literal_static, core_of, Numbers, atom_by, numbered, body_of, numbers_of, Around, around_body, below, in_loop, in_switch, in_delay, leaves, leave_to, evaluated, maybe_evaluated, condition, leaves_if_zero, maybe_leaves, apart, behind, return_of, return_from, has_case, case_of, cased, defaulted, switch_operand_of, switch_operand, no_cases, looped, for_start, statement, items, dispatch, does, cases_of}
+use Rattle.core_soundness.proofs.Words.Facts.{HasLayouts, HasRanges, KindIn, AtomIn, AtomsIn, PiecesIn, IsStep, MemsLaid, VariablesLaid, WalkedLaid, Solid, NamedWhole, Whole, TableWhole, Written, AllWritten, AreWritten}
 use Rattle.c_types.specs.Types as types
-use Rattle.c_types.specs.Types.{PlainType, Void, Function}
-use Rattle.c_types.specs.declared.types.IntType.{IntType}
 use Rattle.c_types.specs.declared.types.IntType.TheVariants as i
-use Rattle.core_tree.specs.LayoutsOfTypes.{IsLayoutOfType}
-use Rattle.core_tree.specs.Sound.{IsNumber, EachFunc, EachStatement, atom_numbers, element_layouts, HasNumbers}
-use Rattle.core_tree.specs.Statements.{given, operands}
-use Rattle.core_tree.specs.declared.program.Core.{Core}
-use Rattle.core_tree.specs.declared.program.Func.{Func}
-use Rattle.core_tree.specs.declared.program.Mem.{Mem}
-use Rattle.core_tree.specs.declared.program.Static.{Static}
-use Rattle.core_tree.specs.declared.statements.Atom.{Atom}
 use Rattle.core_tree.specs.declared.statements.Atom.TheVariants as atom
-use Rattle.core_tree.specs.declared.statements.Stm.{Stm}
-use Rattle.core_tree.specs.declared.statements.StmKind.{StmKind}
-use Rattle.core_tree.specs.declared.statements.StmKind.TheVariants.{Enter, Leave, Return, Jump, Zero, Loop, Case, Add, Sub, Off, Diff, Copy, Clear, Malloc, Calloc, Realloc}
 use Rattle.c_tree.specs.Forms as f
-use Rattle.c_tree.specs.Scopes.{name_of}
-use Rattle.c_tree.specs.Tree.{Tree, Trees, At, Node, none, ◌▹◌}
 use Rattle.c_decls.specs.BuiltIns as names
-use Rattle.c_decls.specs.BuiltIns.{built_ins, numbered_from}
-use Rattle.c_decls.specs.Expressions.{line_of}
-use Rattle.c_decls.specs.IntegerTypes.{promoted}
 use Rattle.c_decls.specs.Named as n
-use Rattle.c_decls.specs.PlaceRules.{unconverted}
-use Rattle.c_decls.specs.Refusals.{Checked, then, unless}
-use Rattle.c_decls.specs.ScopeList.{named_in}
-use Rattle.c_decls.specs.TypeNames.{with_layers}
-use Rattle.c_decls.specs.Typed.{Operand, Number, operand, is_void, is_scalar, is_function}
-use Rattle.c_decls.specs.declared.built_in.BuiltIn.{BuiltIn}
-use Rattle.c_decls.specs.declared.refusal.TypeKind.TheVariants.{Operands, Assignment, StrayBreak, CaseTwice, LeftOut, DeclaredTwice, ProgramTooLong, NoMain}
-use Rattle.elaboration.specs.Addressed.{addressed_in}
-use Rattle.elaboration.specs.Context.{Here, Code, left, Context, Variable, Walked, scoped, entered, emit, here, new_label, with_labels, with_pieces, first_context, Declared, Piece, Does}
-use Rattle.elaboration.specs.Conversions.{Found, atom_in, valued, convert, convert_integer, tested_value, code_line, unused}
-use Rattle.elaboration.specs.Declarations.{function_number, declared_function}
-use Rattle.elaboration.specs.Declarators.{specs, layers, constant}
-use Rattle.elaboration.specs.Elaboration.{walked, elaborated}
-use Rattle.elaboration.specs.Expressions.{found}
-use Rattle.elaboration.specs.Externals.{begun, answer_of, params_of, is_defined, body_begun, last_answer, body_ended, body, defined, named_definition, definition, external, externals, calls_defined, is_main}
-use Rattle.elaboration.specs.Reallocates.{opened, closed}
-use Rattle.elaboration.specs.Resolving.{function_of, variable_static, literal_static, core_of, Numbers, atom_by, numbered, body_of, numbers_of}
-use Rattle.elaboration.specs.Statements.{Around, around_body, below, in_loop, in_switch, in_delay, leaves, leave_to, evaluated, maybe_evaluated, condition, leaves_if_zero, maybe_leaves, apart, behind, return_of, return_from, has_case, case_of, cased, defaulted, switch_operand_of, switch_operand, no_cases, looped, for_start, statement, items, dispatch, does, cases_of}
-use Rattle.core_soundness.specs.Laws.{HasLayouts, HasRanges}
-use Rattle.core_soundness.specs.Ranges.{KindIn, AtomIn, AtomsIn, PiecesIn, IsStep}
-use Rattle.core_soundness.specs.Solid.{MemsLaid, VariablesLaid, WalkedLaid, Solid}
-use Rattle.core_soundness.specs.Whole.{NamedWhole, Whole, TableWhole}
-use Rattle.core_soundness.specs.Written.{Written, AllWritten, AreWritten}
 use Rattle.core_soundness.proofs.CodeWalk.{quiet_convert_integer}
 use Rattle.core_soundness.proofs.Cores.{behind as core_behind, core_sizes}
 use Rattle.core_soundness.proofs.Growth.{Led, led_ok, led_refused, led_after, led_unless, led_barred}

@@ -2,30 +2,14 @@
 use Rattle.std.proofs.Common.{◌≡◌, ◌⊎◌, ◌≤◌, ◌<◌, ◌+◌, ◌-◌, ℕ, ℤ, Bool, true, false, not, length, List, [], ◌∷◌, ◌++◌, take, drop, Option, Some, None, Ok, refl, sym, ap, ◌∙◌, subst, arith, inl, inr, ⊎_elim, append_assoc, append-nil, true≢false, cond, sum_by, slice_get, slice_set, bytes_eq, codes, ltb-false}
 use Rattle.std.proofs.lemmas.List.Sums.{sum_by-append}
 use Rattle.std.specs.Prelude.{is_some, nat_lt}
-use Rattle.hs_base.specs.Numbers.{wrapped}
-use Rattle.c_types.specs.Types.{kind_of, PlainType}
-use Rattle.c_types.specs.declared.types.IntType.{IntType}
-use Rattle.core_tree.specs.declared.statements.Atom.{Atom}
-use Rattle.core_tree.specs.declared.statements.StmKind.TheVariants.{Jump, Loop, Enter, Leave, Return}
+use Rattle.core_soundness.proofs.Words.Trees.{name_of, Tree, Trees, At, Node, none, ◌▹◌}
+use Rattle.core_soundness.proofs.Words.Types.{kind_of, PlainType, IntType, built_ins, numbered_from, first_scopes, name_of as name_of_built_in, Checked, refused, then, named_in, with_layers, is_function, BuiltIn, StrayBreak, CaseTwice, LeftOut, Undeclared, DeclaredTwice, NoMain, ProgramTooLong}
+use Rattle.core_soundness.proofs.Words.Core.{wrapped, Atom, Jump, Loop, Enter, Leave, Return}
+use Rattle.core_soundness.proofs.Words.Elaborating.{addressed_in, Piece, Does, Here, Code, Context, entered, left, scoped, emit, here, new_label, with_labels, with_pieces, no_code, Declared, Walked, first_context, declaration, function_number, declared_function, constant, specs, layers, walked, begun, define, params_of, is_defined, body_begun, last_answer, piece_length, body_ended, body, defined, named_definition, definition, external, externals, calls_defined, is_main, Around, below, in_loop, in_switch, in_delay, leave_to, evaluated, maybe_evaluated, leaves_if_zero, maybe_leaves, apart, has_case, with_case, cased, defaulted, dispatch, default_or, switch_operand, no_cases, switched, looped, for_start, statement, items, around_body}
 use Rattle.c_tree.specs.Forms as f
-use Rattle.c_tree.specs.Scopes.{name_of}
 use Rattle.c_tree.specs.Tree as t
-use Rattle.c_tree.specs.Tree.{Tree, Trees, At, Node, none, ◌▹◌}
-use Rattle.c_decls.specs.BuiltIns.{built_ins, numbered_from, first_scopes, name_of as name_of_built_in}
 use Rattle.c_decls.specs.Named as n
-use Rattle.c_decls.specs.Refusals.{Checked, refused, then}
-use Rattle.c_decls.specs.ScopeList.{named_in}
-use Rattle.c_decls.specs.TypeNames.{with_layers}
-use Rattle.c_decls.specs.Typed.{is_function}
-use Rattle.c_decls.specs.declared.built_in.BuiltIn.{BuiltIn}
-use Rattle.c_decls.specs.declared.refusal.TypeKind.TheVariants.{StrayBreak, CaseTwice, LeftOut, Undeclared, DeclaredTwice, NoMain, ProgramTooLong}
-use Rattle.elaboration.specs.Addressed.{addressed_in}
-use Rattle.elaboration.specs.Context.{Piece, Does, Here, Code, Context, entered, left, scoped, emit, here, new_label, with_labels, with_pieces, no_code, Declared, Walked, first_context}
-use Rattle.elaboration.specs.Declarations.{declaration, function_number, declared_function}
-use Rattle.elaboration.specs.Declarators.{constant, specs, layers}
-use Rattle.elaboration.specs.Elaboration.{walked}
-use Rattle.elaboration.specs.Externals.{begun, define, params_of, is_defined, body_begun, last_answer, piece_length, body_ended, body, defined, named_definition, definition, external, externals, calls_defined, is_main, ended}
-use Rattle.elaboration.specs.Statements.{Around, below, in_loop, in_switch, in_delay, leave_to, evaluated, maybe_evaluated, leaves_if_zero, maybe_leaves, apart, has_case, with_case, cased, defaulted, dispatch, default_or, switch_operand, no_cases, switched, looped, for_start, statement, items, around_body}
+use Rattle.elaboration.specs.Externals.{ended}
 use Rattle.core_soundness.proofs.Declaring.{passes_refl, constant_passes, tail_depth, declaration_declares, specs_passes, layers_pass, introduced}
 use Rattle.core_soundness.proofs.Flows.{Marks, Way, way_on, IsWay, Stands, Leads, AreEarlier, earlier_less, Fragment, anywhere, in_scope, jump_leaves, with_ways, stm_at, Targets, Placed, Flows, targets_append, targets_map, placed_left, flows_append}
 use Rattle.core_soundness.proofs.Growth.{Led, led_ok, led_refused, led_after, led_unless, Stays, Passes, stays_trans, stays_beside, Counted, passes_trans, ok_same, good, never}

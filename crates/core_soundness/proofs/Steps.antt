@@ -3,40 +3,19 @@ use Rattle.std.proofs.Common.{◌≡◌, ◌+◌, ℕ, pos, Bool, true, false, n
 use Rattle.std.proofs.lemmas.Slice.Eq.{bytes_eq-Decides}
 use Rattle.std.proofs.lemmas.Bool.{and_parts}
 use Rattle.std.specs.Option.{option_or}
-use Rattle.c_types.specs.Types.{PlainType, Array, Struct, Union}
-use Rattle.core_tree.specs.declared.statements.Atom.{Atom}
+use Rattle.core_soundness.proofs.Words.Trees.{shape, rows, some, commas, behind_commas, some_commas, Place, is_scope, places, name_of, name_among, first_name, leads_to_name, Tree, Trees, At, Node, none, ◌▹◌, count, Leaf, RecordSort}
+use Rattle.core_soundness.proofs.Words.Types.{PlainType, Array, Struct, Union, line_of, PlainNamed, unconverted, refused, then, ScopeList, Table, named_in, found_from, found as declaration, innermost, first_or, with_name, with_name_in, after_declaration, is_scalar, Assignment, DeclaredTwice}
+use Rattle.core_soundness.proofs.Words.Core.{Atom, Off, Copy, Clear, Set}
+use Rattle.core_soundness.proofs.Words.Elaborating.{Taken, taken, number_of, Known, left_scope, left_part, all_taken, Context, emit, local_register, Found, Spot, Local, Memory, atom_in, valued, convert, write, size_or_zero, zero_of, cleared, fill_memory, fill_register, fill_at, fill_local, specs, found, Target, InRegister, InMemory, InStatic, static_scalar, member_place, store_at, fill_scalar, scalar, copy_to, fill_record, is_same_place, whole, fill_text, is_character, text, by_text, by_expression, parts_of, takes_braces, is_scalar_type, all_surplus, initialize, initialize_parts, not_whole, next_is_memory, local_in, with_local, is_same_again, is_file, is_twice_in, is_twice, declared_as, with_register, with_memory, counted, with_named, memory_param, register_param, function_param, prototype_param, is_prototype, with_param, opened, with_literal}
+use Rattle.core_soundness.proofs.Words.Facts.{Spoken, AllSpoken, is_register, Written}
 use Rattle.core_tree.specs.declared.statements.Atom.TheVariants as atom
-use Rattle.core_tree.specs.declared.statements.StmKind.TheVariants.{Off, Copy, Clear, Set}
 use Rattle.c_tree.specs.Forms as f
-use Rattle.c_tree.specs.Grammar.{shape, rows, some, commas, behind_commas, some_commas}
 use Rattle.c_tree.specs.Places as p
-use Rattle.c_tree.specs.Places.{Place}
-use Rattle.c_tree.specs.Scopes.{is_scope, places, name_of, name_among, first_name, leads_to_name}
-use Rattle.c_tree.specs.Tree.{Tree, Trees, At, Node, none, ◌▹◌, count, Leaf}
 use Rattle.c_tree.specs.Words as w
-use Rattle.c_tree.specs.declared.operator.RecordSort.{RecordSort}
-use Rattle.c_decls.specs.Expressions.{line_of}
 use Rattle.c_decls.specs.Named as n
-use Rattle.c_decls.specs.Named.{PlainNamed}
-use Rattle.c_decls.specs.PlaceRules.{unconverted}
-use Rattle.c_decls.specs.Refusals.{refused, then}
 use Rattle.c_decls.specs.ScopeList as scopes
-use Rattle.c_decls.specs.ScopeList.{ScopeList, Table, named_in, found_from, found as declaration, innermost, first_or, with_name, with_name_in, after_declaration}
-use Rattle.c_decls.specs.Typed.{is_scalar}
-use Rattle.c_decls.specs.declared.refusal.TypeKind.TheVariants.{Assignment, DeclaredTwice}
 use Rattle.elaboration.specs.Addressed as walk
-use Rattle.elaboration.specs.Addressed.{Taken, taken, number_of, Known, with_local as taken_local, left_scope, left, left_part, all_taken}
-use Rattle.elaboration.specs.Context.{Context, emit, local_register}
-use Rattle.elaboration.specs.Conversions.{Found, Spot, Local, Memory, atom_in, valued, convert, write, size_or_zero}
-use Rattle.elaboration.specs.Declarations.{zero_of, cleared, fill_memory, fill_register, fill_at, fill_local}
-use Rattle.elaboration.specs.Declarators.{specs}
-use Rattle.elaboration.specs.Expressions.{found}
-use Rattle.elaboration.specs.Initializers.{Target, InRegister, InMemory, InStatic, static_scalar, member_place, store_at, fill_scalar, scalar, copy_to, fill_record, is_same_place, whole, fill_text, is_character, text, by_text, by_expression, parts_of, takes_braces, is_scalar_type, all_surplus, initialize, initialize_parts, not_whole}
-use Rattle.elaboration.specs.Locals.{next_is_memory, local_in, with_local, is_same_again, is_file, is_twice_in, is_twice, declared_as, with_register, with_memory, counted, with_named, memory_param, register_param, function_param, prototype_param, is_prototype, with_param}
-use Rattle.elaboration.specs.Reallocates.{opened}
-use Rattle.elaboration.specs.Rules.{with_literal}
-use Rattle.core_soundness.specs.Spoken.{Spoken, AllSpoken, is_register}
-use Rattle.core_soundness.specs.Written.{Written}
+use Rattle.elaboration.specs.Addressed.{with_local as taken_local, left}
 use Rattle.core_soundness.proofs.Agreeing.{came}
 use Rattle.core_soundness.proofs.Formed.{Shaped, Formed, AllFormed, NoNodes, behind_stars}
 use Rattle.core_soundness.proofs.Growth.{good, ok_same, never, Grows, grows_refl, grows_pointer, Reached, reached_ok, reached_refused, reached_after, reached_unless, reached_barred, grown_literal, behind_string}

@@ -1,36 +1,22 @@
 -- Tags and the sorts by which types name them.
 use Rattle.std.proofs.Common.{◌≡◌, ℕ, true, false, List, [], ◌∷◌, ◌++◌, length, slice_get, Option, Some, None, refl, ◌∙◌, subst, ⊎_elim, ◌*◌, zero, Bool, cond, nat_lt, Ok, sym, ap}
 use Rattle.std.specs.Option.{option_or}
-use Rattle.c_types.specs.TagTable.{TagTable, size_in, CompletedTag}
+use Rattle.core_soundness.proofs.Words.Trees.{name_of, Tree, Trees, Leaf, At, Node, none, ◌▹◌, RecordSort}
+use Rattle.core_soundness.proofs.Words.Types.{TagTable, size_in, CompletedTag, PlainType, Array, Struct, Union, Void, Int, TagInfo, named, called, call, no_function, line_of, Found, answered, wanted, changing, one, two, joined, string, first_literal, callee, in_new_scope, typed, values, typename, layers, suffix_layers, suffix_layer, param_types, param_type, unused, cast_operand, PlainNamed, held_place, element, dot, arrow, stepped, size, cast, choice, assigned, changed, behind_comma, Checked, ScopeList, Table, named_in, found_from, found, innermost, with_name, with_name_in, first_or, tag_name, record_type, is_union, Context, Layer, ArrayOf, FunctionOf, has, is_void_word, word_type, same_sort, tag_named, enum_named, type_named, special_type, array_of, layered, layered_before, with_layers, specs_type, array_length, with_param_layers, adjusted, with_param, declared_param, with_new_tag, address, unary, binary, is_function, PlainTyped, read, is_void, wanted_value, LeftOut, TypeTooLarge, DeclaredTwice, Incomplete}
+use Rattle.core_soundness.proofs.Words.Elaborating.{Context as TextContext, asked, given_length, with_init_layers}
+use Rattle.core_soundness.proofs.Words.Facts.{TableFits, ScopesFit}
 use Rattle.c_types.specs.Types as ct
-use Rattle.c_types.specs.Types.{PlainType, Array, Struct, Union, Void, Int}
-use Rattle.c_types.specs.declared.tags.TagInfo.{TagInfo}
 use Rattle.c_tree.specs.Forms as f
-use Rattle.c_tree.specs.Scopes.{name_of}
-use Rattle.c_tree.specs.Tree.{Tree, Trees, Leaf, At, Node, none, ◌▹◌}
 use Rattle.c_tree.specs.Words as w
 use Rattle.c_tree.specs.declared.operator.AssignOp.TheVariants as a
-use Rattle.c_tree.specs.declared.operator.RecordSort.{RecordSort}
 use Rattle.c_tree.specs.declared.operator.RecordSort.TheVariants as r
 use Rattle.c_tree.specs.declared.operator.UnaryOp.TheVariants as u
-use Rattle.c_decls.specs.Callees.{named, called, call, no_function}
-use Rattle.c_decls.specs.Expressions.{line_of, Found, answered, wanted, changing, one, two, joined, string, first_literal, callee, in_new_scope, typed, values, typename, layers, suffix_layers, suffix_layer, param_types, param_type, unused, cast_operand}
 use Rattle.c_decls.specs.Named as n
-use Rattle.c_decls.specs.Named.{PlainNamed}
-use Rattle.c_decls.specs.PlaceRules.{held_place, element, dot, arrow, stepped, size, cast, choice, assigned, changed, behind_comma}
-use Rattle.c_decls.specs.Refusals.{Checked}
 use Rattle.c_decls.specs.ScopeList as scopes
-use Rattle.c_decls.specs.ScopeList.{ScopeList, Table, named_in, found_from, found, innermost, with_name, with_name_in, first_or, tag_name}
 use Rattle.c_decls.specs.TypeNames as names
-use Rattle.c_decls.specs.TypeNames.{record_type, is_union, Context, Layer, PointerTo, ArrayOf, FunctionOf, has, is_void_word, word_type, same_sort, tag_named, enum_named, type_named, special_type, array_of, layered, layered_before, with_layers, specs_type, array_length, with_param_layers, adjusted, with_param, declared_param, with_new_tag}
-use Rattle.c_decls.specs.TypeRules.{address, unary, binary}
-use Rattle.c_decls.specs.Typed.{is_function, PlainTyped, read, is_void, wanted_value}
-use Rattle.c_decls.specs.declared.refusal.TypeKind.TheVariants.{LeftOut, TypeTooLarge, DeclaredTwice, Incomplete}
-use Rattle.elaboration.specs.Context.{Context as TextContext, asked}
-use Rattle.elaboration.specs.Initializers.{given_length, with_init_layers}
+use Rattle.c_decls.specs.TypeNames.{PointerTo}
 use Rattle.core_soundness.proofs.Growth.{Longer, Led, led_ok, led_refused, led_after, led_unless, ok_same, never, Reached, reached_ok, reached_refused, reached_after, reached_then, reached_unless, wanted_unused, type_cast_unused}
 use Rattle.core_soundness.proofs.Scopes.{name_fits, named_fits, entered_fit, left_fit, scopes_fit, get_left, get_last, Pushed, push_get, More, MoreAll, more_refl, more_trans, with_tag_more, left_more, HasScope, scope_more}
-use Rattle.core_soundness.specs.Fitting.{TableFits, ScopesFit}
 
 -- types name tags of the sort that these were made of (C99 6.7.2.3)
 

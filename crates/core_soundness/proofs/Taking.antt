@@ -2,26 +2,18 @@
 use Rattle.std.proofs.Common.{◌≡◌, ℕ, Bool, true, false, ◌||◌, nat_eq, List, [], ◌∷◌, Option, Some, None, refl, ◌≤◌, sym, ap, ◌∙◌, zero, suc, length, ⊎_elim}
 use Rattle.std.specs.List.{list_any}
 use Rattle.std.specs.Option.{option_or}
+use Rattle.core_soundness.proofs.Words.Trees.{Form, shape, rows, some, commas, behind_commas, some_commas, here_rows, Place, name_among, is_scope, places, Tree, Trees, Node, none, ◌▹◌, count, Leaf, At}
+use Rattle.core_soundness.proofs.Words.Types.{PlainNamed, Tag, ScopeList, Table, found, named_in, found_from, tail}
+use Rattle.core_soundness.proofs.Words.Elaborating.{Taken, number_of, plain_name, with_number, with_address, with_known, declare, left_part, taken, all_taken, left_scope, Context, left as left_context}
+use Rattle.core_soundness.proofs.Words.Facts.{is_register, World, world, FileFits, HasParts, Written, AllWritten, TableFits}
 use Rattle.c_tree.specs.Forms as f
-use Rattle.c_tree.specs.Forms.{Form}
-use Rattle.c_tree.specs.Grammar.{shape, rows, some, commas, behind_commas, some_commas, here_rows}
-use Rattle.c_tree.specs.Places.{Place}
 use Rattle.c_tree.specs.Places as p
-use Rattle.c_tree.specs.Scopes.{name_among, is_scope, places}
-use Rattle.c_tree.specs.Tree.{Tree, Trees, Node, none, ◌▹◌, count, Leaf, At}
 use Rattle.c_tree.specs.declared.operator.UnaryOp.TheVariants as u
 use Rattle.c_decls.specs.Named as n
-use Rattle.c_decls.specs.Named.{PlainNamed, Tag}
 use Rattle.c_decls.specs.ScopeList as scopes
-use Rattle.c_decls.specs.ScopeList.{ScopeList, Table, found, named_in, found_from, tail}
-use Rattle.elaboration.specs.Addressed.{Taken, number_of, plain_name, with_number, with_address, with_known, declare, left, left_part, taken, all_taken, left_scope}
-use Rattle.elaboration.specs.Context.{Context, left as left_context}
-use Rattle.core_soundness.specs.Spoken.{is_register}
-use Rattle.core_soundness.specs.Worlds.{World, world, FileFits}
-use Rattle.core_soundness.specs.Written.{HasParts, Written, AllWritten}
+use Rattle.elaboration.specs.Addressed.{left}
 use Rattle.core_soundness.proofs.Formed.{NoNodes, Shaped, Formed, AllFormed}
 use Rattle.core_soundness.proofs.Scopes.{More, MoreAll, IsNewTag, HasScope, scope_more}
-use Rattle.core_soundness.specs.Fitting.{TableFits}
 
 -- of which parameters and locals the address was taken stays known behind each tree
 

@@ -2,17 +2,10 @@
 use Rattle.std.proofs.Common.{◌≡◌, ◌≤◌, ◌+◌, ◌*◌, ℕ, List, [], ◌∷◌, length, length-append, All, sum_by, ap, subst, arith}
 use Rattle.std.proofs.lemmas.List.Elements.{All-head, All-tail}
 use Rattle.std.proofs.lemmas.List.Sums.{sum_by-cons}
-use Rattle.c_lexer.specs.Pieces.{IsToken}
-use Rattle.c_lexer.specs.Tokens.{IsLexed}
-use Rattle.c_lexer.specs.declared.token.Token.{Token}
-use Rattle.c_lexer.specs.declared.token.TokenKind.{TokenKind}
+use Rattle.core_soundness.proofs.Words.Trees.{IsToken, IsLexed, Token, TokenKind, HasTree, IsSuffixed, Tree, Trees, none, ◌▹◌}
+use Rattle.core_soundness.proofs.Words.Core.{IsShort}
+use Rattle.core_soundness.proofs.Words.Facts.{joined, all_joined, HaveTrees, AllNames, IsMadeOf, IsSmall, IsOfTexts, Each, AreWritten}
 use Rattle.c_lexer.specs.declared.token.TokenKind.TheVariants as kind
-use Rattle.c_tree.specs.HasTree.{HasTree}
-use Rattle.c_tree.specs.Renaming.{IsSuffixed}
-use Rattle.c_tree.specs.Tree.{Tree, Trees, none, ◌▹◌}
-use Rattle.core_tree.specs.Sound.{IsShort}
-use Rattle.core_soundness.specs.Texts.{joined, all_joined, HaveTrees, AllNames, IsMadeOf, IsSmall, IsOfTexts}
-use Rattle.core_soundness.specs.Written.{Each, AreWritten}
 use Rattle.core_soundness.proofs.Formed.{Grammatical, AreFormed, all_written, all_formed, unit_made}
 use Rattle.core_soundness.proofs.Near.{unit_weighed}
 use Rattle.core_soundness.proofs.OwnNames.{IsOwn, HaveOwnNames, own_name, own_kept, own_trees}

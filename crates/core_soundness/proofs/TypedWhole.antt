@@ -4,44 +4,20 @@ use Rattle.std.proofs.lemmas.Bool.{ltb-false}
 use Rattle.std.proofs.lemmas.List.{reverse-append}
 use Rattle.std.specs.List.{find}
 use Rattle.std.specs.Option.{option_or}
-use Rattle.c_types.specs.Layouts.{Known, layout_of, number_layout}
-use Rattle.c_types.specs.TagTable.{TagTable, CompletedTag, PlainMember, known, layout_in, size_in, members_in}
+use Rattle.core_soundness.proofs.Words.Trees.{name_of, Tree, Trees, Leaf, At, Node, none, ◌▹◌, AssignOp, BinaryOp, RecordSort, UnaryOp}
+use Rattle.core_soundness.proofs.Words.Types.{Known, layout_of, number_layout, TagTable, CompletedTag, PlainMember, known, layout_in, size_in, members_in, PlainType, PlainTypes, Void, Int, Pointer, Array, Struct, Union, Function, first, Layout, IntType, built_ins, constant_of, Callee, Takes, Prints, NoFunction, built_in_callee, built_in_value, built_in_named, named, no_function, function_callee, built_in_called, callee_at, called, prints, call, line_of, Found, answered, wanted, changing, one, two, joined, string, first_literal, callee, in_new_scope, out_of_scope, typed, values, typename, layers, suffix_layers, suffix_layer, param_types, param_type, unused, cast_operand, PlainNamed, cast_types, cast, chosen_pointer, choice_types, choice, size_answer, size, element_types, element, member_answer, member_among, member_of, dot, arrow_of, arrow, record_assigned, scalar_assigned, assigned, changed_types, changed, stepped, held_place, behind_comma, all_convert, converts, unconverted, is_written, Checked, unless, ScopeList, Table, found, found_from, with_name, tag_name, named_in, Context, Layer, ArrayOf, FunctionOf, word_type, record_type, with_new_tag, same_sort, tag_named, enum_named, type_named, special_type, specs_type, length_from, array_length, array_of, layered, layered_before, with_layers, with_param_layers, adjusted, with_param, declared_param, immovable, moving, beside_pointer, sum_types, difference_types, order_types, equal_types, integer_types, logical, binary, unary_of, unary_on_pointer, unary, address, PlainTyped, Operand, Number, PointerTo, Neither, operand, place, value, int, held, read, same, is_void, is_function, is_record, is_null_constant, has_no_size, has_no_value, wanted_value, BuiltIn, Constant, Operands, NotLvalue, ArgumentCount, Assignment, DeclaredTwice, Incomplete, TypeTooLarge, Format, LeftOut, Folded, Is}
+use Rattle.core_soundness.proofs.Words.Facts.{Whole, AllWhole, AreMade, NamedWhole, TableWhole, NamesWhole}
 use Rattle.c_types.specs.Types as ct
-use Rattle.c_types.specs.Types.{PlainType, PlainTypes, Void, Int, Pointer, Array, Struct, Union, Function, first}
-use Rattle.c_types.specs.declared.layouts.Layout.{Layout}
-use Rattle.c_types.specs.declared.types.IntType.{IntType}
 use Rattle.c_tree.specs.Forms as f
-use Rattle.c_tree.specs.Scopes.{name_of}
-use Rattle.c_tree.specs.Tree.{Tree, Trees, Leaf, At, Node, none, ◌▹◌}
 use Rattle.c_tree.specs.Words as w
-use Rattle.c_tree.specs.declared.operator.AssignOp.{AssignOp}
 use Rattle.c_tree.specs.declared.operator.AssignOp.TheVariants as a
-use Rattle.c_tree.specs.declared.operator.BinaryOp.{BinaryOp}
 use Rattle.c_tree.specs.declared.operator.BinaryOp.TheVariants as b
-use Rattle.c_tree.specs.declared.operator.RecordSort.{RecordSort}
 use Rattle.c_tree.specs.declared.operator.RecordSort.TheVariants as r
-use Rattle.c_tree.specs.declared.operator.UnaryOp.{UnaryOp}
 use Rattle.c_tree.specs.declared.operator.UnaryOp.TheVariants as u
-use Rattle.c_decls.specs.BuiltIns.{built_ins, constant_of}
-use Rattle.c_decls.specs.Callees.{Callee, Takes, Prints, NoFunction, built_in_callee, built_in_value, built_in_named, named, no_function, function_callee, built_in_called, callee_at, called, prints, call}
-use Rattle.c_decls.specs.Expressions.{line_of, Found, answered, wanted, changing, one, two, joined, string, first_literal, callee, in_new_scope, out_of_scope, typed, values, typename, layers, suffix_layers, suffix_layer, param_types, param_type, unused, cast_operand}
 use Rattle.c_decls.specs.Named as n
-use Rattle.c_decls.specs.Named.{PlainNamed}
-use Rattle.c_decls.specs.PlaceRules.{cast_types, cast, chosen_pointer, choice_types, choice, size_answer, size, element_types, element, member_answer, member_among, member_of, dot, arrow_of, arrow, record_assigned, scalar_assigned, assigned, changed_types, changed, stepped, held_place, behind_comma, all_convert, converts, unconverted, is_written}
-use Rattle.c_decls.specs.Refusals.{Checked, unless}
 use Rattle.c_decls.specs.ScopeList as scopes
-use Rattle.c_decls.specs.ScopeList.{ScopeList, Table, found, found_from, with_name, tag_name, named_in}
 use Rattle.c_decls.specs.TypeNames as names
-use Rattle.c_decls.specs.TypeNames.{Context, Layer, ArrayOf, FunctionOf, word_type, record_type, with_new_tag, same_sort, tag_named, enum_named, type_named, special_type, specs_type, length_from, array_length, array_of, layered, layered_before, with_layers, with_param_layers, adjusted, with_param, declared_param}
-use Rattle.c_decls.specs.TypeRules.{immovable, moving, beside_pointer, sum_types, difference_types, order_types, equal_types, integer_types, logical, binary, unary_of, unary_on_pointer, unary, address}
-use Rattle.c_decls.specs.Typed.{PlainTyped, Operand, Number, PointerTo, Neither, operand, place, value, int, held, read, same, is_void, is_function, is_record, is_null_constant, has_no_size, has_no_value, wanted_value}
-use Rattle.c_decls.specs.declared.built_in.BuiltIn.{BuiltIn}
 use Rattle.c_decls.specs.declared.built_in.BuiltIn.TheVariants as built
-use Rattle.c_decls.specs.declared.constant.Constant.{Constant}
-use Rattle.c_decls.specs.declared.refusal.TypeKind.TheVariants.{Operands, NotLvalue, ArgumentCount, Assignment, DeclaredTwice, Incomplete, TypeTooLarge, Format, LeftOut}
-use Rattle.c_decls.specs.declared.typed.Folded.{Folded}
-use Rattle.c_decls.specs.declared.typed.Folded.TheVariants.{Is}
-use Rattle.core_soundness.specs.Whole.{Whole, AllWhole, AreMade, NamedWhole, TableWhole, NamesWhole}
 use Rattle.core_soundness.proofs.Growth.{Led, led_ok, led_refused, led_after, led_unless, led_barred, wanted_unused, type_cast_unused}
 use Rattle.core_soundness.proofs.Scopes.{name_fits, named_fits, entered_fit, left_fit, named_push}
 use Rattle.core_soundness.proofs.WholeTypes.{nothing, member_whole}

@@ -5,48 +5,18 @@ use Rattle.std.proofs.lemmas.Slice.Eq.{bytes_eq-Decides}
 use Rattle.std.proofs.lemmas.Bool.{and_parts}
 use Rattle.std.specs.List.{sum_by}
 use Rattle.std.specs.Option.{option_or, ForSome}
-use Rattle.c_types.specs.TagTable.{TagTable}
+use Rattle.core_soundness.proofs.Words.Trees.{name_of, params_of, Tree, Trees, At, Node, ◌▹◌}
+use Rattle.core_soundness.proofs.Words.Types.{TagTable, PlainType, PlainTypes, Void, Int, Function, none, built_ins, numbered_from, PlainNamed, length_of, then, unless, Table, named_in, with_name, Layer, FunctionOf, with_layers, same, is_array, is_record, is_function, BuiltIn, DeclaredTwice, ProgramTooLong, Undeclared, NoMain}
+use Rattle.core_soundness.proofs.Words.Core.{Sort, sort_of, register_sort, GivesResult, TakesCall, HasRegister, EachFunc, EachReturn, answer_sort, GivesAnswer, is_main as is_main_function, first_main, main_of, IsMain, Core, Func, Reg as Register, Atom, Stm, StmKind, Return, Call}
+use Rattle.core_soundness.proofs.Words.Elaborating.{Taken, nothing_taken, params_taken, addressed_in, no_code, Declared, Context, Walked, entered, emit, first_context, Piece, Does, Here, function_number, function_number_of, with_function, declared_function, declaration, specs, layers, suffix_layers, suffix_layer, params, left_params, walked, elaborated, piece_length, begun, is_defined, body_begun, last_answer, body_ended, body, defined, named_definition, definition, external, externals, is_main, calls_defined, is_twice_in, atoms_by, numbered, body_of, temporary, pointer_register, numbers_of, function_of, core_of, definition_of, function_by, around_body, items}
+use Rattle.core_soundness.proofs.Words.Facts.{HasTypes, IsList, HasLists, HasParameters, IsDefinition, World, world, walked_world, FitsAnswer, PiecesFit, InnerFits, FileFits, result_sort, param_sorts, IsCall, Written, AllWritten, AreWritten, TableFits, TablesFit}
 use Rattle.c_types.specs.Types as types
-use Rattle.c_types.specs.Types.{PlainType, PlainTypes, Void, Int, Function, none}
 use Rattle.c_types.specs.declared.types.IntType.TheVariants as i
-use Rattle.core_tree.specs.Sorts.{Sort, sort_of, register_sort, GivesResult, TakesCall, HasRegister}
-use Rattle.core_tree.specs.Sound.{EachFunc, EachReturn, answer_sort, GivesAnswer, is_main as is_main_function, first_main, main_of, IsMain}
-use Rattle.core_tree.specs.declared.program.Core.{Core}
-use Rattle.core_tree.specs.declared.program.Func.{Func}
-use Rattle.core_tree.specs.declared.program.Reg.{Reg as Register}
-use Rattle.core_tree.specs.declared.statements.Atom.{Atom}
-use Rattle.core_tree.specs.declared.statements.Stm.{Stm}
-use Rattle.core_tree.specs.declared.statements.StmKind.{StmKind}
-use Rattle.core_tree.specs.declared.statements.StmKind.TheVariants.{Return, Call}
 use Rattle.c_tree.specs.Forms as f
-use Rattle.c_tree.specs.Scopes.{name_of, params_of}
 use Rattle.c_tree.specs.Tree as t
-use Rattle.c_tree.specs.Tree.{Tree, Trees, At, Node, ◌▹◌}
 use Rattle.c_decls.proofs.SameTypes.{same_equal}
-use Rattle.c_decls.specs.BuiltIns.{built_ins, numbered_from}
 use Rattle.c_decls.specs.Named as n
-use Rattle.c_decls.specs.Named.{PlainNamed}
-use Rattle.c_decls.specs.PlaceRules.{length_of}
-use Rattle.c_decls.specs.Refusals.{then, unless}
-use Rattle.c_decls.specs.ScopeList.{Table, named_in, with_name}
-use Rattle.c_decls.specs.TypeNames.{Layer, FunctionOf, with_layers}
-use Rattle.c_decls.specs.Typed.{same, is_array, is_record, is_function}
-use Rattle.c_decls.specs.declared.built_in.BuiltIn.{BuiltIn}
-use Rattle.c_decls.specs.declared.refusal.TypeKind.TheVariants.{DeclaredTwice, ProgramTooLong, Undeclared, NoMain}
-use Rattle.elaboration.specs.Addressed.{Taken, nothing_taken, params_taken, addressed_in}
-use Rattle.elaboration.specs.Context.{no_code, Declared, Context, Walked, entered, emit, first_context, Piece, Does, Here}
-use Rattle.elaboration.specs.Declarations.{function_number, function_number_of, with_function, declared_function, declaration}
-use Rattle.elaboration.specs.Declarators.{specs, layers, suffix_layers, suffix_layer, params, left_params}
-use Rattle.elaboration.specs.Elaboration.{walked, elaborated}
 use Rattle.elaboration.specs.Externals as externals
-use Rattle.elaboration.specs.Externals.{piece_length, begun, is_defined, body_begun, last_answer, body_ended, body, defined, named_definition, definition, external, externals, is_main, calls_defined}
-use Rattle.elaboration.specs.Locals.{is_twice_in}
-use Rattle.elaboration.specs.Resolving.{atoms_by, numbered, body_of, temporary, pointer_register, numbers_of, function_of, core_of, definition_of, function_by}
-use Rattle.elaboration.specs.Statements.{around_body, items}
-use Rattle.core_soundness.specs.Laws.{HasTypes}
-use Rattle.core_soundness.specs.Spoken.{IsList, HasLists, HasParameters, IsDefinition}
-use Rattle.core_soundness.specs.Worlds.{World, world, walked_world, FitsAnswer, PiecesFit, InnerFits, FileFits, result_sort, param_sorts, IsCall}
-use Rattle.core_soundness.specs.Written.{Written, AllWritten, AreWritten}
 use Rattle.core_soundness.proofs.Agreeing.{came}
 use Rattle.core_soundness.proofs.Cores.{behind, count_main}
 use Rattle.core_soundness.proofs.DeclaredSteps.{Begun, layers_start, body_step}
@@ -64,7 +34,6 @@ use Rattle.core_soundness.proofs.Statements.{behind_text, Sane, walked_sane, wal
 use Rattle.core_soundness.proofs.StatementsRun.{Stands_in, items_run, return_fits}
 use Rattle.core_soundness.proofs.Taking.{Good, body_good}
 use Rattle.core_soundness.proofs.Choices.{either_way, some_same, get_some, some_number, not_false}
-use Rattle.core_soundness.specs.Fitting.{TableFits, TablesFit}
 
 -- the functions of a text fit (C99 6.9)
 

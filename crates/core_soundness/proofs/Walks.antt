@@ -1,56 +1,27 @@
 -- One walk over expressions, and one over specs, tags and declarators.
 use Rattle.std.proofs.Common.{◌≡◌, ◌≤◌, ◌+◌, ◌*◌, ℕ, zero, suc, List, [], ◌∷◌, refl, arith, Bool, true, false, cond, nat_lt, length, Option, Some, None, unwrap_or, Ok, sym, subst, ltb-false, ℤ, pos, ◌||◌, is_some, Result, Err}
 use Rattle.std.specs.Prelude.{IfSome}
-use Rattle.hs_base.specs.Numbers.{wrapped}
-use Rattle.hs_base.specs.declared.ends.IntKind.TheVariants.{I32}
-use Rattle.c_types.specs.TagTable.{TagTable, completion}
-use Rattle.c_types.specs.Types.{PlainType, PlainTypes, Void, Int, Array, Struct, Union}
-use Rattle.c_types.specs.declared.tags.TagError.{TagError}
-use Rattle.c_types.specs.declared.types.IntType.{IntType}
+use Rattle.core_soundness.proofs.Words.Trees.{Item, Says, Here, Part, shape, commas, behind_commas, assign_level, Place, Expression, name_of, Tree, Trees, Leaf, At, Node, none, ◌▹◌, count, BinaryOp, RecordSort}
+use Rattle.core_soundness.proofs.Words.Types.{TagTable, completion, PlainType, PlainTypes, Void, Int, Array, Struct, Union, TagError, IntType, Callee, Prints, NoFunction, named, called, call, built_in_called, callee_at, line_of, joined, string, literal, first_literal, typed, typename, wanted, constant_from, PlainNamed, held_place, Checked, then, unless, found as declaration, named_in, innermost, with_name, tag_name, after_declaration, special_type, array_length, with_new_tag, with_layers, with_param_layers, adjusted, address, PlainTyped, is_record, place, is_void, is_function, has_no_size, BuiltIn, TypeTooLarge, DeclaredTwice, Incomplete, LeftOut}
+use Rattle.core_soundness.proofs.Words.Core.{wrapped, I32, IsShort, Atom}
+use Rattle.core_soundness.proofs.Words.Elaborating.{record_assigned, scalar_assigned, old_value, Argument, types_of, first_type, rest_types, argument_from, built_in_at, Context, With, asked, told, new_label, entered, Found, valued, unused, Spot, read_spot, convert_integer, convert, tested, write, constant, with_type, maybe_name, begun_as, completed_by, complete, ended, with_member, member, enumerator, enum_named, is_declared, param, left_params, specs, words_type, tag_type, members, member_names, enumerators, layers, suffix_layers, suffix_layer, params, name_answer, literal_answer, unevaluated, address_answer, changing, callee_name, callee, parameters, format_argument, is_printf, call_answer, found, arguments, cast_operand, is_twice, declared_as, with_param, combined, member_address, with_literal, left_operand, and_then, or_else, choose, type_ahead, choose_first}
+use Rattle.core_soundness.proofs.Words.Facts.{Names, AllNames}
 use Rattle.c_types.specs.declared.types.IntType.TheVariants as i
-use Rattle.core_tree.specs.Sound.{IsShort}
-use Rattle.core_tree.specs.declared.statements.Atom.{Atom}
 use Rattle.c_tree.specs.Forms as f
-use Rattle.c_tree.specs.Grammar.{Item, Says, Here, Part, shape, commas, behind_commas, assign_level}
 use Rattle.c_tree.specs.Places as p
-use Rattle.c_tree.specs.Places.{Place, Expression}
-use Rattle.c_tree.specs.Scopes.{name_of}
-use Rattle.c_tree.specs.Tree.{Tree, Trees, Leaf, At, Node, none, ◌▹◌, count}
 use Rattle.c_tree.specs.Words as w
 use Rattle.c_tree.specs.declared.operator.AssignOp.TheVariants as a
-use Rattle.c_tree.specs.declared.operator.BinaryOp.{BinaryOp}
 use Rattle.c_tree.specs.declared.operator.BinaryOp.TheVariants as b
-use Rattle.c_tree.specs.declared.operator.RecordSort.{RecordSort}
 use Rattle.c_tree.specs.declared.operator.RecordSort.TheVariants as r
 use Rattle.c_tree.specs.declared.operator.UnaryOp.TheVariants as u
-use Rattle.c_decls.specs.Callees.{Callee, Prints, NoFunction, named, called, call, built_in_called, callee_at}
-use Rattle.c_decls.specs.Expressions.{line_of, joined, string, literal, first_literal, typed, typename, wanted, constant_from}
 use Rattle.c_decls.specs.Named as n
-use Rattle.c_decls.specs.Named.{PlainNamed}
-use Rattle.c_decls.specs.PlaceRules.{held_place}
-use Rattle.c_decls.specs.Refusals.{Checked, then, unless}
-use Rattle.c_decls.specs.ScopeList.{found as declaration, named_in, innermost, with_name, tag_name, after_declaration}
 use Rattle.c_decls.specs.TypeNames as names
-use Rattle.c_decls.specs.TypeNames.{special_type, array_length, with_new_tag, with_layers, with_param_layers, adjusted}
-use Rattle.c_decls.specs.TypeRules.{address}
-use Rattle.c_decls.specs.Typed.{PlainTyped, is_record, place, is_void, is_function, has_no_size}
-use Rattle.c_decls.specs.declared.built_in.BuiltIn.{BuiltIn}
 use Rattle.c_decls.specs.declared.built_in.BuiltIn.TheVariants as bi
-use Rattle.c_decls.specs.declared.refusal.TypeKind.TheVariants.{TypeTooLarge, DeclaredTwice, Incomplete, LeftOut}
-use Rattle.elaboration.specs.Assignments.{record_assigned, scalar_assigned, old_value}
-use Rattle.elaboration.specs.Calls.{Argument, types_of, first_type, rest_types, argument_from, built_in_at}
-use Rattle.elaboration.specs.Context.{Context, With, asked, told, new_label, entered}
-use Rattle.elaboration.specs.Conversions.{Found, valued, unused, Spot, read_spot, convert_integer, convert, tested, write}
 use Rattle.elaboration.specs.Declarators as d
-use Rattle.elaboration.specs.Declarators.{constant, with_type, maybe_name, begun_as, begun, completed_by, complete, ended, with_member, member, enumerator, enum_named, is_declared, param, left_params, specs, words_type, tag_type, members, member_names, enumerators, layers, suffix_layers, suffix_layer, params}
-use Rattle.elaboration.specs.Expressions.{name_answer, literal_answer, unevaluated, address_answer, changing, callee_name, callee, parameters, format_argument, is_printf, call_answer, found, arguments, cast_operand}
-use Rattle.elaboration.specs.Locals.{is_twice, declared_as, with_param}
-use Rattle.elaboration.specs.Operations.{combined, member_address}
-use Rattle.elaboration.specs.Rules.{with_literal, left_operand, and_then, or_else, choose, type_ahead, choose_first}
+use Rattle.elaboration.specs.Declarators.{begun}
 use Rattle.core_soundness.proofs.Agreeing.{came}
 use Rattle.core_soundness.proofs.CodeWalk.{Writes, PrintsShort, and_keeps, applied_keeps, argument_keeps, between_keeps, call_keeps, cast_keeps, changed_keeps, choice_keeps, dotted_keeps, indexed_keeps, left_keeps, old_keeps, or_keeps, pointed_keeps, record_keeps, scalar_assigned_keeps, stepped_keeps, unused_keeps, valued_keeps, read_keeps, convert_integer_keeps, convert_keeps, tested_keeps, write_keeps, combined_keeps, member_keeps}
 use Rattle.core_soundness.proofs.Growth.{good, ok_same, never, Reached, reached_ok, reached_refused, reached_after, reached_then, cast_unused, reached_unless, Led, led_ok, led_refused, led_unless, Grows, grows_refl, grows_trans, grows_emit, grows_integer, grows_pointer, grows_forgotten, grows_told, Grown, grows_fork, grows_format, grows_calls, grows_free, grown_literal}
-use Rattle.core_soundness.specs.Texts.{Names, AllNames}
 use Rattle.core_soundness.proofs.Scopes.{some_short, More, with_tag_more, name_named}
 use Rattle.core_soundness.proofs.TagSorts.{typed_after, typename_after, After, wanted_after, special_after}
 

@@ -3,21 +3,16 @@ use Rattle.std.proofs.Common.{◌≡◌, ◌≤◌, ◌*◌, ◌==◌, ℕ, zero
 use Rattle.std.proofs.lemmas.List.Sums.{fold_push}
 use Rattle.std.specs.List.{find}
 use Rattle.std.specs.Option.{option_or}
+use Rattle.core_soundness.proofs.Words.Types.{Known, ArraysFit, Placed, none_placed, placed, layout_of, number_layout, pointer_layout, no_layout, members_layout, CompletedTag, TagTable, PlainMember, learn, known, tag_layout, member_layout, placed_members, members_in, PlainType, PlainTypes, Int, Pointer, Array, Struct, Union, Function, none, first, width_of, Layout, IntType, PlainNamed, ScopeList, Table}
+use Rattle.core_soundness.proofs.Words.Core.{IsCompleted, AreCompleted, IsLayoutOfType}
+use Rattle.core_soundness.proofs.Words.Facts.{IsRow, Whole, AllWhole, MembersWhole, AreMade, NamedWhole, TableWhole, NamesWhole}
 use Rattle.c_types.proofs.MemberLemmas.{Extends, some_array, layout_stays}
 use Rattle.c_types.proofs.Places.{stays_known}
 use Rattle.c_types.proofs.Sound.{rounded_le}
-use Rattle.c_types.specs.Layouts.{Known, ArraysFit, Placed, none_placed, place, placed, layout_of, number_layout, pointer_layout, no_layout, members_layout}
-use Rattle.c_types.specs.TagTable.{CompletedTag, TagTable, PlainMember, learn, known, tag_layout, member_layout, placed_members, members_in}
-use Rattle.c_types.specs.Types.{PlainType, PlainTypes, Int, Pointer, Array, Struct, Union, Function, none, first, width_of}
-use Rattle.c_types.specs.declared.layouts.Layout.{Layout}
-use Rattle.c_types.specs.declared.types.IntType.{IntType}
+use Rattle.c_types.specs.Layouts.{place}
 use Rattle.c_types.specs.declared.types.IntType.TheVariants as i
 use Rattle.core_tree.proofs.TypeLayouts.{type_layout_small}
-use Rattle.core_tree.specs.LayoutsOfTypes.{IsCompleted, AreCompleted, IsLayoutOfType}
 use Rattle.c_decls.specs.Named as n
-use Rattle.c_decls.specs.Named.{PlainNamed}
-use Rattle.c_decls.specs.ScopeList.{ScopeList, Table}
-use Rattle.core_soundness.specs.Whole.{IsRow, Whole, AllWhole, MembersWhole, AreMade, NamedWhole, TableWhole, NamesWhole}
 
 abbrev pub nothing : Known
 nothing = λ tag. None
