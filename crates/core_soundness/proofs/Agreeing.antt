@@ -1,5 +1,5 @@
 -- The type of an expression that is elaborated is the one that its types alone give it.
-use Rattle.std.proofs.Common.{◌≡◌, ◌&&◌, ℕ, pos, Bool, true, false, not, cond, List, Option, Some, Ok, Err, refl, sym, ap, ◌∙◌, subst, ◌+◌, [], ◌∷◌, length, None}
+use Rattle.std.proofs.Common.{◌≡◌, ◌&&◌, ℕ, pos, Bool, true, false, not, cond, List, Option, Some, Ok, Err, refl, sym, ap, ◌∙◌, subst, ◌+◌, [], ◌∷◌, length, None, arith}
 use Rattle.core_soundness.proofs.Words.Trees.{Tree, Trees, Leaf, At, Node, none, ◌▹◌, AssignOp, BinaryOp, UnaryOp}
 use Rattle.core_soundness.proofs.Words.Types.{TagTable, PlainType, PlainTypes, Void, Int, Pointer, Array, named, Callee, Takes, Prints, NoFunction, called, call, no_function, line_of, answered, wanted, one, two, string, typed, values, calling, int_constant, char_constant, joined, literal, first_literal, typename, PlainNamed, held_place, element, dot, arrow, cast, choice, assigned, changed, changed_types, is_written, behind_comma, Checked, then, unless, found as declaration, address, unary, unary_of, binary, PlainTyped, Operand, Number, operand, read, is_null_constant, int, is_void, has_no_value, wanted_value, place, value, is_record, constant, NotLvalue, Operands, TypeTooLarge}
 use Rattle.core_soundness.proofs.Words.Core.{Atom, Copy}
@@ -32,10 +32,7 @@ came (Err x) {next} {y} h = never (Came (bad x) next y) x y h
 
 -- what is read and written was gone through first
 pub changing_first : (tree : Tree) (answer : With Found) (z : Context × Found) → changing tree answer ≡ Ok z → answer ≡ Ok z
-changing_first tree answer z h =
-    let d = came answer h in
-    let k = came (held_place (line_of tree) d.value.0.tags d.value.1.typed) d.last in
-    d.is ∙ k.last
+changing_first tree answer z h = search (arith, came)
 
 -- a rule that was kept, and what is known behind it
 pub record Ruled (r : Checked PlainTyped) (known : names.Context) (z : Context × Found) : Type 0 where
@@ -44,12 +41,7 @@ pub record Ruled (r : Checked PlainTyped) (known : names.Context) (z : Context �
 
 pub ruled : (r : Checked PlainTyped) (make : PlainTyped → Context × Found) (known : names.Context) (z : Context × Found) → ((t : PlainTyped) → (make t).1.typed ≡ t) → ((t : PlainTyped) → asked (make t).0 ≡ known)
     → then r (λ t. Ok (make t)) ≡ Ok z → Ruled r known z
-ruled (Ok t) make known z g h e =
-    let same : make t ≡ z = ok_same (make t) z e in
-    record {
-      typed = ap (λ (x : PlainTyped). good x) (sym (g t) ∙ ap (λ (x : Context × Found). x.1.typed) same);
-      same = sym (ap (λ (x : Context × Found). asked x.0) same) ∙ h t;
-    }
+ruled (Ok t) make known z g h e = search (arith, ok_same)
 ruled (Err x) make known z g h e = never (Ruled (bad x) known z) x z e
 
 -- two answers agree: they have the same type and the same scopes and tags
@@ -76,53 +68,28 @@ one_is x rule known t v e h = ap (λ (y : types.Found). one y rule) e ∙ answer
 
 pub two_is : (x : types.Found) (y : names.Context → types.Found) (rule : TagTable → PlainTyped → PlainTyped → Checked PlainTyped) (known later : names.Context) (t v z : PlainTyped) → x ≡ Ok (known, t) → y known ≡ Ok (later, v)
     → rule later.tags t v ≡ Ok z → two x y rule ≡ Ok (later, z)
-two_is x y rule known later t v z e h k =
-    ap (λ (p : types.Found). two p y rule) e ∙ ap (λ (p : types.Found). then p (λ q. answered q.0 (rule q.0.tags t q.1))) h ∙ answered_is later (rule later.tags t v) z k
+two_is x y rule known later t v z e h k = search (arith, answered_is)
 
 -- values
 
 pub valued_from_rule : (tree : Tree) (c : Context) (e : Found) (z : Context × Found) → valued_from tree c e ≡ Ok z → Ruled (read (line_of tree) c.tags e.typed) (asked c) z
-valued_from_rule tree c e z h =
-    ruled (read (line_of tree) c.tags e.typed) (λ t. read_value t e (read_spot (code_line tree) e.typed.type e.spot c)) (asked c) z (λ t. refl) (λ t. quiet_read (code_line tree) e.typed.type e.spot c) h
+valued_from_rule tree c e z h = search (arith, ruled, quiet_read)
 
 -- a value that is wanted: the expression has one, and is evaluated
 pub wanted_from_rule : (tree : Tree) (c : Context) (e : Found) (z : Context × Found) → wanted_from tree c e ≡ Ok z → Ruled (wanted_value (line_of tree) c.tags e.typed) (asked c) z
-wanted_from_rule tree c e z h = by (has_no_value e.typed) h
-  where
-    by : (k : Bool) → unless k Operands (line_of tree) (valued_from tree c e) ≡ Ok z → Ruled (unless k Operands (line_of tree) (read (line_of tree) c.tags e.typed)) (asked c) z
-    by true h = never _ _ z h
-    by false h = valued_from_rule tree c e z h
+wanted_from_rule tree c e z h = grind (arith, true, false, valued_from_rule)
 
 pub valued_agrees : (tree : Tree) (answer : With Found) (x : types.Found) (z : Context × Found) → ((d : Context × Found) → answer ≡ Ok d → Agreed x d) → valued tree answer ≡ Ok z → Agreed (wanted tree x) z
-valued_agrees tree answer x z h e =
-    let d = came answer e in
-    let rule = wanted_from_rule tree d.value.0 d.value.1 z d.last in
-    finish (wanted tree x) (asked d.value.0) z (wanted_is tree x (asked d.value.0) d.value.1.typed z.1.typed (h d.value d.is) rule.typed) rule.same
+valued_agrees tree answer x z h e = search (arith, came, wanted_from_rule, finish, wanted_is)
 
 pub unused_agrees : (tree : Tree) (answer : With Found) (x : types.Found) (z : Context × Found) → ((d : Context × Found) → answer ≡ Ok d → Agreed x d) → unused tree answer ≡ Ok z → Agreed (types.unused tree x) z
-unused_agrees tree answer x z h e =
-    let d = came answer e in
-    let rule = valued_from_rule tree d.value.0 d.value.1 z d.last in
-    finish (types.unused tree x) (asked d.value.0) z (unused_is tree x (asked d.value.0) d.value.1.typed z.1.typed (h d.value d.is) rule.typed) rule.same
+unused_agrees tree answer x z h e = search (arith, came, valued_from_rule, finish, unused_is)
 
 pub cast_agrees : (type : PlainType) (tree : Tree) (answer : With Found) (x : types.Found) (z : Context × Found) → ((d : Context × Found) → answer ≡ Ok d → Agreed x d) → cast_operand type tree answer ≡ Ok z → Agreed (types.cast_operand type tree x) z
-cast_agrees type tree answer x z h e = by (is_void type) e
-  where
-    by : (k : Bool) → cond k (unused tree answer) (valued tree answer) ≡ Ok z → Agreed (cond k (types.unused tree x) (wanted tree x)) z
-    by true e = unused_agrees tree answer x z h e
-    by false e = valued_agrees tree answer x z h e
+cast_agrees type tree answer x z h e = grind (arith, true, unused_agrees, false, valued_agrees)
 
 pub changing_agrees : (tree : Tree) (answer : With Found) (x : types.Found) (z : Context × Found) → ((d : Context × Found) → answer ≡ Ok d → Agreed x d) → changing tree answer ≡ Ok z → Agreed (types.changing tree x) z
-changing_agrees tree answer x z h e =
-    let d = came answer e in
-    let k = came (held_place (line_of tree) d.value.0.tags d.value.1.typed) d.last in
-    let same : d.value ≡ z = ok_same d.value z k.last in
-    let held : k.value ≡ d.value.1.typed = held_same (wanted_value (line_of tree) d.value.0.tags d.value.1.typed) d.value.1.typed k.value k.is in
-    subst (Agreed (types.changing tree x)) same (changing_is tree x (asked d.value.0) d.value.1.typed d.value.1.typed (h d.value d.is) (k.is ∙ ap (λ (t : PlainTyped). good t) held))
-  where
-    held_same : (r : Checked PlainTyped) (t v : PlainTyped) → then r (λ held. good t) ≡ Ok v → v ≡ t
-    held_same (Ok q) t v e2 = sym (ok_same t v e2)
-    held_same (Err q) t v e2 = never (v ≡ t) q v e2
+changing_agrees tree answer x z h e = grind (arith, came, ok_same, changing_is)
 
 -- names and literals
 
@@ -140,31 +107,21 @@ name_typed t inner (Some (n.BuiltIn index)) = built_in_typed t t.is_null
 name_typed t inner other = refl
 
 pub name_agrees : (line : ℕ) (name : List ℕ) (declared : Option PlainNamed) (c : Context) (z : Context × Found) → name_answer line name declared c ≡ Ok z → Agreed (answered (asked c) (named line declared)) z
-name_agrees line name declared c z h =
-    let rule = ruled (named line declared) (λ e. (c, name_found e (is_inner c name) declared)) (asked c) z (λ t. name_typed t (is_inner c name) declared) (λ t. refl) h in
-    finish (answered (asked c) (named line declared)) (asked c) z (answered_is (asked c) (named line declared) z.1.typed rule.typed) rule.same
+name_agrees line name declared c z h = search (arith, ruled, name_typed, finish, answered_is)
 
 pub ok_agrees : (c : Context) (e : Found) (z : Context × Found) → good (c, e) ≡ Ok z → Agreed (Ok (asked c, e.typed)) z
 ok_agrees c e z h = subst (Agreed (Ok (asked c, e.typed))) (ok_same (c, e) z h) refl
 
 pub string_agrees : (line : ℕ) (bytes : List ℕ) (c : Context) (z : Context × Found) → literal_answer line bytes c ≡ Ok z → Agreed (answered (asked c) (string line bytes)) z
-string_agrees line bytes c z h =
-    let e = came (string line bytes) h in
-    let d = came (with_literal line bytes c) e.last in
-    let same : literal_found e.value d.value ≡ z = ok_same (literal_found e.value d.value) z d.last in
-    subst (Agreed (answered (asked c) (string line bytes))) same
-    (finish (answered (asked c) (string line bytes)) (asked c) (literal_found e.value d.value) (answered_is (asked c) (string line bytes) e.value e.is) (quiet_literal line bytes c d.value d.is))
+string_agrees line bytes c z h = search (arith, came, ok_same, finish, answered_is, quiet_literal)
 
 pub unevaluated_agrees : (x : types.Found) (c : Context) (z : Context × Found) → unevaluated c x ≡ Ok z → Agreed x z
-unevaluated_agrees x c z h =
-    let d = came x h in
-    subst (Agreed x) (ok_same (told d.value.0 c, constant_found d.value.1) z d.last) d.is
+unevaluated_agrees x c z h = search (arith, came, ok_same)
 
 -- rules
 
 pub indexed_rule : (line : ℕ) (c : Context) (x y : Found) (z : Context × Found) → indexed line c x y ≡ Ok z → Ruled (element line c.tags x.typed y.typed) (asked c) z
-indexed_rule line c x y z h =
-    ruled (element line c.tags x.typed y.typed) (λ t. at_address t (fixed_sum c b.Add x y) (combined line b.Add c.code x y c)) (asked c) z (λ t. refl) (λ t. quiet_combined line b.Add c.code x y c) h
+indexed_rule line c x y z h = search (arith, ruled, quiet_combined)
 
 pub dotted_rule : (line : ℕ) (name : List ℕ) (c : Context) (e : Found) (z : Context × Found) → dotted line name c e ≡ Ok z → Ruled (dot line name c.tags e.typed) (asked c) z
 dotted_rule line name c e z h = ruled (dot line name c.tags e.typed) (λ t. member_of line (offset_of c.tags name e.typed.type) t c e) (asked c) z (λ t. refl) (λ t. refl) h
@@ -193,14 +150,7 @@ apply_of line op tree t c e (Number ty) is h = ap (λ (x : Operand). (before_num
 apply_of line other tree t c e rest is h = never _ _ t h
 
 pub applied_rule : (line : ℕ) (op : UnaryOp) (tree : Tree) (c : Context) (e : Found) (z : Context × Found) → applied line op tree c e ≡ Ok z → Ruled (unary line op c.tags e.typed) (asked c) z
-applied_rule line op tree c e z h =
-    let t = came (unary line op c.tags e.typed) h in
-    let same : apply line op tree t.value c e ≡ z = ok_same (apply line op tree t.value c e) z t.last in
-    let is : (apply line op tree t.value c e).1.typed ≡ t.value = apply_of line op tree t.value c e (operand e.typed.type) refl t.is in
-    record {
-      typed = t.is ∙ ap (λ (x : PlainTyped). good x) (sym is ∙ ap (λ (x : Context × Found). x.1.typed) same);
-      same = sym (ap (λ (x : Context × Found). asked x.0) same) ∙ quiet_apply line op tree t.value c e;
-    }
+applied_rule line op tree c e z h = search (arith, came, ok_same, apply_of, quiet_apply)
 
 pub left_typed : (op : BinaryOp) (before : Code) (right : Tree) (d : Context × Found) → (left_operand op before right d).1.typed ≡ d.1.typed
 left_typed op before right d = either_way (λ (x : Context × Found). x.1.typed ≡ d.1.typed) (tells_equal op && is_null_constant d.1.typed && is_pointer_ahead (ahead right d.0)) refl refl
@@ -209,21 +159,16 @@ pub quiet_left : (op : BinaryOp) (before : Code) (right : Tree) (d : Context × 
 quiet_left op before right d = either_way (λ (x : Context × Found). Quiet d.0 x.0) (tells_equal op && is_null_constant d.1.typed && is_pointer_ahead (ahead right d.0)) refl refl
 
 pub between_rule : (line : ℕ) (op : BinaryOp) (before : Code) (c : Context) (x y : Found) (z : Context × Found) → between line op before c x y ≡ Ok z → Ruled (binary line op c.tags x.typed y.typed) (asked c) z
-between_rule line op before c x y z h =
-    ruled (binary line op c.tags x.typed y.typed) (λ t. with_value t (fixed_sum c op x y) (combined line op before x y c)) (asked c) z (λ t. refl) (λ t. quiet_combined line op before x y c) h
+between_rule line op before c x y z h = search (arith, ruled, quiet_combined)
 
 pub cast_rule : (line : ℕ) (type : PlainType) (before : Code) (c : Context) (e : Found) (z : Context × Found) → cast_to line type before c e ≡ Ok z → Ruled (cast line type e.typed) (asked c) z
-cast_rule line type before c e z h =
-    ruled (cast line type e.typed) (λ t. with_value t (cast_fixed e.typed e.fixed) (convert line before type e.typed (atom_in e) c)) (asked c) z (λ t. refl) (λ t. quiet_convert line before type e.typed (atom_in e) c) h
+cast_rule line type before c e z h = search (arith, ruled, quiet_convert)
 
 pub and_rule : (line label : ℕ) (tree : Tree) (x : Found) (d : Context × Found) (z : Context × Found) → and_ended line label tree x d ≡ Ok z → Ruled (binary line b.And d.0.tags x.typed d.1.typed) (asked d.0) z
-and_rule line label tree x d z h =
-    ruled (binary line b.And d.0.tags x.typed d.1.typed) (λ t. with_value t Unknown (and_ends line label (tested_value tree d))) (asked d.0) z (λ t. refl) (λ t. quiet_tested_value tree d) h
+and_rule line label tree x d z h = search (arith, ruled, quiet_tested_value)
 
 pub or_rule : (line end : ℕ) (tree : Tree) (i : Atom) (x : Found) (d : Context × Found) (z : Context × Found) → or_ended line end tree i x d ≡ Ok z → Ruled (binary line b.Or d.0.tags x.typed d.1.typed) (asked d.0) z
-or_rule line end tree i x d z h =
-    ruled (binary line b.Or d.0.tags x.typed d.1.typed) (λ t. with_value t Unknown (or_ends line end i (tested_value tree d))) (asked d.0) z (λ t. refl)
-    (λ t. let v = tested_value tree d in quiet_compare_again line i v.1 v.0 ∙ quiet_tested_value tree d) h
+or_rule line end tree i x d z h = search (arith, ruled, quiet_compare_again, quiet_tested_value)
 
 pub choice_rule : (line end : ℕ) (before : Code) (t : Atom) (test x : Found) (d : Context × Found) (z : Context × Found) → chosen line end before t test x d ≡ Ok z → Ruled (choice line test.typed x.typed d.1.typed) (asked d.0) z
 choice_rule line end before t test x d z h =
@@ -239,9 +184,7 @@ record_rule line right target d z h =
     ruled (assigned line right d.0.tags target.typed d.1.typed) (λ t. (emit line (Copy (atom_in target) (atom_in d.1) (pos (size_or_zero d.0 t.type))) d.0, found_as t Empty Unknown)) (asked d.0) z (λ t. refl) (λ t. refl) h
 
 quiet_set_to : (line : ℕ) (before : Code) (t : PlainTyped) (target : Found) (d : Context × Found) → Quiet d.0 (set_to line before t target d).0
-quiet_set_to line before t target d =
-    let v = convert line before t.type d.1.typed (atom_in d.1) d.0 in
-    quiet_write line t.type target.spot v.1 v.0 ∙ quiet_convert line before t.type d.1.typed (atom_in d.1) d.0
+quiet_set_to line before t target d = search (arith, quiet_write, quiet_convert)
 
 pub scalar_rule : (line : ℕ) (before : Code) (tree : Tree) (target : Found) (d : Context × Found) (z : Context × Found) → scalar_assigned line before tree target d ≡ Ok z → Ruled (assigned line (line_of tree) d.0.tags target.typed d.1.typed) (asked d.0) z
 scalar_rule line before tree target d z h =
@@ -255,8 +198,7 @@ scalar_rule line before tree target d z h =
     }
 
 quiet_change_place : (line : ℕ) (op : BinaryOp) (t : PlainTyped) (target : Found) (old : Atom) (e : PlainTyped) (y : Atom) (c : Context) → Quiet c (change_place line op t target old e y c).0
-quiet_change_place line op t target old e y c =
-    let v = changed_to line op t.type old e y c in quiet_write line t.type target.spot v.1 v.0 ∙ quiet_changed line op t.type old e y c
+quiet_change_place line op t target old e y c = search (arith, quiet_write, quiet_changed)
 
 quiet_answer : (keeps_old : Bool) (t : PlainTyped) (old : Atom) (v : Context × Atom) → Quiet v.0 (changed_answer keeps_old t old v).0
 quiet_answer true t old v = refl
@@ -267,10 +209,7 @@ answer_typed true t old v = refl
 answer_typed false t old v = refl
 
 pub changed_rule : (line : ℕ) (op : AssignOp) (keeps_old : Bool) (target : Found) (old : Atom) (d : Context × Found) (z : Context × Found) → changed_by line op keeps_old target old d ≡ Ok z → Ruled (changed line op d.0.tags target.typed d.1.typed) (asked d.0) z
-changed_rule line op keeps_old target old d z h =
-    ruled (changed line op d.0.tags target.typed d.1.typed) (λ t. changed_answer keeps_old t old (change_place line (operator_of op) t target old d.1.typed (atom_in d.1) d.0)) (asked d.0) z
-    (λ t. answer_typed keeps_old t old (change_place line (operator_of op) t target old d.1.typed (atom_in d.1) d.0))
-    (λ t. quiet_answer keeps_old t old (change_place line (operator_of op) t target old d.1.typed (atom_in d.1) d.0) ∙ quiet_change_place line (operator_of op) t target old d.1.typed (atom_in d.1) d.0) h
+changed_rule line op keeps_old target old d z h = search (arith, ruled, answer_typed, quiet_answer, quiet_change_place)
 
 -- `--` is refused where `++` is
 steps_alike : (line : ℕ) (tags : TagTable) (type : PlainType) (o : Operand) → changed_types line a.Subtract tags type o (Number i.Int) ≡ changed_types line a.Add tags type o (Number i.Int)
@@ -281,14 +220,7 @@ pub stepped_alike : (line : ℕ) (tags : TagTable) (t : PlainTyped) → changed 
 stepped_alike line tags t = ap (λ (x : Checked PlainTyped). unless (not (is_written t)) NotLvalue line x) (steps_alike line tags t.type (operand t.type))
 
 pub stepped_rule : (line : ℕ) (op : AssignOp) (keeps_old : Bool) (d : Context × Found) (z : Context × Found) → stepped line op keeps_old d ≡ Ok z → Ruled (changed line op d.0.tags d.1.typed int) (asked d.0) z
-stepped_rule line op keeps_old d z h =
-    let old = old_value line d in
-    let same : asked old.0 ≡ asked d.0 = quiet_read line d.1.typed.type d.1.spot d.0 in
-    let rule = changed_rule line op keeps_old d.1 old.1 (old.0, one_found) z h in
-    record {
-      typed = ap (λ (m : names.Context). changed line op m.tags d.1.typed int) (sym same) ∙ rule.typed;
-      same = rule.same ∙ same;
-    }
+stepped_rule line op keeps_old d z h = search (arith, quiet_read, changed_rule)
 
 -- the type of an expression that is elaborated is the one that its types alone give it: calls, and all forms
 
@@ -303,15 +235,7 @@ name_callee (Err x) c z h = never (CalleeAgrees (bad x) z) x z h
 
 other_callee : (tree : Tree) (answer : With Found) (x : types.Found) (z : Context × Callee) → ((d : Context × Found) → answer ≡ Ok d → Agreed x d) → then (valued tree answer) (λ d. good (d.0, NoFunction)) ≡ Ok z
     → CalleeAgrees (then x (λ d. then (no_function (line_of tree) d.0.tags (Ok d.1)) (λ function. good (d.0, function)))) z
-other_callee tree answer x z h e =
-    let v = came (valued tree answer) e in
-    let d = came answer v.is in
-    let rule = wanted_from_rule tree d.value.0 d.value.1 v.value d.last in
-    let same : (v.value.0, NoFunction) ≡ z = ok_same (v.value.0, NoFunction) z v.last in
-    ap (λ (y : types.Found). then y (λ d. then (no_function (line_of tree) d.0.tags (Ok d.1)) (λ function. good (d.0, function)))) (h d.value d.is)
-    ∙ ap (λ (y : Checked PlainTyped). then (then y (λ held. good NoFunction)) (λ function. good (asked d.value.0, function))) rule.typed
-    ∙ ap (λ (m : names.Context). good (m, NoFunction)) (sym rule.same)
-    ∙ ap (λ (y : Context × Callee). good (asked y.0, y.1)) same
+other_callee tree answer x z h e = search (arith, came, wanted_from_rule, ok_same)
 
 callee_agrees : (tree : Tree) (c : Context) (answer : With Found) (x : types.Found) (z : Context × Callee) → ((d : Context × Found) → answer ≡ Ok d → Agreed x d) → callee tree c answer ≡ Ok z → CalleeAgrees (types.callee tree (asked c) x) z
 callee_agrees (Node f.Name (At line ▹ Leaf (w.Name name) ▹ none)) c answer x z h e = name_callee (called line c.tags (declaration c.scopes name)) c z e
@@ -402,16 +326,11 @@ record ArgumentsAgree (function : Callee) (x : Checked (names.Context × List Pl
 
 call_rule : (line : ℕ) (name : Option PlainNamed) (function : Callee) (wish : PlainType) (trees : Trees) (c : Context) (vs : List Argument) (z : Context × Found) → call_answer line name function wish trees c vs ≡ Ok z
     → Ruled (call line (first_literal trees) function (types_of vs)) (asked c) z
-call_rule line name function wish trees c vs z h =
-    ruled (call line (first_literal trees) function (types_of vs)) (λ e. let d = call_named line name e.type wish (first_literal trees) vs c in (d.0, found_as e d.1 Unknown)) (asked c) z (λ t. refl)
-    (λ t. quiet_call line name t.type wish (first_literal trees) vs c) h
+call_rule line name function wish trees c vs z h = search (arith, ruled, quiet_call)
 
 calling_is : (line : ℕ) (trees : Trees) (x : Checked (names.Context × Callee)) (y : names.Context → Checked (names.Context × List PlainTyped)) (known later : names.Context) (function : Callee) (ts : List PlainTyped) (t : PlainTyped)
     → x ≡ Ok (known, function) → y known ≡ Ok (later, ts) → call line (first_literal trees) function ts ≡ Ok t → calling line trees x y ≡ Ok (later, t)
-calling_is line trees x y known later function ts t e h k =
-    ap (λ (p : Checked (names.Context × Callee)). calling line trees p y) e
-    ∙ ap (λ (p : Checked (names.Context × List PlainTyped)). then p (λ v. answered v.0 (call line (first_literal trees) function v.1))) h
-    ∙ answered_is later (call line (first_literal trees) function ts) t k
+calling_is line trees x y known later function ts t e h k = search (arith, answered_is)
 
 -- one operand and its rule, and two
 
@@ -555,8 +474,7 @@ mutual
   found_agrees tree wish c z h = never (Agreed (typed tree (asked c)) z) _ z h
 
   arguments_agree : (trees : Trees) (line : ℕ) (function : Callee) (params : PlainTypes) (c : Context) (z : Context × List Argument) → arguments line function params trees c ≡ Ok z → ArgumentsAgree function (values trees (asked c)) z
-  arguments_agree none line function params c z h =
-      subst (ArgumentsAgree function (good (asked c, []))) (ok_same (c, []) z h) (record { types = []; is = refl; same = same_all function [] })
+  arguments_agree none line function params c z h = search (arith, ok_same, same_all)
   arguments_agree (e ▹ rest) line function params c z h =
       let d = came (format_argument (is_printf function e) c (typed e (asked c)) (valued e (found e (first_type params) c))) h in
       let v = argument_from line params c.code d.value.0 d.value.1 in

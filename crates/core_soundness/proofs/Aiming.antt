@@ -67,8 +67,7 @@ abbrev pub There : Context → Type 0
 There c = ObjectsThere c.variables c.scopes.file
 
 pub there_on : (c d : Context) → Settled c d → There c → There d
-there_on c d s h name type i e =
-    let r = h name type i (s.objects name type i e) in (r.0, subst (λ (vs : List Variable). slice_get vs i ≡ Some r.0) (sym s.variables) r.1)
+there_on c d s h name type i e = search arith
 
 -- moving
 
@@ -82,10 +81,7 @@ half_odd : (k : ℕ) → literal_object k / 2 ≡ k
 half_odd k = omega arith
 
 variable_room : (c : Context) (k : ℕ) (v : Variable) → slice_get c.variables k ≡ Some v → static_size c (file_variable k) ≡ v.layout.size
-variable_room c k v e =
-    ap (λ (t : Bool). cond t (variable_size (slice_get c.variables (file_variable k / 2))) (literal_size (slice_get c.literals (file_variable k / 2)))) (even_test k)
-    ∙ ap (λ (j : ℕ). variable_size (slice_get c.variables j)) (half_even k)
-    ∙ ap variable_size e
+variable_room c k v e = search (arith, even_test, half_even)
 
 odd_test : (k : ℕ) → (literal_object k % 2 == 0) ≡ false
 odd_test k = subst (λ (j : ℕ). (j == 0) ≡ false) (sym one) refl
@@ -94,10 +90,7 @@ odd_test k = subst (λ (j : ℕ). (j == 0) ≡ false) (sym one) refl
     one = omega arith
 
 literal_room : (c : Context) (k : ℕ) (bytes : List ℕ) → slice_get c.literals k ≡ Some bytes → static_size c (literal_object k) ≡ length bytes + 1
-literal_room c k bytes e =
-    ap (λ (t : Bool). cond t (variable_size (slice_get c.variables (literal_object k / 2))) (literal_size (slice_get c.literals (literal_object k / 2)))) (odd_test k)
-    ∙ ap (λ (j : ℕ). literal_size (slice_get c.literals j)) (half_odd k)
-    ∙ ap literal_size e
+literal_room c k bytes e = search (arith, odd_test, half_odd)
 
 -- another offset up to the end
 aims_at : (c : Context) (g i m : ℕ) → m ≤ static_size c g → Aims c.variables c.literals g i → Aims c.variables c.literals g m
@@ -216,8 +209,7 @@ indexed_aimed line c x y z h k q =
     subst Aimed (ok_same _ z t.last) (fixed_on c d (fixed_sum c b.Add x y) (grows_settled c d (grows_combined line b.Add c x y c (grows_refl c))) (sum_in c b.Add x y h k))
 
 member_aimed : (line offset : ℕ) (c : Context) (e : Found) → FixedAt c e.fixed → FixedAt (member_address line offset (atom_in e) c).0 (moved_by c (pos offset) e.fixed)
-member_aimed line offset c e h =
-    let d = (member_address line offset (atom_in e) c).0 in fixed_on c d (moved_by c (pos offset) e.fixed) (grows_settled c d (grows_member line offset (atom_in e) c)) (moved_in c (pos offset) e.fixed h)
+member_aimed line offset c e h = search (arith, fixed_on, pos, grows_settled, grows_member, moved_in)
 
 pub dotted_aimed : (line : ℕ) (name : List ℕ) (c : Context) (e : Found) (z : Context × Found) → FixedAt c e.fixed → dotted line name c e ≡ Ok z → Aimed z
 dotted_aimed line name c e z h q =
@@ -236,16 +228,7 @@ address_aimed line c e z h q =
 -- code that is behind other code
 
 recoded_grows : (b c : Context) → Grows b c → Grows (record c { code = b.code }) c
-recoded_grows b c g = record {
-  pieces = g.pieces;
-  code = g.code;
-  more = g.more;
-  fragment = g.fragment;
-  cases = refl;
-  otherwise = refl;
-  names = more_refl c.scopes;
-  kept = record { variables = refl; functions = refl; params = refl; walked = refl; length = refl; answer = refl; mems = refl; declared = refl; addressed = refl; literals = λ i w e. e; counted = λ (h : Counted (record c { code = b.code })). record { bytes = h.bytes; small = h.small } };
-}
+recoded_grows b c g = search (arith, more_refl)
 
 pub settled_convert : (line : ℕ) (b : Context) (type : PlainType) (e : PlainTyped) (a : Atom) (c : Context) → Grows b c → Settled c (convert line b.code type e a c).0
 settled_convert line b type e a c g =
@@ -267,8 +250,7 @@ apply_aimed line u.Not tree typed c e h = tt
 apply_aimed line op tree typed c e h = number_aimed line op typed (operand e.typed.type) c e h
 
 pub applied_aimed : (line : ℕ) (op : UnaryOp) (tree : Tree) (c : Context) (e : Found) (z : Context × Found) → FixedAt c e.fixed → applied line op tree c e ≡ Ok z → Aimed z
-applied_aimed line op tree c e z h q =
-    let t = came (unary line op c.tags e.typed) q in subst Aimed (ok_same _ z t.last) (apply_aimed line op tree t.value c e h)
+applied_aimed line op tree c e z h q = search (arith, came, ok_same, apply_aimed)
 
 pub left_aimed : (op : BinaryOp) (before : Code) (right : Tree) (d : Context × Found) → Aimed d → Aimed (left_operand op before right d)
 left_aimed op before right d h = either_way Aimed (tells_equal op && is_null_constant d.1.typed && is_pointer_ahead (ahead right d.0)) tt h
@@ -279,10 +261,7 @@ between_aimed line op base c x y z s h k q =
     subst Aimed (ok_same _ z t.last) (fixed_on c (combined line op base.code x y c).0 (fixed_sum c op x y) s (sum_in c op x y h k))
 
 pub cast_aimed : (line : ℕ) (type : PlainType) (before : Code) (c : Context) (e : Found) (z : Context × Found) → Settled c (convert line before type e.typed (atom_in e) c).0 → FixedAt c e.fixed → cast_to line type before c e ≡ Ok z → Aimed z
-cast_aimed line type before c e z s h q =
-    let t = came (cast line type e.typed) q in
-    let d = (convert line before type e.typed (atom_in e) c).0 in
-    subst Aimed (ok_same _ z t.last) (either_in d.variables d.literals (is_null_constant e.typed) Nowhere e.fixed tt (fixed_on c d e.fixed s h))
+cast_aimed line type before c e z s h q = search (arith, came, ok_same, either_in, fixed_on)
 
 -- the walk over expressions keeps fixed addresses inside their objects (C99 6.6)
 
@@ -299,8 +278,7 @@ value_there e wish c z h q = there_on c z.0 (grows_settled c z.0 (value_grew e w
 -- what is not fixed
 
 call_aimed : (line : ℕ) (name : Option PlainNamed) (function : Callee) (wanted : PlainType) (trees : Trees) (c : Context) (values : List Argument) (z : Context × Found) → call_answer line name function wanted trees c values ≡ Ok z → Aimed z
-call_aimed line name function wanted trees c values z q =
-    let e = came (call line (first_literal trees) function (types_of values)) q in subst Aimed (ok_same _ z e.last) tt
+call_aimed line name function wanted trees c values z q = search (arith, came, ok_same)
 
 unevaluated_aimed : (c : Context) (answer : Checked (names.Context × PlainTyped)) (z : Context × Found) → unevaluated c answer ≡ Ok z → Aimed z
 unevaluated_aimed c answer z q = let t = came answer q in subst Aimed (ok_same _ z t.last) tt
@@ -310,9 +288,7 @@ answer_aimed true typed old v = tt
 answer_aimed false typed old v = tt
 
 changed_aimed : (line : ℕ) (op : AssignOp) (keeps : Bool) (target : Found) (old : Atom) (d z : Context × Found) → changed_by line op keeps target old d ≡ Ok z → Aimed z
-changed_aimed line op keeps target old d z q =
-    let t = came (changed line op d.0.tags target.typed d.1.typed) q in
-    subst Aimed (ok_same _ z t.last) (answer_aimed keeps t.value old _)
+changed_aimed line op keeps target old d z q = search (arith, came, ok_same, answer_aimed)
 
 stepped_aimed : (line : ℕ) (op : AssignOp) (keeps : Bool) (d z : Context × Found) → stepped line op keeps d ≡ Ok z → Aimed z
 stepped_aimed line op keeps d z q = changed_aimed line op keeps d.1 (old_value line d).1 ((old_value line d).0, one_found) z q
@@ -325,12 +301,10 @@ assigned_aimed false line before tree target d z q =
     let v = came (valued_from tree d.0 d.1) t.last in subst Aimed (ok_same _ z v.last) tt
 
 and_aimed : (line label : ℕ) (tree : Tree) (x : Found) (d z : Context × Found) → and_ended line label tree x d ≡ Ok z → Aimed z
-and_aimed line label tree x d z q =
-    let t = came (binary line b.And d.0.tags x.typed d.1.typed) q in subst Aimed (ok_same _ z t.last) tt
+and_aimed line label tree x d z q = search (arith, came, ok_same)
 
 or_aimed : (line end : ℕ) (tree : Tree) (i : Atom) (x : Found) (d z : Context × Found) → or_ended line end tree i x d ≡ Ok z → Aimed z
-or_aimed line end tree i x d z q =
-    let t = came (binary line b.Or d.0.tags x.typed d.1.typed) q in subst Aimed (ok_same _ z t.last) tt
+or_aimed line end tree i x d z q = search (arith, came, ok_same)
 
 chosen_aimed : (line end : ℕ) (before : Code) (t : Atom) (test x : Found) (d z : Context × Found) → chosen line end before t test x d ≡ Ok z → Aimed z
 chosen_aimed line end before t test x d z q =
@@ -474,10 +448,7 @@ static_points line (ct.Int ty) offset start c e h k = integer_points line ty off
 static_points line type offset start c e h k = pointer_points line offset start c e h k
 
 pub opened_settled : (e : Tree) (c : Context) → Settled c (opened e c)
-opened_settled e c =
-    either_way (Settled c) (reallocates c.scopes e)
-    (record { variables = refl; literals = λ i w q. q; objects = λ name type i q. q })
-    (record { variables = refl; literals = λ i w q. q; objects = λ name type i q. q })
+opened_settled e c = search (arith, either_way)
 
 fill_points : (e : Tree) (line : ℕ) (type : PlainType) (offset : ℕ) (before : Code) (target : Target) (c : Context) (d : Context × Found) → Settled c d.0 → Aimed d → TargetIn c target → Led (Points c) (fill_scalar e line type offset before d target)
 fill_points e line type offset before (InStatic start) c d s k h =
@@ -498,9 +469,7 @@ record_points e line type offset c d (InMemory at mem) h = absurd h
 record_points e line type offset c d other h = led_refused (Points c)
 
 whole_points : (e : Tree) (line : ℕ) (type : PlainType) (offset : ℕ) (target : Target) (c : Context) → TargetIn c target → Led (Points c) (whole e line type offset target c)
-whole_points e line type offset target c h =
-    led_after (Points c) (found e type (opened e c))
-    (λ d q. led_unless (Points c) (not (is_same_place type d.1.typed)) (not_whole d.1.typed) line (λ x. record_points e line type offset c d target h))
+whole_points e line type offset target c h = search (arith, led_after, led_unless, not, record_points)
 
 text_points : (e : Tree) (line : ℕ) (bytes : List ℕ) (size offset : ℕ) (target : Target) (c : Context) → TargetIn c target → Led (Points c) (fill_text e line bytes size offset target c)
 text_points e line bytes size offset (InMemory at mem) c h = absurd h

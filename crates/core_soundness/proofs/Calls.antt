@@ -28,16 +28,7 @@ use Rattle.core_soundness.proofs.Choices.{some_same, not_false}
 
 -- what converts
 pub converting_of : (type : PlainType) (e : PlainTyped) → unconverted type e ≡ None → Converting (operand type) (operand e.type)
-converting_of type e h = by (operand type) (operand e.type) h
-  where
-    by : (s t : Operand) → unconverted_types e s t ≡ None → Converting s t
-    by (Number ty) (Number source) h = tt
-    by (Number ty) (PointerTo source) h = cc
-    by (Number ty) Neither h = cc
-    by (PointerTo target) (Number source) h = tt
-    by (PointerTo target) (PointerTo source) h = tt
-    by (PointerTo target) Neither h = cc
-    by Neither t h = tt
+converting_of type e h = grind arith
 
 flag_first : (x y : Bool) → not (x && y) ≡ false → x ≡ true
 flag_first true y e = refl
@@ -79,12 +70,7 @@ record_again other t r e = cc
 
 -- a struct or a union that is no assignment is a place
 record_place : (type : PlainType) (e : PlainTyped) → is_record type ≡ true → same type e.type ≡ true → has_no_value e ≡ false → e.is_place ≡ true
-record_place type e r s h = by (is_record e.type) e.is_place (record_again type e.type r s) h
-  where
-    by : (k p : Bool) → k ≡ true → k && not p ≡ false → p ≡ true
-    by true true e h = refl
-    by true false e h = cc
-    by false p e h = cc
+record_place type e r s h = grind (arith, record_again, true, not, false)
 
 pub record_lands : (line right : ℕ) (target : Found) (d z : Context × Found) → 1 ≤ line → is_record target.typed.type ≡ true → Stands (world d.0) target → Stands (world d.0) d.1 → record_assigned line right target d ≡ Ok z → Lands d.0 z
 record_lands line right target d z l r h k q =
@@ -115,12 +101,7 @@ record Written (target e typed : PlainTyped) : Type 0 where
   made : value target.type ≡ typed
 
 written_scalar : (line : ℕ) (target e typed : PlainTyped) → places.scalar_assigned line target e ≡ Ok typed → Written target e typed
-written_scalar line target e typed h =
-    let last : Checked PlainTyped = converts line target.type e (good (value target.type)) in
-    let a = behind_test (not (is_written target)) NotLvalue line (unless (is_void target.type) Incomplete line last) typed h in
-    let b = behind_test (is_void target.type) Incomplete line last typed a in
-    let c = unbarred (unconverted target.type e) line (good (value target.type)) typed b in
-    record { flag = flag_first target.is_place (not (is_array target.type)) (kept_test (not (is_written target)) NotLvalue line (unless (is_void target.type) Incomplete line last) typed h); converts = converting_of target.type e c.0; made = ok_same _ typed c.1 }
+written_scalar line target e typed h = search (arith, behind_test, not, unbarred, flag_first, kept_test, converting_of, ok_same)
 
 -- b is in front of the right side
 pub scalar_lands : (line : ℕ) (b : Context) (tree : Tree) (target : Found) (d z : Context × Found) → 1 ≤ line → 1 ≤ code_line tree → is_record target.typed.type ≡ false → Stands (world b) target → Goes b d.0 → Stands (world d.0) d.1 → scalar_assigned line b.code tree target d ≡ Ok z → Comes b z
@@ -153,25 +134,12 @@ pub record Changed (target typed : PlainTyped) : Type 0 where
   pub made : value target.type ≡ typed
 
 pub changed_typed : (line : ℕ) (op : AssignOp) (tags : TagTable) (target e typed : PlainTyped) → changed line op tags target e ≡ Ok typed → Changed target typed
-changed_typed line op tags target e typed h =
-    let r = by (operand target.type) (operand e.type) refl (behind_test _ _ line _ typed h) in
-    record { flag = flag_first _ _ (kept_test _ _ line _ typed h); scalar = r.0; made = r.1 }
-  where
-    by : (s t : Operand) → operand target.type ≡ s → changed_types line op tags target.type s t ≡ Ok typed → (is_scalar target.type ≡ true) × (value target.type ≡ typed)
-    by (Number ty) (Number source) o q = (number_scalar target.type ty o, ok_same _ typed q)
-    by (PointerTo to) (Number source) o q = (pointer_scalar target.type to o, moved_is line tags to (value target.type) typed (behind_test _ _ line _ typed q))
-    by (Number ty) (PointerTo source) o q = never _ _ typed q
-    by (Number ty) Neither o q = never _ _ typed q
-    by (PointerTo to) (PointerTo source) o q = never _ _ typed q
-    by (PointerTo to) Neither o q = never _ _ typed q
-    by Neither t o q = never _ _ typed q
+changed_typed line op tags target e typed h = grind (arith, behind_test, flag_first, kept_test, true, number_scalar, ok_same, pointer_scalar, moved_is)
 
 -- the rule of what is changed
 pub changing_rule : (line : ℕ) (op : AssignOp) (keeps_old : Bool) (target : Found) (old : Atom) (d z : Context × Found) → changed_by line op keeps_old target old d ≡ Ok z
     → (typed : PlainTyped) × Changed target.typed typed × (good (changed_answer keeps_old typed old (change_place line (operator_of op) typed target old d.1.typed (atom_in d.1) d.0)) ≡ Ok z)
-changing_rule line op keeps_old target old d z h =
-    let t = came (changed line op d.0.tags target.typed d.1.typed) h in
-    (t.value, changed_typed line op d.0.tags target.typed d.1.typed t.value t.is, t.last)
+changing_rule line op keeps_old target old d z h = search (arith, came, changed_typed)
 
 pub changed_comes : (line : ℕ) (op : AssignOp) (keeps_old : Bool) (target : Found) (old : Atom) (d z : Context × Found) → 1 ≤ line → Stands (world d.0) target → Held (world d.0) target.typed.type old → Held (world d.0) d.1.typed.type (atom_in d.1) → changed_by line op keeps_old target old d ≡ Ok z → Comes d.0 z
 changed_comes line op keeps_old target old d z l h ho k q =
@@ -384,9 +352,7 @@ all_suited w (p.Item flush zeros width' conv kind ∷ pieces) (v ∷ vs) e h =
     (suited w conv (width kind) v.0.type v.1 (and_parts _ _ e).0 h.0, all_suited w pieces vs (and_parts (suits_type conv (width kind) v.0.type) _ e).1 h.1)
 
 more_formats : (c : Context) (bytes : List ℕ) → Goes c (with_format bytes c)
-more_formats c bytes =
-    let grew : Grew (world c) (world (with_format bytes c)) = record { locals = λ j r e. e; mems = omega arith; integers = omega arith; pointers = omega arith; variables = omega arith; literals = omega arith; formats = λ j f e. get_left c.running.formats (bytes ∷ []) j f e; calls = λ j y e. e; file = λ name t i e. e } in
-    record { grew = grew; more = more_refl c.scopes; kept = record { line = refl; answer = refl; addressed = refl; declared = refl; params = refl; walked = refl }; fits = λ answer h. pieces_grew answer (world c) (world (with_format bytes c)) c.code.pieces grew h }
+more_formats c bytes = search (arith, get_left, more_refl, pieces_grew)
 
 printf_answered : (line : ℕ) (bytes : List ℕ) (args : List Atom) (c : Context) → 1 ≤ line → IsPrinted (world c) args (Some bytes) → Answered c (value (types.Int i.Int)) (printing line bytes args c)
 printf_answered line bytes args c l h =
@@ -403,10 +369,7 @@ CallOf v (Some (n.BuiltIn index)) function = (function ≡ callee_at (slice_get 
 CallOf v other function = function ≡ NoFunction
 
 no_function_is : (line : ℕ) (tags : TagTable) (answer : Checked PlainTyped) (function : Callee) → no_function line tags answer ≡ Ok function → function ≡ NoFunction
-no_function_is line tags answer function h =
-    let e = came answer h in
-    let k = came (wanted_value line tags e.value) e.last in
-    sym (ok_same NoFunction function k.last)
+no_function_is line tags answer function h = search (arith, came, ok_same)
 
 built_in_of : (line : ℕ) (tags : TagTable) (o : Option BuiltIn) (k : Callee) (function : Callee) → built_in_called line tags o k ≡ Ok function → (function ≡ k) ⊎ (function ≡ NoFunction)
 built_in_of line tags o NoFunction function h = inr (no_function_is line tags (built_in_named line o) function h)
@@ -496,11 +459,7 @@ call_lands line o function wanted trees c vs z l q h k =
 -- names
 
 pub sort_kept : (a b : World) (k : ℕ) (sort : Sort) → Grew a b → local_sort a k ≡ Some sort → local_sort b k ≡ Some sort
-sort_kept a b k sort g h = by (slice_get a.locals k) refl h
-  where
-    by : (o : Option Register) → slice_get a.locals k ≡ o → option_map Rattle.core_tree.specs.Sorts.sort_of o ≡ Some sort → local_sort b k ≡ Some sort
-    by None e q = cc
-    by (Some reg) e q = ap (λ (x : Option Register). option_map Rattle.core_tree.specs.Sorts.sort_of x) (g.locals k reg e) ∙ q
+sort_kept a b k sort g h = grind (arith, option_map)
 
 pub inner_kept : (a b : World) (v : PlainNamed) → Grew a b → InnerFits a v → InnerFits b v
 inner_kept a b (n.Object type i) g h = omega (arith, h, g.mems)
@@ -514,11 +473,7 @@ file_kept a b (n.Register type i) g h = h
 file_kept a b other g h = tt
 
 table_more : (P Q : PlainNamed → Type 0) (one other : Table) → ((v : PlainNamed) → P v → Q v) → ((type : PlainType) → Q (Tag type)) → MoreTags one other → TableFits P one → TableFits Q other
-table_more P Q one other up tags m h name v e =
-    ⊎_elim
-    (λ (q : named_in name other ≡ named_in name one). up v (h name v (sym q ∙ e)))
-    (λ (q : IsNewTag name one other). subst Q (some_same (Tag q.1) v (sym q.4 ∙ e)) (tags q.1))
-    (m name)
+table_more P Q one other up tags m h name v e = search (arith, some_same)
 
 tables_more : (P Q : PlainNamed → Type 0) (one other : List Table) → ((v : PlainNamed) → P v → Q v) → ((type : PlainType) → Q (Tag type)) → MoreAll one other → TablesFit P one → TablesFit Q other
 tables_more P Q [] [] up tags m h = tt
@@ -535,8 +490,7 @@ names_more a b s t g m h = record {
 -- registers
 
 register_from : (f g : Table) (ss ts : List Table) (name : List ℕ) → MoreTags f g → MoreAll ss ts → is_register (found_from f name ss) ≡ false → is_register (found_from g name ts) ≡ false
-register_from f g [] [] name m k h =
-    ⊎_elim (λ (q : named_in name g ≡ named_in name f). ap is_register q ∙ h) (λ (q : IsNewTag name f g). ap is_register q.4) (m name)
+register_from f g [] [] name m k h = search arith
 register_from f g [] (t ∷ ts) name m k h = absurd k
 register_from f g (s ∷ ss) [] name m k h = absurd k
 register_from f g (s ∷ ss) (t ∷ ts) name m k h =
@@ -616,10 +570,7 @@ spot_named (Some (n.BuiltIn i)) typed inner r e = absurd (built_in_spot typed.is
 spot_named other typed inner r e = cc
 
 pub name_local : (line : ℕ) (name : List ℕ) (o : Option PlainNamed) (c : Context) (z : Context × Found) (r : ℕ) → name_answer line name o c ≡ Ok z → z.1.spot ≡ Local r → is_register o ≡ true
-name_local line name o c z r h e =
-    let t = came (named line o) h in
-    let same : (c, name_found t.value (is_inner c name) o) ≡ z = ok_same (c, name_found t.value (is_inner c name) o) z t.last in
-    spot_named o t.value (is_inner c name) r (ap (λ (x : Context × Found). x.1.spot) same ∙ e)
+name_local line name o c z r h e = search (arith, came, ok_same, spot_named)
 
 -- operands
 

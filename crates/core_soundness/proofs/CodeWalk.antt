@@ -227,9 +227,7 @@ module _ (R : ℕ → Context → Context → Type 0) (steps : Writes R) where
       reached_after (R 2 c) (unary line op c.tags e.typed) (λ typed h. reached_ok (R 2 c) (apply_keeps line op tree typed c e))
 
   pub left_keeps : (n : ℕ) (op : BinaryOp) (b : Context) (right : Tree) (d : Context × Found) → R n b d.0 → R n b (left_operand op b.code right d).0
-  left_keeps n op b right d g =
-      either n b (tells_equal op && is_null_constant d.1.typed && is_pointer_ahead (ahead right d.0))
-      (forget b.code d.0, found_as d.1.typed (Value atom.Null) Nowhere) d (steps.forgets n b d.0 g) g
+  left_keeps n op b right d g = search arith
 
   pub between_keeps : (n line : ℕ) (op : BinaryOp) (b c : Context) (x y : Found) → R n b c → Reached (R (n + 3) b) (between line op b.code c x y)
   between_keeps n line op b c x y g =
@@ -245,8 +243,7 @@ module _ (R : ℕ → Context → Context → Type 0) (steps : Writes R) where
 
   fork_at : (m n k : ℕ) (t r s : Context) (line at label : ℕ) (a : Atom) → m + n ≤ k → label ≡ t.code.labels → R m (emit line (Zero a t.code.labels) (with_labels 2 t)) r
       → R n (here label (emit at (Jump (label + 1)) r)) s → R k t (here (label + 1) s)
-  fork_at m n k t r s line at label a h e g =
-      subst (λ (l : ℕ). R n (here l (emit at (Jump (l + 1)) r)) s → R k t (here (l + 1) s)) (sym e) (steps.forks m n k t r s line at a h g)
+  fork_at m n k t r s line at label a h e g = search arith
 
   same_labels : (tree : Tree) (d : Context × Found) → new_label d.0 ≡ (tested_value tree d).0.code.labels
   same_labels tree d = sym (tested_labels (code_line tree) d.1.typed.type (atom_in d.1) d.0)
@@ -472,8 +469,4 @@ quiet_call line (Some (n.Function type index)) answer wanted format arguments c 
 quiet_call line other answer wanted format arguments c = quiet_of_built_in line (built_in_at other) answer wanted format arguments c
 
 pub quiet_literal : (line : ℕ) (bytes : List ℕ) (c : Context) (d : Context × ℕ) → with_literal line bytes c ≡ Ok d → Quiet c d.0
-quiet_literal line bytes c d = by (nat_lt 67108864 (c.static_bytes + block_size (length bytes + 1)))
-  where
-    by : (t : Bool) → then (unless t StaticTooLarge line (good (record c { static_bytes = c.static_bytes + block_size (length bytes + 1) }))) (λ x. good (record x { literals = x.literals ++ bytes ∷ [] }, literal_object (length c.literals))) ≡ Ok d → Quiet c d.0
-    by true f = never (Quiet c d.0) _ d f
-    by false f = subst (λ (x : Context × ℕ). Quiet c x.0) (ok_same _ d f) refl
+quiet_literal line bytes c d = grind (arith, true, false, ok_same)

@@ -26,11 +26,7 @@ pub record Behind (unit : Trees) (core : Core) : Type 0 where
   pub made : core_of context ≡ core
 
 pub behind : (unit : Trees) (core : Core) (tags : TagTable) → elaborated unit ≡ Ok (core, tags) → Behind unit core
-behind unit core tags e = by (walked unit) refl e
-  where
-    by : (r : Checked Context) → walked unit ≡ r → then {B = Core × TagTable} r (λ c. Ok (core_of c, c.tags)) ≡ Ok (core, tags) → Behind unit core
-    by (Ok c) is h = record { context = c; is = is; made = ap (λ (p : Core × TagTable). p.0) (ok_same (core_of c, c.tags) (core, tags) h) }
-    by (Err x) is h = never (Behind unit core) x (core, tags) h
+behind unit core tags e = grind (arith, ok_same)
 
 -- flow
 
@@ -86,11 +82,7 @@ length_sum f [] h = omega arith
 length_sum f (x ∷ xs) h = omega (arith, h x, length_sum f xs h, sum_by-cons f x xs)
 
 static_sum : (c : Context) → sum_by (λ (static : Static). block_size static.layout.size) (core_of c).statics ≡ variable_bytes c.variables + literal_bytes c.literals
-static_sum c =
-    let size : Static → ℕ = λ (static : Static). block_size static.layout.size in
-    sum_by-append size (map (variable_static c) c.variables) (map literal_static c.literals)
-    ∙ ap (λ k. k + sum_by size (map literal_static c.literals)) (sum_by_map size (variable_static c) c.variables)
-    ∙ ap (λ k. variable_bytes c.variables + k) (sum_by_map size literal_static c.literals ∙ sum_by_same (λ (bytes : List ℕ). size (literal_static bytes)) (λ (bytes : List ℕ). block_size (length bytes + 1)) c.literals (λ bytes. ap block_size (mul-one (length bytes + 1))))
+static_sum c = search (arith, sum_by-append, sum_by_map, variable_bytes, sum_by_same, mul-one)
 
 operands_length : (num : Numbers) (kind : StmKind) → length (operands (numbered num kind)) ≡ length (operands kind)
 unfolding numbered
@@ -103,20 +95,14 @@ operands_length num kind = refl
 
 body_size : (num : Numbers) (pieces : List Piece) → sum_by (λ (stm : Stm). 1 + length (operands stm.kind)) (body_of num pieces) ≡ sum_by piece_length pieces
 body_size num [] = refl
-body_size num (Does stm ∷ pieces) =
-    sum_by-cons (λ (s : Stm). 1 + length (operands s.kind)) (record { line = stm.line; kind = numbered num stm.kind }) (body_of num pieces)
-    ∙ ap (λ k. 1 + k + sum_by (λ (s : Stm). 1 + length (operands s.kind)) (body_of num pieces)) (operands_length num stm.kind)
-    ∙ ap (λ k. 1 + length (operands stm.kind) + k) (body_size num pieces)
-    ∙ sym (sum_by-cons piece_length (Does stm) pieces)
+body_size num (Does stm ∷ pieces) = search (arith, sum_by-cons, operands_length, (body_size num pieces))
 body_size num (Here l ∷ pieces) = body_size num pieces ∙ sym (sum_by-cons piece_length (Here l) pieces ∙ zero_first (sum_by piece_length pieces))
   where
     zero_first : (k : ℕ) → 0 + k ≡ k
     zero_first k = omega arith
 
 code_sum : (c : Context) → sum_by code_size (core_of c).funcs ≡ sum_by walked_length c.walked
-code_sum c =
-    sum_by_map code_size (function_of c) c.walked
-    ∙ sum_by_same (λ (w : Walked). code_size (function_of c w)) walked_length c.walked (λ w. body_size (numbers_of c w) w.code.pieces)
+code_sum c = search (arith, sum_by_map, sum_by_same, walked_length, body_size)
 
 -- each function has a statement
 some_code : (front : List Piece) (stm : Stm) → 1 ≤ sum_by piece_length (front ++ (Does stm ∷ []))
@@ -187,8 +173,7 @@ counted_one p (y ∷ xs) (suc k) x e h u =
 
 count_map : {X Y : Type 0} (p : Y → Bool) (g : X → Y) (xs : List X) → count_by p (map g xs) ≡ count_by (λ x. p (g x)) xs
 count_map p g [] = refl
-count_map p g (x ∷ xs) =
-    sum_by-cons (λ y. cond (p y) 1 0) (g x) (map g xs) ∙ ap (λ k. cond (p (g x)) 1 0 + k) (count_map p g xs) ∙ sym (sum_by-cons (λ y. cond (p (g y)) 1 0) x xs)
+count_map p g (x ∷ xs) = search (arith, sum_by-cons, (count_map p g xs))
 
 -- what the last test of a text says
 
@@ -199,8 +184,7 @@ record IsMain (fs : List Declared) (o : Option PlainNamed) : Type 0 where
   defined : is_defined (slice_get fs index) ≡ true
 
 main_is : (fs : List Declared) (o : Option PlainNamed) → externals.is_main fs o ≡ true → IsMain fs o
-main_is fs (Some (n.Function type index)) e =
-    record { type = type; index = index; is = refl; defined = (and_parts (same type (Function (Int i.Int) none)) (is_defined (slice_get fs index)) e).1 }
+main_is fs (Some (n.Function type index)) e = search (arith, and_parts)
 main_is fs other e = cc
 
 same_number : (name : List ℕ) (t v : PlainType) (i j : ℕ) (o : Option PlainNamed) → o ≡ Some (n.Function t i) → o ≡ Some (n.Function v j) → i ≡ j
@@ -208,12 +192,7 @@ same_number name t v i j o x y = let both : Some (n.Function t i) ≡ Some (n.Fu
 
 -- so there is a body
 pub main_number : (c : Context) → Finished c → 0 < length c.walked
-main_number c f =
-    let s = f.sane in
-    let m = main_is c.functions (named_in (codes "main") c.scopes.file) f.main in
-    let d = s.named.found (codes "main") m.type m.index m.is in
-    let k = some_number (d.0).defined (ap is_defined (sym d.1) ∙ m.defined) in
-    omega (arith, s.strict m.index k.0 d.0 d.1 k.1)
+main_number c f = search (arith, main_is, codes, scopes, some_number)
 
 walked_main : (c : Context) → Finished c → ((k : ℕ) (w : Walked) → slice_get c.walked k ≡ Some w → IsOwn w.name) → count_by (λ (w : Walked). bytes_eq (plain_name w.name) (codes "main")) c.walked ≡ 1
 walked_main c f own =
@@ -256,22 +235,13 @@ called_number num kind f e = never_number f e
 -- a statement of a body is one of its pieces
 resolved : (num : Numbers) (pieces : List Piece) (i : ℕ) (stm : Stm) → slice_get (body_of num pieces) i ≡ Some stm → (kind : StmKind) × (stm.kind ≡ numbered num kind)
 resolved num [] i stm e = cc
-resolved num (Does s ∷ pieces) zero stm e =
-    let same : record { line = s.line; kind = numbered num s.kind } ≡ stm = cc in (s.kind, sym (ap (λ (x : Stm). x.kind) same))
+resolved num (Does s ∷ pieces) zero stm e = search arith
 resolved num (Does s ∷ pieces) (suc i) stm e = resolved num pieces i stm e
 resolved num (Here l ∷ pieces) i stm e = resolved num pieces i stm e
 
 -- each number that a function may have is that of a body
 number_inside : (c : Context) → Sane c → 0 < length c.walked → (g : ℕ) → function_by c.functions g < length c.walked
-number_inside c s some g = by (slice_get c.functions g) refl
-  where
-    defined_one : (d : Declared) → slice_get c.functions g ≡ Some d → (o : Option ℕ) → d.defined ≡ o → unwrap_or o 0 < length c.walked
-    defined_one d e None q = some
-    defined_one d e (Some k) q = s.strict g k d e q
-
-    by : (o : Option Declared) → slice_get c.functions g ≡ o → definition_of o < length c.walked
-    by None e = some
-    by (Some d) e = defined_one d e d.defined refl
+number_inside c s some g = grind arith
 
 function_calls : (c : Context) (w : Walked) → Sane c → 0 < length c.walked → CallsInside (core_of c) (function_of c w)
 function_calls c w s some point stm f r args e is =
@@ -286,7 +256,4 @@ each_calls c (w ∷ ws) zero func s some e = let same : function_of c w ≡ func
 each_calls c (w ∷ ws) (suc i) func s some e = each_calls c ws i func s some e
 
 pub core_calls : (unit : Trees) (core : Core) (tags : TagTable) → elaborated unit ≡ Ok (core, tags) → EachFunc core (CallsInside core)
-core_calls unit core tags e =
-    let b = behind unit core tags e in
-    let f = walked_finished unit b.context b.is in
-    subst (λ (x : Core). EachFunc x (CallsInside x)) b.made (λ i func h. each_calls b.context b.context.walked i func f.sane (main_number b.context f) h)
+core_calls unit core tags e = search (arith, behind, walked_finished, each_calls, main_number)

@@ -72,12 +72,7 @@ named_stepped name t c d o k h = keeps_stepped t (taken (Node f.MaybeName name) 
 -- members and enumerators
 
 member_same : (line : ℕ) (name : Option (List ℕ)) (type : PlainType) (list : d.Members) (c : Context) (z : Context × d.Members) → member line name type list c ≡ Ok z → c ≡ z.0
-member_same line name type list c z q =
-    let last : Checked (Context × d.Members) = then (with_member line name type list) (λ more. good (c, more)) in
-    let a = behind_test (is_function type) LeftOut line (unless (has_no_size c.tags type) Incomplete line last) z q in
-    let b = behind_test (has_no_size c.tags type) Incomplete line last z a in
-    let x = came (with_member line name type list) b in
-    ap (λ (y : Context × d.Members). y.0) (ok_same (c, x.value) z x.last)
+member_same line name type list c z q = search (arith, behind_test, came, ok_same)
 
 enumerator_stepped : (line : ℕ) (name : List ℕ) (v : ℤ) (t : Taken) (c : Context) (z : Context × ℤ) → Follows t c → enumerator line name v c ≡ Ok z → Stepped t c (with_one name None t) z.0
 enumerator_stepped line name v t c z h q =
@@ -331,8 +326,7 @@ local_step line storages.Plain name type inits t c z e bare g s h q =
 
 entry_taken : (declarator : Tree) (inits : Trees) (name : List ℕ) (t : Taken) → name_of declarator ≡ Some name → as_before t (taken (Node f.MaybeInit inits) (declare t.typedef (Some name) (as_before t (taken declarator t)))) ≡ taken (Node f.Entry (Node f.Declared (declarator ▹ none) ▹ Node f.MaybeInit inits ▹ none)) t
 unfolding taken all_taken left shape is_scope name_among
-entry_taken declarator inits name t e =
-    ap (λ (o : Option (List ℕ)). as_before t (taken (Node f.MaybeInit inits) (declare t.typedef (first_name o None) (as_before t (taken declarator t))))) (sym e)
+entry_taken declarator inits name t e = search (arith, as_before)
 
 -- an entry, and what is asked of its initializer
 record Entered (line : ℕ) (base : PlainType) (declarator : Tree) (inits : Trees) (t : Taken) (c z : Context) : Type 0 where
@@ -591,11 +585,7 @@ alone_is (Node form parts) h = by (params_of (Node form parts))
 -- those of a base are those of the declarator, where the base is no name
 base_is : (form : Form) (parts suffixes : Trees) → IsSome (params_among (Node form parts ▹ Node f.Suffixes suffixes ▹ none)) → params_of (Node form parts) ≡ params_among (Node form parts ▹ Node f.Suffixes suffixes ▹ none)
 unfolding params_of params_among leads_to_name
-base_is form parts suffixes h = by (params_of (Node form parts))
-  where
-    by : (o : Option Trees) → o ≡ first_list o None
-    by None = refl
-    by (Some list) = refl
+base_is form parts suffixes h = grind arith
 
 is_some_of : (o q : Option Trees) → o ≡ q → IsSome q → IsSome o
 is_some_of o q e h = subst (λ (x : Option Trees). IsSome x) (sym e) h
@@ -639,13 +629,7 @@ layers_start (Node form parts) c z i g s zero_yet flat h q = absurd i
 -- a body
 
 function_counts : (line : ℕ) (name : List ℕ) (type : PlainType) (c z : Context) → declared_function line name type c ≡ Ok z → counts z ≡ counts c
-function_counts line name type c z q =
-    let index = function_number name c in
-    let d = came (declared_as line name (n.Function type index) c) q in
-    ap counts (sym (ok_same (with_function index name d.value) z d.last)) ∙ kept index d.value ∙ declared_counts line name (n.Function type index) c d.value d.is
-  where
-    kept : (index : ℕ) (d : Context) → counts (with_function index name d) ≡ counts d
-    kept index d = either_way (λ x. counts x ≡ counts d) (nat_lt index (length d.functions)) refl refl
+function_counts line name type c z q = grind (arith, came, counts, ok_same, declared_counts, either_way, functions)
 
 behind_file : (w : World) (file : Table) (name : List ℕ) (o : Option PlainNamed) → TableFits (FileFits w) file → is_register (option_or o (named_in name file)) ≡ true → is_register o ≡ true
 behind_file w file name (Some v) h e = e

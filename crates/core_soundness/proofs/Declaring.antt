@@ -27,8 +27,7 @@ pub passes_refl : (c : Context) → Safe c.scopes → Passes c c
 passes_refl c s = grows_passes c c s (grows_refl c)
 
 pub scopes_changed : (c : Context) (s : ScopeList) → Safe s → FileKeeps c.scopes.file s.file → length s.inner ≡ length c.scopes.inner → (1 ≤ length c.scopes.inner → ObjectsStay c.scopes.file s.file) → Passes c (record c { scopes = s })
-scopes_changed c s h keep deep objects =
-    passes_beside c _ refl refl refl (stays_beside c _ h refl refl refl refl refl (λ k. k) deep (tied_file c.functions c.scopes.file s.file c.walked keep) objects)
+scopes_changed c s h keep deep objects = search (arith, passes_beside, stays_beside, tied_file)
 
 pub running_changed : (c : Context) (run : Running) → run.cases ≡ c.running.cases → run.otherwise ≡ c.running.otherwise → Safe c.scopes → Passes c (record c { running = run })
 running_changed c run e e2 h = passes_beside c _ refl e e2 (stays_beside c _ h refl refl refl refl refl (λ k. k) refl (tied_refl c.functions c.scopes.file c.walked) (λ h name type i e. e))
@@ -51,13 +50,10 @@ pub after_depth : (s : ScopeList) (name : List ℕ) (named : PlainNamed) → len
 after_depth s name named = either_way (λ (x : ScopeList). length x.inner ≡ length s.inner) (is_some (named_in name (innermost s))) refl (with_name_depth s name named)
 
 after_passes : (name : List ℕ) (named : PlainNamed) (c : Context) → frees (Some named) ≡ false → IsNoFunction named → Safe c.scopes → Passes c (record c { scopes = after_declaration c.scopes name named })
-after_passes name named c e no_function s =
-    scopes_changed c _ (after_safe c.scopes name named e s) (after_keeps c.scopes name named no_function) (after_depth c.scopes name named) (λ h. declared_objects c.scopes name named (inner_objects c.scopes name named h))
+after_passes name named c e no_function s = search (arith, scopes_changed, after_safe, after_keeps, after_depth, declared_objects, inner_objects)
 
 pub declared_passes : (line : ℕ) (name : List ℕ) (named : PlainNamed) (b c : Context) → frees (Some named) ≡ false → IsNoFunction named → Passes b c → Led (Passes b) (declared_as line name named c)
-declared_passes line name named b c e no_function p =
-    led_unless (Passes b) (is_twice c.scopes name named) DeclaredTwice line
-    (λ q. led_ok (Passes b) (passes_trans b c _ p (after_passes name named c e no_function p.stays.safe)))
+declared_passes line name named b c e no_function p = search (arith, led_unless, led_ok, passes_trans, after_passes)
 
 named_passes : (name : Option (List ℕ)) (named : PlainNamed) (c : Context) → frees (Some named) ≡ false → IsNoFunction named → Safe c.scopes → Passes c (with_named name named c)
 named_passes None named c e no_function s = passes_refl c s
@@ -108,8 +104,7 @@ with_local_passes name type c s = counted_passes c _ (local_in_passes (next_is_m
 -- constants, specs and declarators
 
 pub with_type_passes : (answer : Checked (names.Context × PlainType)) (b c : Context) → Reached (After (asked c)) answer → Passes b c → Reached (Passes b) (with_type answer c)
-with_type_passes answer b c g p =
-    reached_after (Passes b) answer (λ x h. reached_ok (Passes b) (passes_trans b c _ p (told_passes x.0 c (g x h) p.stays.safe)))
+with_type_passes answer b c g p = search (arith, reached_after, reached_ok, passes_trans, told_passes)
 
 pub tail_depth : (inner : List Table) (k : ℕ) → length inner ≡ suc k → length (scopes.tail inner) ≡ k
 tail_depth [] k e = absurd (omega arith)
@@ -117,24 +112,7 @@ tail_depth (t ∷ ts) k e = omega arith
 
 -- a list of parameters in a scope of its own
 left_params_passes : (c x : Context) → Passes (entered c) x → Passes c (left_params x)
-left_params_passes c x p = record {
-  pieces = p.pieces;
-  code = p.code;
-  more = p.more;
-  fragment = p.fragment;
-  cases = p.cases;
-  otherwise = p.otherwise;
-  stays = record {
-    safe = left_safe x.scopes p.stays.safe;
-    depth = tail_depth x.scopes.inner (length c.scopes.inner) p.stays.depth;
-    tied = p.stays.tied;
-    walked = p.stays.walked;
-    length = p.stays.length;
-    params = λ h. first_safe [] x.scopes.inner (λ y. refl) p.stays.safe.inner;
-    counted = λ h. let k = p.stays.counted (record { bytes = h.bytes; small = h.small }) in record { bytes = k.bytes; small = k.small };
-    inside = λ h. let k = p.stays.inside (omega arith) in record { variables = k.variables; literals = k.literals; objects = k.objects };
-  };
-}
+left_params_passes c x p = search (arith, left_safe, tail_depth, first_safe)
 
 abbrev Kept : Bool → ℕ → Context → Context → Type 0
 Kept deep n c d = Safe c.scopes → Passes c d
@@ -186,9 +164,7 @@ told_levels told_of c m = grows_levels c (told told_of c) (grows_told told_of c 
 -- names
 
 pub declared_levels : (line : ℕ) (name : List ℕ) (named : PlainNamed) (b c : Context) → IsNoObject named → Levels b c → Led (Levels b) (declared_as line name named c)
-declared_levels line name named b c h p =
-    led_unless (Levels b) (is_twice c.scopes name named) DeclaredTwice line
-    (λ q. led_ok (Levels b) (levels_trans b c _ p (beside_levels c _ refl refl (declared_objects c.scopes name named (with_name_objects c.scopes name named h)) (after_depth c.scopes name named))))
+declared_levels line name named b c h p = search (arith, led_unless, led_ok, levels_trans, beside_levels, declared_objects, with_name_objects, after_depth)
 
 named_levels : (name : Option (List ℕ)) (named : PlainNamed) (c : Context) → 1 ≤ length c.scopes.inner → Levels c (with_named name named c)
 named_levels None named c deep = levels_refl c
@@ -336,11 +312,7 @@ fill_record_fills e line type offset b d (InMemory at mem) s g =
 fill_record_fills e line type offset b d t s g = led_refused (Fills t b)
 
 whole_fills : (e : Tree) (line : ℕ) (type : PlainType) (offset : ℕ) (t : Target) (b : Context) → Safe b.scopes → Led (Fills t b) (whole e line type offset t b)
-whole_fills e line type offset t b s =
-    let begun = opened e b in
-    led_after (Fills t b) (found e type begun)
-    (λ d h. led_unless (Fills t b) (not (is_same_place type d.1.typed)) (not_whole d.1.typed) line
-    (λ q. fill_record_fills e line type offset b d t s (found_grows e type begun begun (grows_refl begun) d h)))
+whole_fills e line type offset t b s = search (arith, led_after, led_unless, not, fill_record_fills, found_grows, grows_refl)
 
 -- a string literal opens no scope
 not_opened : (e : Tree) (b c : Context) (r : Bool) → reallocates b.scopes e ≡ r → r ≡ false → Grows (opened e b) c → Grows b c
@@ -524,30 +496,10 @@ same_size None = refl
 same_size (Some l) = refl
 
 more_variable_bytes : (variables : List Variable) (v : Variable) → variable_bytes (variables ++ v ∷ []) ≡ variable_bytes variables + block_size v.layout.size
-more_variable_bytes variables v = sum_by-append (λ (x : Variable). block_size x.layout.size) variables (v ∷ []) ∙ ap (λ k. variable_bytes variables + k) (zero_first (block_size v.layout.size))
-  where
-    zero_first : (k : ℕ) → 0 + k ≡ k
-    zero_first k = omega arith
+more_variable_bytes variables v = grind (arith, sum_by-append, variable_bytes)
 
 new_variable_stays : (line : ℕ) (name : List ℕ) (type : PlainType) (c : Context) → Safe c.scopes → length c.scopes.inner ≡ 0 → Led (Stays c) (with_new_variable line name type c)
-new_variable_stays line name type c s flat = by (nat_lt 67108864 (c.static_bytes + block_size (size_or_zero c type))) refl
-  where
-    by : (t : Bool) → nat_lt 67108864 (c.static_bytes + block_size (size_or_zero c type)) ≡ t
-        → Led (Stays c) (then (unless t StaticTooLarge line (good (record c { static_bytes = c.static_bytes + block_size (size_or_zero c type) }))) (λ d. good (record d { variables = d.variables ++ (record { name = name; layout = unwrap_or (layout_in d.tags type) no_layout; start = None }) ∷ [] })))
-    by true e d h = never (Stays c d) _ d h
-    by false e d h = subst (Stays c) (ok_same _ d h) (record {
-      safe = s;
-      depth = refl;
-      tied = tied_refl c.functions c.scopes.file c.walked;
-      walked = refl;
-      length = refl;
-      params = λ k. k;
-      counted = λ (k : Counted c). record {
-        bytes = omega (arith, k.bytes, more_variable_bytes c.variables (record { name = name; layout = unwrap_or (layout_in c.tags type) no_layout; start = None }), ap block_size (same_size (layout_in c.tags type)));
-        small = ltb-false 67108864 (c.static_bytes + block_size (size_or_zero c type)) e;
-      };
-      inside = λ h. absurd (omega (arith, h, flat));
-    })
+new_variable_stays line name type c s flat = grind (arith, true, false, ok_same, tied_refl, more_variable_bytes, same_size, ltb-false)
 
 variable_stays : (line index : ℕ) (name : List ℕ) (type : PlainType) (c : Context) → Safe c.scopes → length c.scopes.inner ≡ 0 → Led (Stays c) (with_variable line index name type c)
 variable_stays line index name type c s flat = either_way (Led (Stays c)) (nat_lt index (length c.variables)) (led_ok (Stays c) (passes_refl c s).stays) (new_variable_stays line name type c s flat)

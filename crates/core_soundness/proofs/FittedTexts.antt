@@ -131,9 +131,7 @@ module _ (ts : List CompletedTag) (room : ℕ) (slots : List ℕ) where
   record_fills e line type offset low high c d other h = led_refused (Fills slots high c)
 
   whole_fills : (e : Tree) (line : ℕ) (type : PlainType) (offset low high : ℕ) (target : Target) (c : Context) → TargetFilled slots low target → Led (Fills slots high c) (whole e line type offset target c)
-  whole_fills e line type offset low high target c h =
-      led_after (Fills slots high c) (found e type (opened e c))
-      (λ d q. led_unless (Fills slots high c) (not (is_same_place type d.1.typed)) (not_whole d.1.typed) line (λ x. record_fills e line type offset low high c d target h))
+  whole_fills e line type offset low high target c h = search (arith, led_after, led_unless, not)
 
   -- texts
 
@@ -257,8 +255,7 @@ target_filled slots high (InStatic start) h = filled_trimmed slots high start h
 target_filled slots high other h = absurd h
 
 objects_set : (k : Known) (vs ws : List Variable) (file : Table) → VariablesStay vs ws → LaidObjects k vs file → LaidObjects k ws file
-objects_set k vs ws file x h name type i e =
-    let r = h name type i e in let y = x i r.0 r.1 in (y.0, y.1, r.2 ∙ ap Some (sym y.2))
+objects_set k vs ws file x h name type i e = search arith
 
 starts_set : (vs : List Variable) (index : ℕ) (v : Variable) (start : Start) → StartsFilled vs → Filled v.layout.slots v.layout.size start → StartsFilled (slice_set vs index (record v { start = Some start }))
 starts_set vs index v start h p i u s g r =

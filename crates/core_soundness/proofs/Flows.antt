@@ -69,10 +69,7 @@ pub agree_refl : (l : ℕ) (m : Marks) → Agree l m m
 agree_refl l m = record { points = λ k h. refl; depths = λ k h. refl }
 
 pub agree_trans : (l j : ℕ) (a b c : Marks) → l ≤ j → Agree l a b → Agree j b c → Agree l a c
-agree_trans l j a b c le x y = record {
-  points = λ k h. y.points k (omega arith) ∙ x.points k h;
-  depths = λ k h. y.depths k (omega arith) ∙ x.depths k h;
-}
+agree_trans l j a b c le x y = search arith
 
 -- lists of pieces
 
@@ -249,11 +246,7 @@ module _ (num : Numbers) where
     lib_goes depth name point n next e h = e ∙ ap depth (sym (one_of (point + 1) next h))
 
     fork_goes : (depth : ℕ → ℕ) (point l n k next : ℕ) → m.depth l ≡ n → k ≡ n → depth (num.point l) ≡ m.depth l → k ≡ depth (point + 1) → Contains ((point + 1) ∷ num.point l ∷ []) next → n ≡ depth next
-    fork_goes depth point l n k next d same t e h =
-        ⊎_elim
-        (λ (w : next ≡ point + 1). sym same ∙ e ∙ ap depth (sym w))
-        (λ (w : next ≡ num.point l). sym d ∙ sym t ∙ ap depth (sym w))
-        (two_of (point + 1) (num.point l) next h)
+    fork_goes depth point l n k next d same t e h = search (arith, two_of)
 
     kind_goes : (depth : ℕ → ℕ) (kind : StmKind) (point n k next : ℕ) → Goes m kind point n k → Target (λ l. depth (num.point l) ≡ m.depth l) kind → k ≡ depth (point + 1)
         → Contains (edges (numbered num kind) point) next → scopes_after (numbered num kind) n ≡ depth next
@@ -315,9 +308,7 @@ module _ (num : Numbers) where
           goes = subst (λ q. Goes m s.kind q n (depth_at a (p + 1) h.0 k h.2 0)) here (subst (λ j. Goes m s.kind p n j) (sym (depth_start a (p + 1) h.0 k h.2)) h.1);
           target = t.0;
         }
-    standing Q (Does s ∷ a) p n k h (suc i) stm t e =
-        let there : p + 1 + i ≡ p + suc i = omega arith in
-        subst (λ q. Standing Q q (depth_at a (p + 1) h.0 k h.2 i) (depth_at a (p + 1) h.0 k h.2 (suc i)) stm) there (standing Q a (p + 1) h.0 k h.2 i stm t.1 e)
+    standing Q (Does s ∷ a) p n k h (suc i) stm t e = search (arith, (standing Q a (p + 1) h.0 k h.2 i stm t.1 e))
     standing Q (Here l ∷ a) p n k h i stm t e = standing Q a p n k h.2 i stm t e
 
     -- where a label that is placed stands
@@ -372,11 +363,7 @@ module _ (num : Numbers) where
       more [] = omega arith
       more (Does t ∷ b) = omega (arith, more b)
       more (Here k ∷ b) = more b
-  next_inside (Does s ∷ a) last (suc i) stm e =
-      ⊎_elim
-      (λ (w : i + 1 < steps (a ++ Does last ∷ [])). inl (omega arith))
-      (λ (w : stm.kind ≡ numbered num last.kind). inr w)
-      (next_inside a last i stm e)
+  next_inside (Does s ∷ a) last (suc i) stm e = search (arith, (next_inside a last i stm e))
   next_inside (Here l ∷ a) last i stm e = next_inside a last i stm e
 
   -- a whole body, which ends in a return, and whose labels are all placed
@@ -555,10 +542,7 @@ nothing ws n low high = record {
 
 module _ (ws : List Way) (n low middle high : ℕ) (a b : List Piece) (s t : List ℕ) where
   goes_both : Targets (λ l. Placed l a ⊎ IsWay ws l) a → Targets (λ l. Placed l b ⊎ IsWay ws l) b → Targets (λ l. Placed l (a ++ b) ⊎ IsWay ws l) (a ++ b)
-  goes_both one other =
-      targets_append (λ l. Placed l (a ++ b) ⊎ IsWay ws l) a b
-      (targets_map (λ l. Placed l a ⊎ IsWay ws l) (λ l. Placed l (a ++ b) ⊎ IsWay ws l) a (λ l. ⊎_elim (λ (h : Placed l a). inl (placed_left l a b h)) (λ (h : IsWay ws l). inr h)) one)
-      (targets_map (λ l. Placed l b ⊎ IsWay ws l) (λ l. Placed l (a ++ b) ⊎ IsWay ws l) b (λ l. ⊎_elim (λ (h : Placed l b). inl (placed_right l a b h)) (λ (h : IsWay ws l). inr h)) other)
+  goes_both one other = search (arith, targets_append, targets_map, placed_left, placed_right)
 
   flows_both : AreEarlier low ws → low ≤ middle → Fragment ws n low middle a s → Fragment ws n middle high b t
       → (m : Marks) (p : ℕ) → Leads m (p + steps (a ++ b)) ws → Made low n p m (a ++ b) (s ++ t)
@@ -595,18 +579,7 @@ pub anywhere : (ws : List Way) (n low high : ℕ) (a : List Piece) (entries : Li
 anywhere ws n low high a entries f = with_ways [] ws n low high a entries (λ l h. absurd h) (λ m end h. tt) f
 
 pub within : (ws : List Way) (n low high small large : ℕ) (a : List Piece) (entries : List ℕ) → small ≤ low → high ≤ large → Fragment ws n low high a entries → Fragment ws n small large a entries
-within ws n low high small large a entries le le2 f = record {
-  goes = f.goes;
-  targets = targets_map (λ l. l < high) (λ l. l < large) a (λ l h. omega (arith, h)) f.targets;
-  places = places_map (λ l. l < high) (λ l. l < large) a (λ l h. omega (arith, h)) f.places;
-  placed = f.placed;
-  flows = λ m p lead. let made = f.flows m p lead in record {
-    marks = made.marks;
-    same = record { points = λ k h. made.same.points k (omega arith); depths = λ k h. made.same.depths k (omega arith) };
-    flow = made.flow;
-    entered = made.entered;
-  };
-}
+within ws n low high small large a entries le le2 f = search (arith, targets_map, places_map)
 
 -- a label behind code to which the code goes on
 pub closed_by : (ws : List Way) (n low high : ℕ) (a : List Piece) → low < high → AreEarlier low ws → Fragment (way_on low n ∷ ws) n (low + 1) high a [] → Fragment ws n low high (a ++ (Here low ∷ [])) []

@@ -257,9 +257,7 @@ has_list other scope a n h = no_list h
 
 external_defined : (tree : Tree) (scope : Scope) → IsExternal tree scope → IsDefinition tree
 unfolding IsExternal AllAllowed Allowed Takes params_of params_among leads_to_name shape
-external_defined (Node f.Function (line ▹ words ▹ Node f.Declared (declarator ▹ none) ▹ body ▹ none)) scope h =
-    let d = h.front.2.2.1.1 in
-    has_list declarator _ d.1 (declarator_named (home declarator) d.0.0) (alone declarator h.function)
+external_defined (Node f.Function (line ▹ words ▹ Node f.Declared (declarator ▹ none) ▹ body ▹ none)) scope h = search (arith, has_list, declarator_named, alone)
 external_defined tree scope h = tt
 
 -- shapes
@@ -323,14 +321,7 @@ one_node (At line ▹ rest) h = one_node rest h
 one_node (Node form parts ▹ rest) h = no_nodes rest (omega (arith, h))
 
 one_type : (t : Tally) → is_one_type t ≡ true → t.whole ≤ 1
-one_type t h = by (t.void + t.whole == 0) refl h
-  where
-    one : (x : Bool) → t.void + t.whole == 1 && x ≡ true → t.whole ≤ 1
-    one x e = omega (arith, eqb-true (t.void + t.whole) 1 (and_parts (t.void + t.whole == 1) x e).0)
-
-    by : (x : Bool) → t.void + t.whole == 0 ≡ x → (if x then is_integer_type t else t.void + t.whole == 1 && (t.char + t.short + t.long + t.int + t.sign == 0)) ≡ true → t.whole ≤ 1
-    by true e q = omega (arith, eqb-true (t.void + t.whole) 0 e)
-    by false e q = one (t.char + t.short + t.long + t.int + t.sign == 0) q
+one_type t h = grind (arith, true, eqb-true, and_parts, false)
 
 specs_whole : (t : Tally) → are_specs t ≡ true → t.whole ≤ 1
 unfolding are_specs
@@ -419,16 +410,8 @@ suffix_formed : (tree : Tree) (scope : Scope) → home tree ≡ p.Suffix → All
 unfolding Allowed AllAllowed Takes shape form_home
 suffix_formed (Leaf word) scope h a = absurd (no_word word p.Suffix refl h)
 suffix_formed (At line) scope h a = let e : p.Line ≡ p.Suffix = h in cc
-suffix_formed (Node f.ArraySuffix parts) scope h a =
-    let r = line_parts parts p.MaybeLength scope a.1 in
-    let b : AllAllowed (At r.0 ▹ r.1 ▹ none) (p.Line ∷ p.MaybeLength ∷ []) scope = subst (λ (ts : Trees). AllAllowed ts (p.Line ∷ p.MaybeLength ∷ []) scope) r.2 a.1 in
-    let m = length_formed r.1 _ b.2.0 b.2.1 in
-    subst (λ (ts : Trees). IsSuffix (Node f.ArraySuffix ts)) (sym r.2) (subst (λ (x : Tree). IsSuffix (Node f.ArraySuffix (At r.0 ▹ x ▹ none))) (sym m.1) (array_formed r.0 m.0 m.2))
-suffix_formed (Node f.FunctionSuffix parts) scope h a =
-    let r = line_parts parts p.Params scope a.1 in
-    let b : AllAllowed (At r.0 ▹ r.1 ▹ none) (p.Line ∷ p.Params ∷ []) scope = subst (λ (ts : Trees). AllAllowed ts (p.Line ∷ p.Params ∷ []) scope) r.2 a.1 in
-    let m = params_formed r.1 b.2.0 in
-    subst (λ (ts : Trees). IsSuffix (Node f.FunctionSuffix ts)) (sym r.2) (subst (λ (x : Tree). IsSuffix (Node f.FunctionSuffix (At r.0 ▹ x ▹ none))) (sym m.1) tt)
+suffix_formed (Node f.ArraySuffix parts) scope h a = search (arith, line_parts, length_formed, array_formed)
+suffix_formed (Node f.FunctionSuffix parts) scope h a = search (arith, line_parts, params_formed)
 suffix_formed (Node f.VoidSuffix parts) scope h a = line_alone parts scope a.1
 suffix_formed (Node form parts) scope h a = let e : form_home form ≡ p.Suffix = h in cc
 
@@ -473,19 +456,13 @@ entry_alone : (tree : Tree) (rest : Trees) (scope : Scope) → home tree ≡ p.E
 unfolding Allowed AllAllowed Takes shape form_home is_scope obeys
 entry_alone (Leaf word) rest scope h a e n = absurd (no_word word p.Entry refl h)
 entry_alone (At line) rest scope h a e n = let x : p.Line ≡ p.Entry = h in cc
-entry_alone (Node f.Entry parts) rest scope h a e n =
-    let r = entry_parts parts scope a.1 in
-    let b : AllAllowed (r.0 ▹ Node f.MaybeInit r.1 ▹ none) (p.Declared ∷ p.MaybeInit ∷ []) scope = subst (λ (ts : Trees). AllAllowed ts (p.Declared ∷ p.MaybeInit ∷ []) scope) r.2 a.1 in
-    let same : (after r.0 scope).typedef ≡ scope.typedef = typedef_kept r.0 scope (λ q. let x : p.Declared ≡ p.Specs = sym b.0 ∙ q in cc) in
-    let bare : r.1 ≡ none = no_init r.1 (after r.0 scope).typedef b.2.1.0 (same ∙ e) in
-    subst (λ (ts : Trees). NoInits (Node f.Entry ts ▹ rest)) (sym r.2) (subst (λ (ts : Trees). NoInits (Node f.Entry (r.0 ▹ Node f.MaybeInit ts ▹ none) ▹ rest)) (sym bare) n)
+entry_alone (Node f.Entry parts) rest scope h a e n = search (arith, entry_parts, typedef_kept, no_init)
 entry_alone (Node form parts) rest scope h a e n = let x : form_home form ≡ p.Entry = h in cc
 
 entries_behind : (entries : Trees) (scope : Scope) → AllAllowed entries (places (behind_commas p.Entry (count entries))) scope → scope.typedef ≡ true → NoInits entries
 unfolding AllAllowed Takes is_scope
 entries_behind none scope a e = tt
-entries_behind (tree ▹ rest) scope a e =
-    entry_alone tree rest scope a.0 a.1 e (entries_behind rest (after tree scope) a.2 (typedef_kept tree scope (λ q. let x : p.Entry ≡ p.Specs = sym a.0 ∙ q in cc) ∙ e))
+entries_behind (tree ▹ rest) scope a e = search (arith, entry_alone, typedef_kept, (entries_behind rest (after tree scope) a.2 (typedef_kept tree scope (λ q. let x : p.Entry ≡ p.Specs = sym a.0 ∙ q in cc) ∙ e)))
 
 entries_alone : (entries : Trees) (scope : Scope) → AllAllowed entries (places (commas p.Entry (count entries))) scope → scope.typedef ≡ true → NoInits entries
 entries_alone none scope a e = tt
@@ -509,9 +486,7 @@ shaped f.MaybeName (tree ▹ rest) scope o a = name_alone (tree ▹ rest) scope 
 shaped f.Specs parts scope o a = one_node parts (specs_whole (tally parts) o)
 shaped f.MaybeExpr (tree ▹ rest) scope o a = at_most (tree ▹ rest) expr scope a
 shaped f.MaybeInit (tree ▹ rest) scope o a = at_most (tree ▹ rest) p.Init scope a
-shaped (f.Pointer consts) (line ▹ declarator ▹ none) scope o a =
-    let b : AllAllowed (line ▹ declarator ▹ none) (p.Line ∷ p.AnyDeclarator ∷ []) scope = subst (λ (ps : List Place). AllAllowed (line ▹ declarator ▹ none) (p.Line ∷ ps) scope) (behind_stars consts) a in
-    layer_formed declarator _ (declarator_layering (home declarator) b.2.0) b.2.1
+shaped (f.Pointer consts) (line ▹ declarator ▹ none) scope o a = search (arith, behind_stars, layer_formed, declarator_layering)
 shaped f.Direct (base ▹ Node f.Suffixes suffixes ▹ none) scope o a = (layer_formed base scope (base_layering (home base) a.0) a.1, suffixes_formed suffixes _ a.2.1.1)
 shaped f.Parens (line ▹ declarator ▹ none) scope o a = layer_formed declarator _ (subst Layering (sym a.2.0) tt) a.2.1
 shaped f.Typename (line ▹ words ▹ declarator ▹ none) scope o a = layer_formed declarator _ (declarator_layering (home declarator) a.2.2.0.0) a.2.2.1

@@ -50,19 +50,7 @@ pub kept_refl : (c : Context) → Kept c c
 kept_refl c = record { variables = refl; functions = refl; params = refl; walked = refl; length = refl; answer = refl; mems = refl; declared = refl; addressed = refl; literals = λ i w e. e; counted = λ h. h }
 
 pub kept_trans : (a b c : Context) → Kept a b → Kept b c → Kept a c
-kept_trans a b c x y = record {
-  variables = y.variables ∙ x.variables;
-  functions = y.functions ∙ x.functions;
-  params = y.params ∙ x.params;
-  walked = y.walked ∙ x.walked;
-  length = y.length ∙ x.length;
-  answer = y.answer ∙ x.answer;
-  mems = y.mems ∙ x.mems;
-  declared = y.declared ∙ x.declared;
-  addressed = y.addressed ∙ x.addressed;
-  literals = λ i w e. y.literals i w (x.literals i w e);
-  counted = λ h. y.counted (x.counted h);
-}
+kept_trans a b c x y = search arith
 
 pub record Grows (c d : Context) : Type 0 where
   pub pieces : List Piece
@@ -76,19 +64,7 @@ pub record Grows (c d : Context) : Type 0 where
 
 -- what is kept beside code
 pub recoded : (c d : Context) (x y : Code) → Kept (record c { code = x }) d → Kept c (record d { code = y })
-recoded c d x y k = record {
-  variables = k.variables;
-  functions = k.functions;
-  params = k.params;
-  walked = k.walked;
-  length = k.length;
-  answer = k.answer;
-  mems = k.mems;
-  declared = k.declared;
-  addressed = k.addressed;
-  literals = k.literals;
-  counted = λ (h : Counted c). let r = k.counted (record { bytes = h.bytes; small = h.small }) in record { bytes = r.bytes; small = r.small };
-}
+recoded c d x y k = search arith
 
 -- code that is as long, whatever else it grew by
 grows_by : (c d : Context) → d.code.pieces ≡ c.code.pieces → d.code.labels ≡ c.code.labels → d.running.cases ≡ c.running.cases → d.running.otherwise ≡ c.running.otherwise → More c.scopes d.scopes → Kept c d → Grows c d
@@ -106,9 +82,7 @@ grows_by c d e l same same2 m k = record {
 -- other scopes and tags, formats and calls, and other code that is as long
 grows_other : (n : names.Context) (formats : List (List ℕ)) (calls : List (ℕ × ℕ)) (code : Code) (c : Context) → code.pieces ≡ c.code.pieces → code.labels ≡ c.code.labels → More c.scopes n.scopes
     → Grows c (record c { scopes = n.scopes; tags = n.tags; running = record c.running { formats = formats }; calls = calls; code = code })
-grows_other n formats calls code c e l m =
-    grows_by c (record c { scopes = n.scopes; tags = n.tags; running = record c.running { formats = formats }; calls = calls; code = code }) e l refl refl m
-    (record { variables = refl; functions = refl; params = refl; walked = refl; length = refl; answer = refl; mems = refl; declared = refl; addressed = refl; literals = λ i w e. e; counted = λ (h : Counted c). record { bytes = h.bytes; small = h.small } })
+grows_other n formats calls code c e l m = search (arith, grows_by)
 
 pub grows_refl : (c : Context) → Grows c c
 grows_refl c = grows_other (asked c) c.running.formats c.calls c.code c refl refl (more_refl c.scopes)
@@ -180,11 +154,7 @@ no_tag : (tag type : PlainType) (i : ℕ) → n.Tag tag ≡ n.Object type i → 
 no_tag tag type i e = cc
 
 pub more_objects : (f g : Table) → MoreTags f g → ObjectsStay f g
-more_objects f g m name type i e =
-    ⊎_elim
-    (λ (q : named_in name g ≡ named_in name f). sym q ∙ e)
-    (λ (q : IsNewTag name f g). absurd (no_tag q.1 type i (some_same (n.Tag q.1) (n.Object type i) (sym q.4 ∙ e))))
-    (m name)
+more_objects f g m name type i e = search (arith, no_tag, some_same)
 
 pub grows_settled : (c d : Context) → Grows c d → Settled c d
 grows_settled c d g = record { variables = g.kept.variables; literals = g.kept.literals; objects = more_objects c.scopes.file d.scopes.file g.names.file }
@@ -198,23 +168,14 @@ no_object_is : (v : PlainNamed) (type : PlainType) (i : ℕ) → IsNoObject v �
 no_object_is v type i h e = subst IsNoObject e h
 
 pub push_objects : (key : List ℕ) (v : PlainNamed) (t : Table) → IsNoObject v → ObjectsStay t (t ++ (key, v) ∷ [])
-push_objects key v t h name type i e =
-    ⊎_elim (λ (q : named_in name t ≡ Some (n.Object type i)). q) (λ (q : Pushed name key v (n.Object type i) t). absurd (no_object_is v type i h q.value)) (push_get name key v (n.Object type i) t e)
+push_objects key v t h name type i e = search (arith, no_object_is, push_get)
 
 -- no object, or inside a scope of its own
 pub with_name_objects : (s : ScopeList) (key : List ℕ) (v : PlainNamed) → IsNoObject v → ObjectsStay s.file (with_name s key v).file
-with_name_objects s key v h = by s.inner
-  where
-    by : (inner : List Table) → ObjectsStay s.file (with_name_in s.file inner key v).file
-    by [] = push_objects key v s.file h
-    by (t ∷ ts) = λ name type i e. e
+with_name_objects s key v h = grind (arith, push_objects)
 
 pub inner_objects : (s : ScopeList) (key : List ℕ) (v : PlainNamed) → 1 ≤ length s.inner → ObjectsStay s.file (with_name s key v).file
-inner_objects s key v h = by s.inner h
-  where
-    by : (inner : List Table) → 1 ≤ length inner → ObjectsStay s.file (with_name_in s.file inner key v).file
-    by [] k = absurd (omega (arith, k))
-    by (t ∷ ts) k = λ name type i e. e
+inner_objects s key v h = grind arith
 
 pub declared_objects : (s : ScopeList) (key : List ℕ) (v : PlainNamed) → ObjectsStay s.file (with_name s key v).file → ObjectsStay s.file (after_declaration s key v).file
 declared_objects s key v h = either_way (λ (x : ScopeList). ObjectsStay s.file x.file) (is_some (named_in key (innermost s))) (λ name type i e. e) h
@@ -315,11 +276,7 @@ type_cast_unused type tree x z h = either_way (λ y0. y0 ≡ Ok z → types.unus
 
 -- a string that is no larger than an object
 pub behind_string : {A : Type 0} (line : ℕ) (bytes : List ℕ) (r : Checked A) (z : A) → then (string line bytes) (λ literal. r) ≡ Ok z → r ≡ Ok z
-behind_string line bytes r z h = by (string line bytes) h
-  where
-    by : (s : Checked PlainTyped) → then s (λ literal. r) ≡ Ok z → r ≡ Ok z
-    by (Ok literal) h = h
-    by (Err refusal) h = never (r ≡ Ok z) refusal z h
+behind_string line bytes r z h = grind arith
 
 -- what changes beside the code of an expression: formats, calls and literals
 
@@ -352,40 +309,14 @@ grows_free line a c = record {
 -- literals
 
 more_bytes : (literals : List (List ℕ)) (bytes : List ℕ) → literal_bytes (literals ++ bytes ∷ []) ≡ literal_bytes literals + block_size (length bytes + 1)
-more_bytes literals bytes = sum_by-append (λ (x : List ℕ). block_size (length x + 1)) literals (bytes ∷ []) ∙ ap (λ k. literal_bytes literals + k) (zero_first (block_size (length bytes + 1)))
-  where
-    zero_first : (k : ℕ) → 0 + k ≡ k
-    zero_first k = omega arith
+more_bytes literals bytes = grind (arith, sum_by-append)
 
 with_one_literal : (c : Context) (bytes : List ℕ) → c.static_bytes + block_size (length bytes + 1) ≤ 67108864
     → Grows c (record c { static_bytes = c.static_bytes + block_size (length bytes + 1); literals = c.literals ++ bytes ∷ [] })
-with_one_literal c bytes small =
-    grows_by c (record c { static_bytes = c.static_bytes + block_size (length bytes + 1); literals = c.literals ++ bytes ∷ [] }) refl refl refl refl (more_refl c.scopes)
-    (record {
-      variables = refl;
-      functions = refl;
-      params = refl;
-      walked = refl;
-      length = refl;
-      answer = refl;
-      mems = refl;
-      declared = refl;
-      addressed = refl;
-      literals = λ i w e. get_left c.literals (bytes ∷ []) i w e;
-      counted = λ (h : Counted c). record { bytes = omega (arith, h.bytes, more_bytes c.literals bytes); small = small };
-    })
+with_one_literal c bytes small = search (arith, grows_by, more_refl, get_left, more_bytes)
 
 pub grown_literal : (line : ℕ) (bytes : List ℕ) (b c : Context) → Grows b c → Grown b (with_literal line bytes c)
-grown_literal line bytes b c g = by (nat_lt 67108864 (c.static_bytes + block_size (length bytes + 1))) refl
-  where
-    large : ℕ
-    large = c.static_bytes + block_size (length bytes + 1)
-
-    by : (t : Bool) → nat_lt 67108864 (c.static_bytes + block_size (length bytes + 1)) ≡ t
-        → Grown b (then (unless t StaticTooLarge line (good (record c { static_bytes = c.static_bytes + block_size (length bytes + 1) }))) (λ d. good (record d { literals = d.literals ++ bytes ∷ [] }, literal_object (length c.literals))))
-    by true e d f = never (Grows b d.0) _ d f
-    by false e d f =
-        subst (λ (x : Context × ℕ). Grows b x.0) (ok_same _ d f) (grows_trans b c _ g (with_one_literal c bytes (ltb-false 67108864 (c.static_bytes + block_size (length bytes + 1)) e)))
+grown_literal line bytes b c g = grind (arith, true, false, ok_same, grows_trans, with_one_literal, ltb-false)
 
 -- code that goes one of two ways
 
@@ -565,15 +496,7 @@ pub grows_stays : (c d : Context) → Safe c.scopes → Grows c d → Stays c d
 grows_stays c d s g = record { safe = more_safe c.scopes d.scopes g.names s; depth = more_depth c.scopes d.scopes g.names; tied = tied_same c.functions d.functions c.scopes.file d.scopes.file c.walked d.walked g.kept.functions g.kept.walked (more_keeps c.scopes d.scopes g.names); walked = g.kept.walked; length = g.kept.length; params = λ h. subst SafeTable (sym g.kept.params) h; counted = g.kept.counted; inside = λ h. grows_settled c d g }
 
 pub grows_passes : (c d : Context) → Safe c.scopes → Grows c d → Passes c d
-grows_passes c d s g = record {
-  pieces = g.pieces;
-  code = g.code;
-  more = g.more;
-  fragment = g.fragment;
-  cases = g.cases;
-  otherwise = g.otherwise;
-  stays = grows_stays c d s g;
-}
+grows_passes c d s g = search (arith, grows_stays)
 
 -- other facts of which the code is as it was
 pub passes_beside : (c d : Context) → d.code ≡ c.code → d.running.cases ≡ c.running.cases → d.running.otherwise ≡ c.running.otherwise → Stays c d → Passes c d
@@ -645,7 +568,4 @@ grows_closed e b c s g =
 
 -- one that is not closed
 pub opened_stays : (e : Tree) (c d : Context) → Safe c.scopes → Grows (opened e c) d → Stays c d
-opened_stays e c d s =
-    either_way (λ x. Grows x d → Stays c d) (reallocates c.scopes e)
-    (λ g. record { safe = more_safe c.scopes d.scopes g.names s; depth = more_depth c.scopes d.scopes g.names; tied = tied_same c.functions d.functions c.scopes.file d.scopes.file c.walked d.walked g.kept.functions g.kept.walked (more_keeps c.scopes d.scopes g.names); walked = g.kept.walked; length = g.kept.length; params = λ k. subst SafeTable (sym g.kept.params) k; counted = λ (h : Counted c). g.kept.counted (record { bytes = h.bytes; small = h.small }); inside = λ h. let k = grows_settled _ d g in record { variables = k.variables; literals = k.literals; objects = k.objects } })
-    (λ g. record { safe = more_safe c.scopes d.scopes g.names s; depth = more_depth c.scopes d.scopes g.names; tied = tied_same c.functions d.functions c.scopes.file d.scopes.file c.walked d.walked g.kept.functions g.kept.walked (more_keeps c.scopes d.scopes g.names); walked = g.kept.walked; length = g.kept.length; params = λ k. subst SafeTable (sym g.kept.params) k; counted = λ (h : Counted c). g.kept.counted (record { bytes = h.bytes; small = h.small }); inside = λ h. let k = grows_settled _ d g in record { variables = k.variables; literals = k.literals; objects = k.objects } })
+opened_stays e c d s = search (arith, either_way, more_safe, more_depth, tied_same, more_keeps, grows_settled)

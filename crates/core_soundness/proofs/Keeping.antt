@@ -52,8 +52,7 @@ cast_shows : (P : Type 0) (type : PlainType) (tree : Tree) (x : Found) → Shows
 cast_shows P type tree x h d q = shows_first P x _ h d (type_cast_unused type tree x d q)
 
 two_shows : (P Q : Type 0) (x : Found) (y : Context → Found) (rule : TagTable → PlainTyped → PlainTyped → Checked PlainTyped) → Shows P x → ((c : Context) → Shows Q (y c)) → Shows (P × Q) (two x y rule)
-two_shows P Q x y rule g h =
-    shows_both P Q x (λ d. then (y d.0) (λ e. answered e.0 (rule e.0.tags d.1 e.1))) g (λ d q. shows_first Q (y d.0) (λ e. answered e.0 (rule e.0.tags d.1 e.1)) (h d.0))
+two_shows P Q x y rule g h = search (arith, shows_both, shows_first)
 
 -- nodes of parts that are calm
 
@@ -312,34 +311,25 @@ calm_spoken e t c h i w x = still_spoken e c.scopes t c.running.addressed h.1 i 
 -- full expressions
 
 pub unused_calm : (e : Tree) (wish : PlainType) (c : TextContext) (d : TextContext × conversions.Found) → Formed e → unused_value e (expressions.found e wish c) ≡ Ok d → Calm e
-unused_calm e wish c d g q =
-    let x = came (expressions.found e wish c) q in found_calm e wish c x.value g x.is
+unused_calm e wish c d g q = search (arith, came, found_calm)
 
 pub valued_calm : (e : Tree) (wish : PlainType) (c : TextContext) (d : TextContext × conversions.Found) → Formed e → valued e (expressions.found e wish c) ≡ Ok d → Calm e
 valued_calm e wish c d g q = unused_calm e wish c d g (valued_unused e (expressions.found e wish c) d q)
 
 pub evaluated_calm : (e : Tree) (c z : TextContext) → Formed e → evaluated e c ≡ Ok z → Calm e
-evaluated_calm e c z g q =
-    let d = came (unused_value e (expressions.found e Void (opened e c))) q in unused_calm e Void (opened e c) d.value g d.is
+evaluated_calm e c z g q = search (arith, came, unused_calm)
 
 pub condition_calm : (e : Tree) (c : TextContext) (z : TextContext × Atom) → Formed e → condition e c ≡ Ok z → Calm e
-condition_calm e c z g q =
-    let d = came (valued e (expressions.found e Void (opened e c))) q in
-    valued_calm e Void (opened e c) d.value g d.is
+condition_calm e c z g q = search (arith, came, valued_calm)
 
 pub leaves_calm : (line label : ℕ) (e : Tree) (c z : TextContext) → Formed e → leaves_if_zero line label e c ≡ Ok z → Calm e
-leaves_calm line label e c z g q =
-    let d = came (condition e c) q in condition_calm e c d.value g d.is
+leaves_calm line label e c z g q = search (arith, came, condition_calm)
 
 pub operand_calm : (line : ℕ) (e : Tree) (c : TextContext) (z : TextContext × (IntType × Atom)) → Formed e → switch_operand line e c ≡ Ok z → Calm e
-operand_calm line e c z g q =
-    let d = came (valued e (expressions.found e Void (opened e c))) q in
-    valued_calm e Void (opened e c) d.value g d.is
+operand_calm line e c z g q = search (arith, came, valued_calm)
 
 pub returned_calm : (line delays : ℕ) (e : Tree) (type : PlainType) (c z : TextContext) → Formed e → return_of line delays e type c ≡ Ok z → Calm e
-returned_calm line delays e type c z g q =
-    let d = came (valued e (expressions.found e type (opened e c))) q in
-    valued_calm e type (opened e c) d.value g d.is
+returned_calm line delays e type c z g q = search (arith, came, valued_calm)
 
 pub evaluated_spoken : (e : Tree) (t : Taken) (c z : TextContext) → Follows t c → Inside (taken e t).addressed c.running.addressed → Written e → Formed e → evaluated e c ≡ Ok z → Spoken c.scopes e
 evaluated_spoken e t c z h i w g q = calm_spoken e t c h i w (evaluated_calm e c z g q)

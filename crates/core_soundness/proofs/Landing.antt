@@ -56,11 +56,9 @@ built_in_at w line None e h = never _ _ e h
 built_in_at w line (Some name) e h = built_in_stands w line name (constant_of name) e h
 
 name_stands : (w : World) (file : Table) (inner : Bool) (line : ℕ) (v : PlainNamed) (e : PlainTyped) → ((inner ≡ true) × InnerFits w v) ⊎ ((inner ≡ false) × FileFits w v) → named line (Some v) ≡ Ok e → Stands w (name_found e inner (Some v))
-name_stands w file inner line (n.Register type k) e (inl f) h =
-    subst (λ (x : PlainTyped). Stands w (name_found x inner (Some (n.Register type k)))) (ok_same (place type) e h) (f.1.0, scalar_held w type k f.1.0 f.1.1)
+name_stands w file inner line (n.Register type k) e (inl f) h = search (arith, ok_same, scalar_held)
 name_stands w file inner line (n.Register type k) e (inr f) h = absurd f.1
-name_stands w file inner line (n.Object type k) e (inl f) h =
-    subst (λ (x : PlainTyped). Stands w (name_found x inner (Some (n.Object type k)))) (ok_same (place type) e h) (subst (λ (x : Bool). Stands w (object_found (place type) x k)) (sym f.0) (refl, f.1))
+name_stands w file inner line (n.Object type k) e (inl f) h = search (arith, ok_same)
 name_stands w file inner line (n.Object type k) e (inr f) h =
     subst (λ (x : PlainTyped). Stands w (name_found x inner (Some (n.Object type k)))) (ok_same (place type) e h) (subst (λ (x : Bool). Stands w (object_found (place type) x k)) (sym f.0) (refl, is_variable k refl f.1))
 name_stands w file inner line (n.BuiltIn index) e f h = built_in_at w line (slice_get built_ins index) e h
@@ -89,9 +87,7 @@ constant_lands c e z h = subst (Lands c) (ok_same (c, constant_found (constant e
 -- literals
 
 more_statics : (c : Context) (bytes : List ℕ) (k : ℕ) → Goes c (record c { static_bytes = k; literals = c.literals ++ bytes ∷ [] })
-more_statics c bytes k =
-    let grew : Grew (world c) (world (record c { static_bytes = k; literals = c.literals ++ bytes ∷ [] })) = record { locals = λ j r e. e; mems = omega arith; integers = omega arith; pointers = omega arith; variables = omega arith; literals = omega (arith, length-append c.literals (bytes ∷ [])); formats = λ j f e. e; calls = λ j y e. e; file = λ name t i e. e } in
-    record { grew = grew; more = more_refl c.scopes; kept = record { line = refl; answer = refl; addressed = refl; declared = refl; params = refl; walked = refl }; fits = λ answer h. pieces_grew answer (world c) (world (record c { static_bytes = k; literals = c.literals ++ bytes ∷ [] })) c.code.pieces grew h }
+more_statics c bytes k = search (arith, length-append, more_refl, pieces_grew)
 
 pub record Literal (c : Context) (d : Context × ℕ) : Type 0 where
   pub goes : Goes c d.0
@@ -198,15 +194,7 @@ address_held w type (Memory a) e q n h = subst (λ (x : Spot). Holds w Pointer (
 address_held w type other e q n h = absurd h
 
 pub address_lands : (line : ℕ) (c : Context) (e : Found) (z : Context × Found) → InMemory e → Stands (world c) e → address_answer line c e ≡ Ok z → Lands c z
-address_lands line c e z m h q =
-    let t = came (address line e.typed) q in
-    let r = by e.typed.is_place t.value t.is in
-    let there : Holds (world c) Pointer (atom_in e) = address_held (world c) e.typed.type e.spot e refl m (subst (λ (x : Bool). StandsAs (world c) x e.typed.type e.spot) r.0 h) in
-    subst (Lands c) (ap (λ (x : PlainTyped). (c, found_as x (Value (atom_in e)) e.fixed)) r.1 ∙ ok_same _ z t.last) (record { goes = goes_refl c; stands = there; apart = tt })
-  where
-    by : (k : Bool) (typed : PlainTyped) → cond k (good (value (types.Pointer e.typed.type))) (refused NotLvalue line) ≡ Ok typed → (k ≡ true) × (value (types.Pointer e.typed.type) ≡ typed)
-    by true typed x = (refl, ok_same (value (types.Pointer e.typed.type)) typed x)
-    by false typed x = never _ _ typed x
+address_lands line c e z m h q = grind (arith, came, address_held, ok_same, goes_refl, true, false)
 
 -- operators
 
@@ -238,9 +226,7 @@ pointer_scalar other ty e = cc
 -- `+`, `-` and `~`
 calculated_lands : (line : ℕ) (op : UnaryOp) (typed : PlainTyped) (o : Operand) (c : Context) (e : Found) (z : Context × Found) (s : IntType) → 1 ≤ line → HeldAs (world c) o (atom_in e) → (ty : IntType) → o ≡ Number s → typed.is_place ≡ false → typed.type ≡ types.Int ty
     → good (before_number line op typed o c e) ≡ Ok z → Lands c z
-calculated_lands line op typed (Number t) c e z s l h ty q p r k =
-    let m = made_comes c typed Unknown _ z (integer_made c ty typed _ p r (before_gives line op t (atom_in e) c l h)) k in
-    comes_lands c z m
+calculated_lands line op typed (Number t) c e z s l h ty q p r k = search (arith, made_comes, integer_made, before_gives, comes_lands)
 calculated_lands line op typed other c e z s l h ty q p r k = cc
 
 IsNumberType : PlainTyped → Type 0
@@ -371,10 +357,7 @@ both_true true false e = cc
 both_true false y e = cc
 
 pub logical_typed : (line : ℕ) (folded : _) (x y typed : PlainTyped) → logical line folded x y ≡ Ok typed → Logical x y typed
-logical_typed line folded x y typed e =
-    let s = both_true (is_scalar x.type) (is_scalar y.type) (kept_test _ _ line _ typed e) in
-    let t = passed _ _ line _ typed e in
-    record { left = s.0; right = s.1; flag = sym (ap (λ (p : PlainTyped). p.is_place) t); type = sym (ap (λ (p : PlainTyped). p.type) t) }
+logical_typed line folded x y typed e = search (arith, both_true, kept_test, passed)
 
 pub and_then_goes : (line : ℕ) (tree : Tree) (d : Context × Found) → 1 ≤ line → 1 ≤ code_line tree → is_scalar d.1.typed.type ≡ true → HasValue (world d.0) d.1 → Goes d.0 (and_then line tree d)
 and_then_goes line tree d l l2 s h =
@@ -447,13 +430,7 @@ record Sides (s t : Operand) (typed : PlainTyped) : Type 0 where
   void : operand typed.type ≡ Neither → is_void typed.type ≡ true
 
 side_pointer : (type target : PlainType) (s t : Operand) (typed : PlainTyped) → operand type ≡ PointerTo target → Converting (PointerTo target) s → Converting (PointerTo target) t → value type ≡ typed → Sides s t typed
-side_pointer type target s t typed o h k e =
-    subst (Sides s t) e (record {
-      flag = refl;
-      first = subst (λ (p : Operand). Converting p s) (sym o) h;
-      last = subst (λ (p : Operand). Converting p t) (sym o) k;
-      void = λ q. let clash : PointerTo target ≡ Neither = sym o ∙ q in cc;
-    })
+side_pointer type target s t typed o h k e = search arith
 
 pointer_chosen : (line : ℕ) (x y typed : PlainTyped) (s t : PlainType) → operand x.type ≡ PointerTo s → operand y.type ≡ PointerTo t → chosen_pointer line x y s t ≡ Ok typed → Sides (PointerTo s) (PointerTo t) typed
 pointer_chosen line x y typed s t o m e = one (same s t || y.is_null) e
@@ -479,14 +456,7 @@ void_operand types.Void e = refl
 void_operand other e = cc
 
 void_chosen : (line : ℕ) (x y typed : PlainTyped) (s t : Operand) → cond (is_void x.type && is_void y.type) (good (value x.type)) (refused Operands line) ≡ Ok typed → Sides s t typed
-void_chosen line x y typed s t e = by (is_void x.type) (is_void y.type) refl e
-  where
-    by : (j k : Bool) → is_void x.type ≡ j → cond (j && k) (good (value x.type)) (refused Operands line) ≡ Ok typed → Sides s t typed
-    by true true v q =
-        let o = void_operand x.type v in
-        subst (Sides s t) (ok_same (value x.type) typed q) (record { flag = refl; first = subst (λ (p : Operand). Converting p s) (sym o) tt; last = subst (λ (p : Operand). Converting p t) (sym o) tt; void = λ z. v })
-    by true false v q = never _ _ typed q
-    by false k v q = never _ _ typed q
+void_chosen line x y typed s t e = grind (arith, true, void_operand, ok_same, false)
 
 sides : (line : ℕ) (test : _) (x y typed : PlainTyped) (s t : Operand) → operand x.type ≡ s → operand y.type ≡ t → choice_types line test x y s t ≡ Ok typed → Sides s t typed
 sides line test x y typed (Number s) (Number t) o m e = subst (Sides (Number s) (Number t)) (ok_same _ typed e) (record { flag = refl; first = tt; last = tt; void = λ q. cc })
@@ -541,16 +511,7 @@ first_null line other before (types.Pointer target) d e = cc
 first_null line other before others d e = refl
 
 choice_stands : (w : World) (typed : PlainTyped) (a : Atom) → typed.is_place ≡ false → HeldAs w (operand typed.type) a → Stands w (choice_found typed a)
-choice_stands w typed a p h = by typed.type p h
-  where
-    by : (type : PlainType) → typed.is_place ≡ false → HeldAs w (operand type) a → StandsAs w typed.is_place type (choice_spot type a)
-    by types.Void p h = subst (λ (x : Bool). StandsAs w x types.Void Empty) (sym p) refl
-    by (types.Int ty) p h = subst (λ (x : Bool). StandsAs w x (types.Int ty) (Value a)) (sym p) h
-    by (types.Pointer target) p h = subst (λ (x : Bool). StandsAs w x (types.Pointer target) (Value a)) (sym p) h
-    by (types.Array element length) p h = subst (λ (x : Bool). StandsAs w x (types.Array element length) (Value a)) (sym p) tt
-    by (types.Struct tag) p h = subst (λ (x : Bool). StandsAs w x (types.Struct tag) (Value a)) (sym p) tt
-    by (types.Union tag) p h = subst (λ (x : Bool). StandsAs w x (types.Union tag) (Value a)) (sym p) tt
-    by (types.Function answer params) p h = subst (λ (x : Bool). StandsAs w x (types.Function answer params) (Value a)) (sym p) tt
+choice_stands w typed a p h = grind (arith, false)
 
 choice_apart : (type : PlainType) (a : Atom) → Apart (choice_spot type a)
 choice_apart types.Void a = tt

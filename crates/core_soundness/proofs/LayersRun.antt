@@ -48,11 +48,7 @@ told_aside told_of c m = record { code = refl; running = refl; variables = refl;
 -- names of the innermost scope
 
 pub with_name_outside : (s : ScopeList) (name : List ℕ) (v : PlainNamed) → MoreAll (scopes.tail s.inner) (scopes.tail (with_name s name v).inner)
-with_name_outside s name v = by s.inner
-  where
-    by : (inner : List Table) → MoreAll (scopes.tail inner) (scopes.tail (scopes.with_name_in s.file inner name v).inner)
-    by [] = tt
-    by (t ∷ ts) = all_refl ts
+with_name_outside s name v = grind (arith, all_refl)
 
 file_stays : (file : Table) (inner : List Table) (name : List ℕ) (v : PlainNamed) → 1 ≤ length inner → MoreTags file (scopes.with_name_in file inner name v).file
 file_stays file [] name v deep = absurd (omega (arith, deep))
@@ -82,11 +78,7 @@ own_params c deep = ap (λ (k : ℕ). nat_lt 1 k) deep
 
 -- a list inside another scope is that of a prototype
 with_param_aside : (name : Option (List ℕ)) (type : PlainType) (c : Context) → 2 ≤ length c.scopes.inner → Aside c (with_param name type c)
-with_param_aside name type c deep = by (is_prototype c.scopes) refl
-  where
-    by : (t : Bool) → is_prototype c.scopes ≡ t → Aside c (counted (cond t (prototype_param name type c) (function_param name type c)))
-    by true e = counted_aside c _ (named_aside name (n.Object type 0) c (omega (arith, deep)))
-    by false e = absurd (omega (arith, deep, ltb-false 1 (length c.scopes.inner) e))
+with_param_aside name type c deep = grind (arith, true, counted_aside, named_aside, false, ltb-false)
 
 -- a list of parameters in a scope of its own
 pub left_aside : (c x : Context) → Aside (entered c) x → Aside c (left_params x)
@@ -151,19 +143,7 @@ names_kept : (c : Context) (s : ScopeList) → TableKept c.scopes.file s.file �
 names_kept c s keep h = names_more (world c) (world (record c { scopes = s })) s s (renamed c s keep) (more_refl s) h
 
 pub rescoped : (answer : Option Sort) (c : Context) (s : ScopeList) → TableKept c.scopes.file s.file → length s.inner ≡ length c.scopes.inner → MoreAll (scopes.tail c.scopes.inner) (scopes.tail s.inner) → NamesFit (world c) s → Fine c → Runs answer c (record c { scopes = s })
-rescoped answer c s keep deep out h f =
-    let grew = renamed c s keep in
-    record {
-      grew = grew;
-      fine = record { names = names_kept c s keep h; lined = f.lined };
-      fits = λ k. pieces_grew answer (world c) (world (record c { scopes = s })) c.code.pieces grew k;
-      answer = refl;
-      addressed = refl;
-      outside = out;
-      depth = deep;
-      params = λ flat k. table_grew (world c) (world (record c { scopes = s })) c.params grew k;
-      walked = refl;
-    }
+rescoped answer c s keep deep out h f = search (arith, renamed, names_kept, pieces_grew, table_grew)
 
 -- what a part inside a scope leaves as it was
 aside_grew : (c d : Context) → Aside c d → Grew (world c) (world d)

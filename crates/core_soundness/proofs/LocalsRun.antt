@@ -100,9 +100,7 @@ scalar_fits e line type offset t c z s n h q =
     fill_scalar_fits e line type offset c d.value t z (evaluates e type c d.value s n d.is) k.0 h k.1
 
 record_held : (v : World) (type : PlainType) (e : Found) → is_same_place type e.typed ≡ true → Stands v e → Holds v Pointer (atom_in e)
-record_held v type e test h =
-    let three = three_parts e.typed.is_place (is_record type) (same type e.typed.type) test in
-    in_memory v e.typed.type e.spot e refl (same_record type e.typed.type three.1 three.2) (subst (λ (x : Bool). StandsAs v x e.typed.type e.spot) three.0 h)
+record_held v type e test h = search (arith, three_parts, in_memory, same_record)
 
 fill_record_fits : (e : Tree) (line : ℕ) (type : PlainType) (offset : ℕ) (c : Context) (d : Context × Found) (t : Target) (z : Context × Target) → Goes c d.0 → 1 ≤ code_line e → Holds (world d.0) Pointer (atom_in d.1) → TargetFits (world c) type t → fill_record e line type offset d t ≡ Ok z → Fills c t z
 fill_record_fits e line type offset c d (InMemory at mem) z g l held h q =

@@ -87,10 +87,7 @@ externals_weighed (tree ▹ rest) scope a =
 
 pub unit_weighed : (tokens : List Token) (unit : Trees) → HasTree tokens unit → weights unit ≤ 6 * length tokens
 unfolding spell shape
-unit_weighed tokens unit h =
-    let one = externals_weighed unit first_scope h.allowed in
-    let two : told (filled (rows p.External (count unit)) (spell_all unit)) ≤ length tokens = spelled_told (spell (Node f.Unit unit)) tokens [] h.spelled in
-    omega (arith, one, two)
+unit_weighed tokens unit h = search (arith, externals_weighed, spelled_told)
 
 -- how much a part of a text makes: registers, memory locals, formats and temporaries, all with short names
 
@@ -263,14 +260,10 @@ write_near line type spot a c = write_keeps Near near_writes line type spot a c
 -- literals
 
 pub static_near : (line size : ℕ) (c : Context) → Led (Near 0 c) (with_static line size c)
-static_near line size c =
-    let d : Context = record c { static_bytes = c.static_bytes + block_size size } in
-    led_unless (Near 0 c) (nat_lt 67108864 (c.static_bytes + block_size size)) StaticTooLarge line (λ x. led_ok (Near 0 c) (near_refl c))
+static_near line size c = search (arith, led_unless, led_ok, near_refl)
 
 pub literal_near : (line : ℕ) (bytes : List ℕ) (c : Context) → Reached (Near 0 c) (with_literal line bytes c)
-literal_near line bytes c z q =
-    let d = came (with_static line (length bytes + 1) c) q in
-    reached_ok (Near 0 c) (static_near line (length bytes + 1) c d.value d.is) z d.last
+literal_near line bytes c z q = search (arith, came, reached_ok, static_near)
 
 near_walk : Walks Near
 near_walk = record { writes = near_writes; tells = λ t c m. near_refl c; literals = literal_near }
@@ -283,9 +276,7 @@ found_near tree wish c = found_keeps Near near_walk tree wish c
 -- names
 
 pub declared_near : (line : ℕ) (name : List ℕ) (v : PlainNamed) (c : Context) → Led (Near 0 c) (declared_as line name v c)
-declared_near line name v c =
-    let z : Context = record c { scopes = after_declaration c.scopes name v } in
-    led_unless (Near 0 c) (is_twice c.scopes name v) DeclaredTwice line (λ t. led_ok (Near 0 c) (near_refl c))
+declared_near line name v c = search (arith, led_unless, led_ok, near_refl)
 
 pub named_near : (name : Option (List ℕ)) (v : PlainNamed) (c : Context) → Near 0 c (with_named name v c)
 named_near None v c = near_refl c
@@ -302,8 +293,7 @@ memory_param_near name type c h =
     near_on 1 1 2 (omega arith) one (near_on 1 0 1 (omega arith) two three)
 
 register_param_near : (name : Option (List ℕ)) (type : PlainType) (c : Context) → IfSome name IsShort → Near 2 c (register_param name type c)
-register_param_near name type c h =
-    near_on 1 0 2 (omega arith) (near_register name type c h) (named_near name (n.Register type (length c.running.locals)) (with_register name type c))
+register_param_near name type c h = search (arith, near_on, near_register, named_near)
 
 with_param_near : (name : Option (List ℕ)) (type : PlainType) (c : Context) → IfSome name IsShort → Near 2 c (with_param name type c)
 with_param_near name type c h = by (is_prototype c.scopes)

@@ -71,9 +71,7 @@ fill_scalar_near e line type offset (InStatic start) c d q =
     (λ filled s. reached_ok (Near (weight e + 3) c) (near_on 0 (weight e + 1) (weight e + 3) (omega arith) (opened_near e c) (full_near e type c d q)))
 
 scalar_near : (e : Tree) (line : ℕ) (type : PlainType) (offset : ℕ) (target : Target) (c : Context) → Reached (Near (weight e + 3) c) (scalar e line type offset target c)
-scalar_near e line type offset target c =
-    reached_after (Near (weight e + 3) c) (valued e (found e type (opened e c)))
-    (λ d q. reached_barred (Near (weight e + 3) c) (unconverted type d.1.typed) line (fill_scalar_near e line type offset target c d q))
+scalar_near e line type offset target c = search (arith, reached_after, weight, reached_barred, fill_scalar_near)
 
 fill_record_near : (k : ℕ) (e : Tree) (line : ℕ) (type : PlainType) (offset : ℕ) (c : Context) (d : Context × Found) (target : Target) → Near k c d.0 → Reached (Near (k + 3) c) (fill_record e line type offset d target)
 fill_record_near k e line type offset c d (InMemory at mem) g =
@@ -163,11 +161,7 @@ fill_at_near line type inits (Memory mem) c = fill_memory_near line type inits m
 fill_at_near line type inits other c = led_ok (Near (starting inits) c) (near_most 0 (starting inits) (omega arith) (near_refl c))
 
 with_local_near : (name : List ℕ) (type : PlainType) (c : Context) → IsShort name → Near 1 c (with_local name type c).0
-with_local_near name type c h = by (next_is_memory type c)
-  where
-    by : (t : Bool) → Near 1 c (local_in t name type c).0
-    by true = near_on 1 0 1 (omega arith) (near_memory name type c h) (named_near (Some name) (n.Object type (length c.running.mems)) (with_memory name type c))
-    by false = near_on 1 0 1 (omega arith) (near_register (Some name) type c h) (named_near (Some name) (n.Register type (length c.running.locals)) (with_register (Some name) type c))
+with_local_near name type c h = grind (arith, true, near_on, near_memory, named_near, false, near_register)
 
 local_object_near : (line : ℕ) (name : List ℕ) (type : PlainType) (inits : Trees) (c : Context) → IsShort name → Led (Near (1 + starting inits) c) (local_object line name type inits c)
 local_object_near line name type inits c h =
@@ -190,10 +184,7 @@ function_near : (index : ℕ) (name : List ℕ) (c : Context) → Near 0 c (with
 function_near index name c = either_way (Near 0 c) (nat_lt index (length c.functions)) (near_refl c) (near_refl c)
 
 pub declared_function_near : (line : ℕ) (name : List ℕ) (type : PlainType) (c : Context) → Led (Near 0 c) (declared_function line name type c)
-declared_function_near line name type c =
-    let index = function_number name c in
-    led_after (Near 0 c) (declared_as line name (n.Function type index) c)
-    (λ d q. led_ok (Near 0 c) (near_on 0 0 0 (omega arith) (declared_near line name (n.Function type index) c d q) (function_near index name d)))
+declared_function_near line name type c = search (arith, led_after, led_ok, near_on, declared_near, function_near)
 
 no_initializer_near : (inits : Trees) (c : Context) → Led (Near 0 c) (no_initializer inits c)
 no_initializer_near none c = led_ok (Near 0 c) (near_refl c)
@@ -230,8 +221,7 @@ started_short index start None vs e h = h
 started_short index start (Some v) vs e h = set_short vs index (record v { start = Some start }) h (get_short vs index v e h)
 
 started_near : (index : ℕ) (d : Context × Target) → Near 0 d.0 (started index d)
-started_near index d =
-    variables_near (started_variable index (start_in d.1) (slice_get d.0.variables index) d.0.variables) d.0 (λ k. started_short index (start_in d.1) (slice_get d.0.variables index) d.0.variables refl k)
+started_near index d = search (arith, variables_near, started_short)
 
 fill_variable_near : (line index : ℕ) (type : PlainType) (inits : Trees) (c : Context) → Led (Near (starting inits) c) (fill_variable line index type inits c)
 fill_variable_near line index type none c = led_ok (Near 0 c) (near_refl c)
@@ -249,9 +239,7 @@ file_object_near line name type inits c h =
     (λ x s z u. near_on 0 (starting inits) (1 + starting inits) (omega arith) (near_on 0 0 0 (omega arith) (declared_near line name (n.Object type index) c d q) (variable_near line index name type d h x s)) (fill_variable_near line index type inits x z u))))
 
 file_function_near : (line : ℕ) (name : List ℕ) (type : PlainType) (inits : Trees) (c : Context) → Led (Near 0 c) (file_function line name type inits c)
-file_function_near line name type inits c =
-    led_after (Near 0 c) (declared_function line name type c)
-    (λ d q z s. near_on 0 0 0 (omega arith) (declared_function_near line name type c d q) (no_initializer_near inits d z s))
+file_function_near line name type inits c = search (arith, led_after, near_on, declared_function_near, no_initializer_near)
 
 file_value_near : (line : ℕ) (name : List ℕ) (type : PlainType) (inits : Trees) (c : Context) → IsShort name → Led (Near (1 + starting inits) c) (file_value line name type inits c)
 file_value_near line name type inits c h =
@@ -373,23 +361,14 @@ return_near line delays (e ▹ rest) c z q = near_most (weight e + 2) _ (omega a
 -- switches
 
 case_near : (line : ℕ) (a : Around) (ty : IntType) (place : ℕ) (v : ℤ) (label : ℕ) (c : Context) → Led (Near 0 c) (case_of line a ty place v label c)
-case_near line a ty place v label c =
-    let value = wrapped (kind_of ty) v in
-    led_unless (Near 0 c) (not a.labelled) LeftOut line
-    (λ x. led_unless (Near 0 c) (has_case value c) CaseTwice line (λ y. led_ok (Near 0 c) (near_refl c)))
+case_near line a ty place v label c = search (arith, led_unless, not, led_ok, near_refl)
 
 cased_near : (line : ℕ) (a : Around) (o : Option IntType) (place : ℕ) (v : ℤ) (label : ℕ) (c : Context) → Led (Near 0 c) (cased line a o place v label c)
 cased_near line a None place v label c = led_refused (Near 0 c)
 cased_near line a (Some ty) place v label c = case_near line a ty place v label c
 
 defaulted_near : (line : ℕ) (a : Around) (label : ℕ) (c : Context) → Led (Near 0 c) (defaulted line a label c)
-defaulted_near line a label c =
-    let d : Context = record c { running = record c.running { otherwise = Some label } } in
-    let r2 : Checked Context = unless (is_some c.running.otherwise) CaseTwice line (Ok d) in
-    let r1 : Checked Context = unless (not a.labelled) LeftOut line r2 in
-    led_unless (Near 0 c) (not (is_some a.switched)) StrayBreak line
-    (λ x. led_unless (Near 0 c) (not a.labelled) LeftOut line
-    (λ y. led_unless (Near 0 c) (is_some c.running.otherwise) CaseTwice line (λ z. led_ok (Near 0 c) (near_refl c))))
+defaulted_near line a label c = search (arith, not, led_unless, led_ok, near_refl)
 
 operand_of_near : (k line : ℕ) (e : Tree) (o : Operand) (c : Context) (d : Context × Found) → Near k c d.0 → Reached (Near (k + 1) c) (switch_operand_of line e o d)
 operand_of_near k line e (Number ty) c d g =
@@ -552,16 +531,7 @@ small_on : (m n : ℕ) (c d : Context) → Small m (share c) → Near n c d → 
 small_on m n c d s g = record { made = omega (arith, s.made, g.made); temporaries = omega (arith, s.temporaries, g.temporaries s.tidy); tidy = g.tidy s.tidy; clear = g.clear s.clear }
 
 begun_small : (line : ℕ) (addressed : List ℕ) (c : Context) → Steady c → Small 0 (share (begun line addressed c))
-begun_small line addressed c h = record {
-  made = omega arith;
-  temporaries = omega arith;
-  tidy = record { integers = omega arith; pointers = omega arith };
-  clear = record {
-    named = record { locals = All-nil (λ (reg : Register). IfSome reg.name IsShort); mems = All-nil (λ (mem : Mem). IsShort mem.name); formats = All-nil IsShort };
-    variables = h.variables;
-    walked = h.walked;
-  };
-}
+begun_small line addressed c h = search (arith, temporaries)
 
 body_ended_steady : (k line : ℕ) (name : List ℕ) (type : PlainType) (end : ℕ) (c : Context) → Small k (share c) → k ≤ 1610612736 → IsShort name → Led Steady (body_ended line name type end c)
 body_ended_steady k line name type end c s small h =
@@ -654,8 +624,7 @@ statics_short c h =
     every ls = λ i l q. tt
 
 regs_length : (locals : List Register) (i p : ℕ) → length (locals ++ (replicate i temporary ++ replicate p pointer_register)) ≡ length locals + (i + p)
-regs_length locals i p =
-    omega (arith, length-append locals (replicate i temporary ++ replicate p pointer_register), length-append (replicate i temporary) (replicate p pointer_register), length-replicate i temporary, length-replicate p pointer_register)
+regs_length locals i p = search (arith, length-append, length-replicate)
 
 function_short : (c : Context) (w : Walked) → Sized w → IsShort (function_of c w).body → AreShort (function_of c w)
 function_short c w h b = record {

@@ -1,5 +1,5 @@
 -- The name `main`, which no suffix makes of another name or another name of it.
-use Rattle.std.proofs.Common.{◌≡◌, ◌==◌, ℕ, Bool, true, false, cond, List, [], ◌∷◌, ◌++◌, ◌⊎◌, inl, inr, refl, sym, ap, ◌∙◌, subst, eq-eqb}
+use Rattle.std.proofs.Common.{◌≡◌, ◌==◌, ℕ, Bool, true, false, cond, List, [], ◌∷◌, ◌++◌, ◌⊎◌, inl, inr, refl, sym, ap, ◌∙◌, subst, eq-eqb, arith}
 use Rattle.std.proofs.lemmas.Bool.{eqb-true}
 use Rattle.std.proofs.lemmas.List.{append-nil}
 use Rattle.std.specs.Prelude.{codes, IfSome}
@@ -49,11 +49,7 @@ not_main rest e = cc
 
 pub own_name : (name : List ℕ) → IsToken kind.Name name → IsOwn name
 unfolding IsCut
-own_name name token e = by (name_cut name)
-  where
-    by : IsCut name (plain_name name) → name ≡ codes "main"
-    by (inl h) = h ∙ e
-    by (inr h) = absurd (not_main h.0 (subst (IsToken kind.Name) (h.1 ∙ ap (λ (cut : List ℕ). cut ++ 46 ∷ h.0) e) token))
+own_name name token e = grind (arith, name_cut, not_main)
 
 -- a suffix keeps that
 
@@ -63,9 +59,7 @@ plain_suffix [] (b ∷ rest) h = ap (λ (t : Bool). cond t [] (b ∷ plain_name 
 plain_suffix (b ∷ name) suffix h = ap (λ (xs : List ℕ). cond (b == 46) [] (b ∷ xs)) (plain_suffix name suffix h)
 
 pub own_kept : (name new : List ℕ) → IsSuffixed name new → IsOwn name → IsOwn new
-own_kept name new s own e =
-    let is : name ≡ codes "main" = own (sym (plain_suffix name s.suffix s.dotted) ∙ ap plain_name (sym s.is) ∙ e) in
-    s.is ∙ ap (λ (suffix : List ℕ). name ++ suffix) (s.main is) ∙ append-nil name ∙ is
+own_kept name new s own e = search (arith, plain_suffix, append-nil)
 
 -- the names of functions that are defined
 

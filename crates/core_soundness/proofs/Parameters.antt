@@ -81,11 +81,7 @@ functions_reversed (x ∷ ls) =
 
 sorts_reversed : (a : List Layer) → functions a ≤ 1 → function_sorts (reverse a) ≡ function_sorts a
 sorts_reversed [] h = refl
-sorts_reversed (FunctionOf line params ∷ ls) h =
-    let none_left : functions ls ≡ 0 = omega (arith, h) in
-    ap function_sorts (reverse_one (FunctionOf line params) ls) ∙ sorts_joined (reverse ls) (FunctionOf line params ∷ [])
-    ∙ ap (λ (s : List Sort). s ++ (param_sorts params ++ [])) (sorts_none (reverse ls) (functions_reversed ls ∙ none_left))
-    ∙ ap (λ (s : List Sort). param_sorts params ++ s) (sym (sorts_none ls none_left))
+sorts_reversed (FunctionOf line params ∷ ls) h = search (arith, reverse_one, sorts_joined, sorts_none, functions_reversed)
 sorts_reversed (PointerTo line ∷ ls) h = ap function_sorts (reverse_one (PointerTo line) ls) ∙ sorts_joined (reverse ls) (PointerTo line ∷ []) ∙ append-nil (function_sorts (reverse ls)) ∙ sorts_reversed ls h
 sorts_reversed (ArrayOf line length ∷ ls) h = ap function_sorts (reverse_one (ArrayOf line length) ls) ∙ sorts_joined (reverse ls) (ArrayOf line length ∷ []) ∙ append-nil (function_sorts (reverse ls)) ∙ sorts_reversed ls h
 
@@ -111,32 +107,14 @@ counts_more : (x : Layer) (ls : List Layer) (ss ts : List Sort) → Counts (x �
 counts_more x ls ss ts a b = search (arith, nil_both, functions_one, nil_right, sorts_one, sorts_none, append-nil, nil_left, one_of)
 
 counts_behind : (ls ms : List Layer) (ss ts : List Sort) → Counts ls ss → Counts ms ts → Counts (reverse ms ++ ls) (ss ++ ts)
-counts_behind ls ms ss ts a b =
-    let total : functions (reverse ms ++ ls) ≡ functions ms + functions ls = functions_joined (reverse ms) ls ∙ ap (λ (k : ℕ). k + functions ls) (functions_reversed ms) in
-    record {
-      none = λ e. nil_both ss ts (a.none (omega (arith, e, total))) (b.none (omega (arith, e, total)));
-      one = λ e. ⊎_elim
-          (λ (h : (functions ms ≡ 1) × (functions ls ≡ 0)). nil_left ss ts _ (a.none h.1) (b.one h.0)
-          ∙ sym (sorts_joined (reverse ms) ls ∙ ap (λ (s : List Sort). function_sorts (reverse ms) ++ s) (sorts_none ls h.1) ∙ append-nil (function_sorts (reverse ms)) ∙ sorts_reversed ms (omega (arith, h.0))))
-          (λ (h : (functions ms ≡ 0) × (functions ls ≡ 1)). nil_right ss ts _ (a.one h.1) (b.none h.0)
-          ∙ sym (sorts_joined (reverse ms) ls ∙ ap (λ (s : List Sort). s ++ function_sorts ls) (sorts_none (reverse ms) (functions_reversed ms ∙ h.0))))
-          (one_of (functions ms) (functions ls) (sym total ∙ e));
-    }
+counts_behind ls ms ss ts a b = search (arith, functions_joined, functions_reversed, nil_both, nil_left, sorts_joined, sorts_none, append-nil, sorts_reversed, nil_right, one_of)
 
 -- types with layers
 
 pub not_function : (tags : TagTable) (ls : List Layer) (base type : PlainType) → with_layers tags ls base ≡ Ok type → is_function type ≡ false → functions ls ≡ 0
 not_function tags [] base type e h = refl
-not_function tags (FunctionOf line params ∷ []) base type e h =
-    let inner = came (layered tags (FunctionOf line params) base) e in
-    let made = passed _ _ line (Function base params) inner.value inner.is in
-    let same : Function base params ≡ type = made ∙ ok_same inner.value type inner.last in
-    let clash : true ≡ false = ap is_function same ∙ h in
-    cc
-not_function tags (FunctionOf line params ∷ next ∷ ls) base type e h =
-    let x = came (then (layered tags (FunctionOf line params) base) (λ type. bad {A = PlainType} (record { kind = LeftOut; line = line }))) e in
-    let y = came (layered tags (FunctionOf line params) base) x.is in
-    never _ _ x.value y.last
+not_function tags (FunctionOf line params ∷ []) base type e h = search (arith, came, passed, ok_same, true, false)
+not_function tags (FunctionOf line params ∷ next ∷ ls) base type e h = search (arith, came)
 not_function tags (PointerTo line ∷ ls) base type e h =
     let x = came (layered tags (PointerTo line) base) e in not_function tags ls x.value type x.last h
 not_function tags (ArrayOf line length ∷ ls) base type e h =
@@ -150,18 +128,8 @@ pub record MakesFunction (ls : List Layer) (answer : PlainType) (ps : PlainTypes
 
 pub makes_function : (tags : TagTable) (ls : List Layer) (base answer : PlainType) (ps : PlainTypes) → with_layers tags ls base ≡ Ok (Function answer ps) → 1 ≤ functions ls → MakesFunction ls answer ps
 makes_function tags [] base answer ps e h = absurd (omega (arith, h))
-makes_function tags (FunctionOf line params ∷ []) base answer ps e h =
-    let inner = came (layered tags (FunctionOf line params) base) e in
-    let made = passed _ _ line (Function base params) inner.value inner.is in
-    let test : (is_array base || is_function base || is_record base) ≡ false = kept_test _ _ line _ inner.value inner.is in
-    let same : Function base params ≡ Function answer ps = made ∙ ok_same inner.value (Function answer ps) inner.last in
-    let answers : base ≡ answer = cc in
-    let params_same : params ≡ ps = cc in
-    record { single = refl; sorts = append-nil (param_sorts params) ∙ ap param_sorts params_same; plain = subst (λ (t : PlainType). (is_array t || is_function t || is_record t) ≡ false) answers test }
-makes_function tags (FunctionOf line params ∷ next ∷ ls) base answer ps e h =
-    let x = came (then (layered tags (FunctionOf line params) base) (λ type. bad {A = PlainType} (record { kind = LeftOut; line = line }))) e in
-    let y = came (layered tags (FunctionOf line params) base) x.is in
-    never _ _ x.value y.last
+makes_function tags (FunctionOf line params ∷ []) base answer ps e h = search (arith, came, passed, false, kept_test, ok_same, append-nil)
+makes_function tags (FunctionOf line params ∷ next ∷ ls) base answer ps e h = search (arith, came)
 makes_function tags (PointerTo line ∷ ls) base answer ps e h =
     let x = came (layered tags (PointerTo line) base) e in
     let m = makes_function tags ls x.value answer ps x.last h in record { single = m.single; sorts = m.sorts; plain = m.plain }
@@ -185,15 +153,7 @@ named_sorts None v c = refl
 named_sorts (Some name) v c = refl
 
 with_param_sorts : (name : Option (List ℕ)) (type : PlainType) (c : Context) → length c.scopes.inner ≡ 1 → sorts (with_param name type c) ≡ sorts c ++ type_sort type ∷ []
-with_param_sorts name type c deep =
-    subst (λ (t : Bool). sorts (cond t (prototype_param name type c) (function_param name type c)) ≡ sorts c ++ type_sort type ∷ []) (sym (own_params c deep)) (by (next_is_memory type c))
-  where
-    by : (t : Bool) → sorts (cond t (memory_param name type c) (register_param name type c)) ≡ sorts c ++ type_sort type ∷ []
-    by true =
-        let y = with_memory (unwrap_or name []) type (with_register name type c) in
-        write_sorts c.running.line type (Memory (atom.Mem (length c.running.mems))) (atom.Reg (local_register (length c.running.locals))) (with_named name (n.Object type (length c.running.mems)) y)
-        ∙ named_sorts name (n.Object type (length c.running.mems)) y ∙ one_register name type c
-    by false = named_sorts name (n.Register type (length c.running.locals)) (with_register name type c) ∙ one_register name type c
+with_param_sorts name type c deep = grind (arith, own_params, true, write_sorts, named_sorts, one_register, false)
 
 -- a parameter has a register of its sort
 record Parameter (type : PlainType) (c : Context) (z : Context × PlainType) : Type 0 where
@@ -201,13 +161,7 @@ record Parameter (type : PlainType) (c : Context) (z : Context × PlainType) : T
   added : sorts z.0 ≡ sorts c ++ type_sort type ∷ []
 
 param_added : (line : ℕ) (name : Option (List ℕ)) (type : PlainType) (c : Context) (z : Context × PlainType) → length c.scopes.inner ≡ 1 → param line name type c ≡ Ok z → Parameter type c z
-param_added line name type c z deep q =
-    let r2 : Checked (Context × PlainType) = unless (is_declared name c) DeclaredTwice line (good (with_param name type c, type)) in
-    let r1 : Checked (Context × PlainType) = unless (is_record type || is_function type) LeftOut line r2 in
-    let a = behind_test (is_void type) Incomplete line r1 z q in
-    let b = behind_test (is_record type || is_function type) LeftOut line r2 z a in
-    let made = passed (is_declared name c) DeclaredTwice line (with_param name type c, type) z b in
-    record { same = ap (λ (y : Context × PlainType). y.1) (sym made); added = ap (λ (y : Context × PlainType). sorts y.0) (sym made) ∙ with_param_sorts name type c deep }
+param_added line name type c z deep q = search (arith, behind_test, passed, with_param_sorts)
 
 -- what stands inside a scope adds none
 aside_sorts : (c d : Context) → Aside c d → sorts d ≡ sorts c
@@ -303,8 +257,7 @@ mutual
 
 -- a member is no function
 member_plain : (line : ℕ) (name : Option (List ℕ)) (type : PlainType) (list : d.Members) (c : Context) (z : Context × d.Members) → member line name type list c ≡ Ok z → is_function type ≡ false
-member_plain line name type list c z q =
-    kept_test (is_function type) LeftOut line (unless (has_no_size c.tags type) Incomplete line (then (with_member line name type list) (λ more. good (c, more)))) z q
+member_plain line name type list c z q = search (arith, kept_test)
 
 module _ (R : Context → Context → Type 0) (tag : Tagging R) (adds : Enumerates R) where
   mutual
@@ -325,9 +278,7 @@ module _ (R : Context → Context → Type 0) (tag : Tagging R) (adds : Enumerat
         let start = begun sort (maybe_name name) c in
         let m = came (members parts [] start.0) q in
         tag.join c start.0 z.0 (begun_keeps R tag sort (maybe_name name) c) (tag.join start.0 m.value.0 z.0 (members_plain parts [] start.0 m.value m.is) (ended_keeps R tag at sort start.1 m.value.0 m.value.1 z m.last))
-    tag_plain (Node (f.EnumBody trailing) (At at ▹ Node f.MaybeName name ▹ Node f.Enumerators parts ▹ none)) line c z q =
-        let e = came (enumerators parts (pos 0) c) q in
-        tag.join c e.value z.0 (enumerators_keep R tag adds parts (pos 0) c e.value e.is) (enum_named_keeps R tag at (maybe_name name) e.value z e.last)
+    tag_plain (Node (f.EnumBody trailing) (At at ▹ Node f.MaybeName name ▹ Node f.Enumerators parts ▹ none)) line c z q = search (arith, came, pos, enumerators_keep, enum_named_keeps)
     tag_plain tree line c z q = with_type_keeps R tag (special_type line tree (asked c)) c (special_after line tree (asked c)) z q
 
     members_plain : (parts : Trees) (list : d.Members) (c : Context) → Reached (R c) (members parts list c)
@@ -377,13 +328,8 @@ module _ (R : Context → Context → Type 0) (tag : Tagging R) (adds : Enumerat
         let x = came (wanted e (typed e (asked c))) q in
         let k = came (array_length (line_of e) x.value.1) x.last in
         reached_ok (R c) (tag.tells x.value.0 c (wanted_after (asked c) e (typed e (asked c)) (typed_after e (asked c)) x.value x.is)) z k.last
-    suffix_plain (Node f.FunctionSuffix (At line ▹ Node f.Params parts ▹ none)) c z q n =
-        let p = came (params parts (entered c)) q in
-        let one : 1 ≡ 0 = ap (λ (y : Context × Layer). functions (y.1 ∷ [])) (ok_same (left_params p.value.0, FunctionOf line p.value.1) z p.last) ∙ n in
-        absurd (omega (arith, one))
-    suffix_plain tree c z q n =
-        let one : 1 ≡ 0 = ap (λ (y : Context × Layer). functions (y.1 ∷ [])) (ok_same (record c { params = [] }, FunctionOf (line_of tree) types.none) z q) ∙ n in
-        absurd (omega (arith, one))
+    suffix_plain (Node f.FunctionSuffix (At line ▹ Node f.Params parts ▹ none)) c z q n = search (arith, came, ok_same)
+    suffix_plain tree c z q n = search (arith, ok_same)
 
 -- what is the same of two contexts
 abbrev Alike : {A : Type 0} → (Context → A) → Context → Context → Type 0

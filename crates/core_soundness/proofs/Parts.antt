@@ -192,8 +192,7 @@ among_right l [] t h = h
 among_right l (k ∷ s) t h = inr (among_right l s t h)
 
 pub same_labels : (one other : Running) → other.cases ≡ one.cases → other.otherwise ≡ one.otherwise → (l : ℕ) → HasLabel l other → HasLabel l one
-same_labels one other e e2 l =
-    ⊎_elim (λ (h : IsCase l other.cases). inl (subst (IsCase l) e h)) (λ (h : other.otherwise ≡ Some l). inr (sym e2 ∙ h))
+same_labels one other e e2 l = search arith
 
 -- a statement among what stands around it
 pub record Walks (a : Around) (c d : Context) : Type 0 where
@@ -223,25 +222,13 @@ part_anywhere ws n x y p = part_ways [] ws n x y [] (λ low high a f. anywhere w
 
 -- a part that no label of a switch stands in
 pub walks_part : (a : Around) (c d : Context) → Part (ways a) a.delays c.code d.code [] → d.running.cases ≡ c.running.cases → d.running.otherwise ≡ c.running.otherwise → Stays c d → Walks a c d
-walks_part a c d p e e2 s = record {
-  entries = [];
-  part = p;
-  cases = λ l h. inl (same_labels c.running d.running e e2 l h);
-  unlabelled = λ q. refl;
-  stays = s;
-}
+walks_part a c d p e e2 s = search (arith, same_labels)
 
 pub walks_passes : (a : Around) (c d : Context) → Passes c d → Walks a c d
 walks_passes a c d p = walks_part a c d (part_anywhere (ways a) a.delays c.code d.code (passes_part a.delays c d p)) p.cases p.otherwise p.stays
 
 pub walks_scoped : (a : Around) (c d : Context) → Walks a (entered c) d → Walks a c (left d)
-walks_scoped a c d w = record {
-  entries = w.entries;
-  part = w.part;
-  cases = w.cases;
-  unlabelled = w.unlabelled;
-  stays = record { safe = left_safe d.scopes w.stays.safe; depth = tail_depth d.scopes.inner (length c.scopes.inner) w.stays.depth; tied = w.stays.tied; walked = w.stays.walked; length = w.stays.length; params = w.stays.params; counted = λ h. let k = w.stays.counted (record { bytes = h.bytes; small = h.small }) in record { bytes = k.bytes; small = k.small }; inside = λ h. let k = w.stays.inside (omega arith) in record { variables = k.variables; literals = k.literals; objects = k.objects } };
-}
+walks_scoped a c d w = search (arith, left_safe, tail_depth)
 
 -- a statement in which no label of the switch may stand
 pub part_below : (a : Around) (c d : Context) → Walks (below a) c d → Part (ways a) a.delays c.code d.code []
@@ -299,8 +286,7 @@ tests_zero line l a c d le p = record {
 }
 
 pub leaves_tests : (line l : ℕ) (e : Tree) (c : Context) → l < c.code.labels → Safe c.scopes → Led (Tests l c) (leaves_if_zero line l e c)
-leaves_tests line l e c le s =
-    led_after (Tests l c) (condition e c) (λ d h. led_ok (Tests l c) (tests_zero line l d.1 c d.0 le (condition_passes e c s d h)))
+leaves_tests line l e c le s = search (arith, led_after, led_ok, tests_zero, condition_passes)
 
 pub maybe_tests : (line l : ℕ) (e : Trees) (c : Context) → l < c.code.labels → Safe c.scopes → Led (Tests l c) (maybe_leaves line l e c)
 maybe_tests line l none c le s = led_ok (Tests l c) (tests_passes l c c (passes_refl c s))
@@ -363,10 +349,7 @@ operand_passes line e (Number ty) c d s g =
 operand_passes line e other c d s g = reached_refused (Passes c)
 
 pub switch_operand_passes : (line : ℕ) (e : Tree) (c : Context) → Safe c.scopes → Reached (Passes c) (switch_operand line e c)
-switch_operand_passes line e c s =
-    let begun = opened e c in
-    reached_after (Passes c) (valued e (found e Void begun))
-    (λ d h. operand_passes line e (operand d.1.typed.type) c d s (grown_valued e begun (found e Void begun) (found_grows e Void begun begun (grows_refl begun)) d h))
+switch_operand_passes line e c s = search (arith, reached_after, operand_passes, grown_valued, found_grows, grows_refl)
 
 -- the cases among them
 pub case_among : (l place label : ℕ) (v : ℤ) (cases : List (ℤ × ℕ)) → IsCase l (take place cases ++ ((v, label) ∷ drop place cases)) → (l ≡ label) ⊎ IsCase l cases

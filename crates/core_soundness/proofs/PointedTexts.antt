@@ -53,10 +53,7 @@ declared_there vs s key type index h there = by (is_some (named_in key (innermos
     number_is t i e = cc
 
     pushed : ObjectsThere vs (s.file ++ (key, n.Object type index) ∷ [])
-    pushed name t i e =
-        ⊎_elim (λ (q : named_in name s.file ≡ Some (n.Object t i)). h name t i q)
-        (λ (q : Pushed name key (n.Object type index) (n.Object t i) s.file). subst (λ (j : ℕ). (v : Variable) × (slice_get vs j ≡ Some v)) (number_is t i q.value) there)
-        (push_get name key (n.Object type index) (n.Object t i) s.file e)
+    pushed name t i e = search (arith, number_is, push_get)
 
     new : (inner : List Table) → ObjectsThere vs (with_name_in s.file inner key (n.Object type index)).file
     new [] = pushed
@@ -78,14 +75,7 @@ record NumberIs (vs : List Variable) (index : ℕ) : Type 0 where
   there : index < length vs → (v : Variable) × (slice_get vs index ≡ Some v)
 
 number_is : (c : Context) (name : List ℕ) → There c → NumberIs c.variables (variable_number_of c (named_in name c.scopes.file))
-number_is c name h = by (named_in name c.scopes.file) refl
-  where
-    next : NumberIs c.variables (length c.variables)
-    next = record { near = omega arith; there = λ k. absurd (omega (arith, k)) }
-
-    by : (o : Option PlainNamed) → named_in name c.scopes.file ≡ o → NumberIs c.variables (variable_number_of c o)
-    by (Some (n.Object type i)) e = let r = h name type i e in record { near = omega (arith, get_below c.variables i r.0 r.1); there = λ k. r }
-    by other e = next
+number_is c name h = grind (arith, get_below)
 
 -- a variable with its name
 new_pointed : (line index : ℕ) (name : List ℕ) (type : PlainType) (c z : Context) → index ≡ length c.variables → Pointed c → with_new_variable line name type (record c { scopes = after_declaration c.scopes name (n.Object type index) }) ≡ Ok z → Pointed z
@@ -181,10 +171,7 @@ no_initializer_pointed none c h = led_ok Pointed h
 no_initializer_pointed (init ▹ rest) c h = led_after Pointed (surplus init c) (λ d q. led_refused Pointed)
 
 value_pointed : (line : ℕ) (name : List ℕ) (type : PlainType) (inits : Trees) (c : Context) → Pointed c → Led Pointed (file_value line name type inits c)
-value_pointed line name type inits c h =
-    led_cond Pointed (is_function type) (file_function line name type inits c) (file_object line name type inits c)
-    (led_after Pointed (declared_function line name type c) (λ d q. no_initializer_pointed inits d (settled_pointed c d (function_settled line name type c d q) h)))
-    (object_pointed line name type inits c h)
+value_pointed line name type inits c h = search (arith, led_cond, led_after, no_initializer_pointed, settled_pointed, function_settled, object_pointed)
 
 file_name_pointed : (line : ℕ) (storage : Storage) (name : List ℕ) (type : PlainType) (inits : Trees) (c : Context) → Pointed c → Led Pointed (file_name line storage name type inits c)
 file_name_pointed line Typedef name type inits c h = λ d q. settled_pointed c d (declared_levels line name (n.Typedef type) c c tt (levels_refl c) d q).settled h
@@ -228,11 +215,7 @@ declaration_pointed line words tree c h = led_refused Pointed
 -- definitions of functions
 
 body_ends : (line : ℕ) (name : List ℕ) (type : PlainType) (end : ℕ) (c d : Context) → Settled c d → Led (Settled c) (body_ended line name type end d)
-body_ends line name type end c d s =
-    let e = emit end (Return (last_answer d.running.answer)) d in
-    let total : ℕ = e.length + sum_by piece_length e.code.pieces in
-    let z : Context = record e { scopes = record { file = e.scopes.file; inner = [] }; length = total; walked = e.walked ++ (record { name = name; params = params_of type; running = e.running; code = e.code }) ∷ [] } in
-    led_unless (Settled c) (nat_lt 268435456 total) ProgramTooLong line (λ x. led_ok (Settled c) (record { variables = s.variables; literals = s.literals; objects = s.objects }))
+body_ends line name type end c d s = search (arith, led_unless, led_ok)
 
 body_settled : (line : ℕ) (name : List ℕ) (index : ℕ) (type : PlainType) (tree : Tree) (c : Context) → Safe c.scopes → SafeTable c.params → Led (Settled c) (body line name type tree (body_begun index type c))
 body_settled line name index type (Node f.Body (Node f.Items parts ▹ At end ▹ none)) c s p =

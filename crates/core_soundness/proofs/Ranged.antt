@@ -125,22 +125,7 @@ pub record Same (c d : Context) : Type 0 where
   pub walked : d.walked ≡ c.walked
 
 pub same_widens : (c d : Context) → Same c d → Solid c → Widens c d
-same_widens c d e h =
-    let tags : d.tags.completed ≡ c.tags.completed = ap (λ (x : names.Context). x.tags.completed) e.known in
-    let places : d.scopes ≡ c.scopes = ap (λ (x : names.Context). x.scopes) e.known in
-    record {
-      solid = record {
-        made = subst (λ (x : List CompletedTag). AreMade nothing x) (sym tags) h.made;
-        names = subst (λ (x : List CompletedTag). NamesWhole (known x) d.scopes) (sym tags) (subst (NamesWhole (K c)) (sym places) h.names);
-        list = subst (λ (x : List CompletedTag). TableWhole (known x) d.params) (sym tags) (subst (TableWhole (K c)) (sym e.params) h.list);
-        memory = subst MemsLaid (sym e.mems) h.memory;
-        result = subst (λ (x : List CompletedTag). Whole (known x) d.running.answer) (sym tags) (subst (Whole (K c)) (sym e.answer) h.result);
-        statics = subst VariablesLaid (sym e.variables) h.statics;
-        functions = subst WalkedLaid (sym e.walked) h.functions;
-      };
-      more = λ tag l q. ap (λ (x : List CompletedTag). known x tag) tags ∙ q;
-      kinds = same_kinds c d e.known e.params;
-    }
+same_widens c d e h = search (arith, nothing, same_kinds)
 
 -- what grew from the same context, with the same scopes and tags
 pub same_by : (b c d : Context) → asked d ≡ asked c → Kept b c → Kept b d → Same c d
@@ -323,15 +308,7 @@ found_offset end (x ∷ ms) (y ∷ ps) p m h e = by (p (record { name = x.0; typ
     by false again q = again q
 
 kept_small : (k : Known) (new : CompletedTag) → refusal k new ≡ None → (tag_layout k new).size ≤ 268435456
-kept_small k new e = by (new.is_union && not (keeps_union_rule (map (member_layout k) new.members))) e
-  where
-    large : (b : Bool) → nat_lt 268435456 (tag_layout k new).size ≡ b → cond b (Some TooLarge) None ≡ None → (tag_layout k new).size ≤ 268435456
-    large true q r = cc
-    large false q r = ltb-false 268435456 (tag_layout k new).size q
-
-    by : (b : Bool) → cond b (Some PointerInUnion) (cond (nat_lt 268435456 (tag_layout k new).size) (Some TooLarge) None) ≡ None → (tag_layout k new).size ≤ 268435456
-    by true r = cc
-    by false r = large (nat_lt 268435456 (tag_layout k new).size) refl r
+kept_small k new e = grind (arith, not, true, false, ltb-false)
 
 pub members_same : (ms : List (List ℕ × PlainType)) (j k : Known) → Extends j k → MembersWhole j ms → map (member_layout j) ms ≡ map (member_layout k) ms
 members_same [] j k x h = refl
@@ -340,11 +317,7 @@ members_same (m ∷ ms) j k x h =
     ap (λ (l : Layout). l ∷ map (member_layout j) ms) here ∙ ap (λ (ls : List Layout). member_layout k m ∷ ls) (members_same ms j k x h.1)
 
 tag_end : (j : Known) (new : CompletedTag) → refusal j new ≡ None → (placed new.is_union (map (member_layout j) new.members)).end ≤ 268435456
-tag_end j new e =
-    let all = placed new.is_union (map (member_layout j) new.members) in
-    let r = rounded_le all.end all.align in
-    let s = kept_small j new e in
-    omega (arith, r, s)
+tag_end j new e = search (arith, rounded_le, kept_small)
 
 made_end : (j : Known) (tags : List CompletedTag) (test : CompletedTag → Bool) (done : CompletedTag) → AreMade j tags → find test tags ≡ Some done → (placed done.is_union (map (member_layout (fold learn j tags)) done.members)).end ≤ 268435456
 made_end j [] test done m e = cc
@@ -362,16 +335,7 @@ made_end j (t ∷ tags) test done m e = by (test t) (made_end (learn j t) tags t
     by false again q = again q
 
 member_offset : (table : TagTable) (tag : ℕ) (members : List PlainMember) (p : PlainMember → Bool) (m : PlainMember) → AreMade nothing table.completed → members_in table tag ≡ Some members → find p members ≡ Some m → m.offset ≤ 268435456
-member_offset table tag members p m made e f = by (find (λ (done : CompletedTag). done.tag == tag) table.completed) refl e
-  where
-    by : (o : Option CompletedTag) → find (λ (done : CompletedTag). done.tag == tag) table.completed ≡ o → option_map (placed_members (known table.completed)) o ≡ Some members → m.offset ≤ 268435456
-    by None q r = cc
-    by (Some done) q r =
-        let same : placed_members (known table.completed) done ≡ members = ap (λ (o : Option (List PlainMember)). unwrap_or o members) r in
-        let all = placed done.is_union (map (member_layout (known table.completed)) done.members) in
-        let near : m.offset ≤ all.end = found_offset all.end done.members all.members p m (places_to done.is_union none_placed (map (member_layout (known table.completed)) done.members) tt) (subst (λ (xs : List PlainMember). find p xs ≡ Some m) (sym same) f) in
-        let end = made_end nothing table.completed (λ (d : CompletedTag). d.tag == tag) done made q in
-        omega (arith, near, end)
+member_offset table tag members p m made e f = grind (arith, option_map, found_offset, places_to, made_end, nothing)
 
 among_small : (name : List ℕ) (o : Option (List PlainMember)) → ((members : List PlainMember) (m : PlainMember) → o ≡ Some members → find (λ (m : PlainMember). bytes_eq name m.name) members ≡ Some m → m.offset ≤ 268435456) → offset_among name o ≤ 268435456
 among_small name None h = omega arith
@@ -410,9 +374,7 @@ read_in line (Pointer target) (Memory a) c g h = in_pointer line (λ t. Loadp t 
 read_in line type spot c g h = (g, spot_atom spot h)
 
 pub valued_from_in : (tree : Tree) (c : Context) (e : Found) (z : Context × Found) → In c → SpotIn e.spot → valued_from tree c e ≡ Ok z → In z.0 × SpotIn z.1.spot
-valued_from_in tree c e z g h q =
-    let t = came (read (line_of tree) c.tags e.typed) q in
-    subst (λ (x : Context × Found). In x.0 × SpotIn x.1.spot) (ok_same (read_value t.value e (read_spot (code_line tree) e.typed.type e.spot c)) z t.last) (read_in (code_line tree) e.typed.type e.spot c g h)
+valued_from_in tree c e z g h q = search (arith, came, ok_same, read_in)
 
 pub convert_integer_in : (line : ℕ) (ty source : IntType) (a : Atom) (c : Context) → In c → AtomIn a → Has (convert_integer line ty source a c)
 unfolding convert_integer
@@ -446,11 +408,7 @@ write_in line type spot a c g s h = g
 
 both_in : (line : ℕ) (to_left s : IntType) (x : Atom) (to_right t : IntType) (y : Atom) (c : Context) → In c → AtomIn x → AtomIn y
     → In (convert_both line to_left s x to_right t y c).0 × AtomIn (convert_both line to_left s x to_right t y c).1 × AtomIn (convert_both line to_left s x to_right t y c).2
-both_in line to_left s x to_right t y c g h k =
-    let d = convert_integer line to_left s x c in
-    let one = convert_integer_in line to_left s x c g h in
-    let two = convert_integer_in line to_right t y d.0 one.0 k in
-    (two.0, one.1, two.1)
+both_in line to_left s x to_right t y c g h k = search (arith, convert_integer_in)
 
 work_in : (line : ℕ) (how : Working) (s : IntType) (x : Atom) (t : IntType) (y : Atom) (c : Context) → In c → AtomIn x → AtomIn y → Has (work line how s x t y c)
 work_in line (Calculates op) s x t y c g h k =
@@ -541,16 +499,7 @@ needs_all (Compares op) S x = tt
 needs_all other S x = x
 
 compared_steps : (how : Working) (test : CmpOp) (s t : Operand) (c : Context) → how ≡ Compares test → Steps how s t c
-compared_steps how test s t c e = subst (λ (x : Working). Steps x s t c) (sym e) (by s t)
-  where
-    by : (s t : Operand) → Steps (Compares test) s t c
-    by (PointerTo target) (Number t) = tt
-    by (Number s) (PointerTo target) = tt
-    by (PointerTo target) (PointerTo other) = tt
-    by (PointerTo target) Neither = tt
-    by (Number s) (Number t) = tt
-    by (Number s) Neither = tt
-    by Neither t = tt
+compared_steps how test s t c e = grind arith
 
 sum_steps : (how : Working) (line : ℕ) (c : Context) (x y z : PlainTyped) (s t : Operand) → Solid c → Pointed c s → Pointed c t → sum_types line c.tags x y s t ≡ Ok z → Steps how s t c
 sum_steps how line c x y z (PointerTo target) (Number t) h p q e = needs_all how _ (moving_step line c target (value x.type) z h p e)
@@ -712,8 +661,7 @@ first_within k [] h = tt
 first_within k (p ∷ ps) h = (h.0, tt)
 
 array_in : (c : Context) (asked n offset : ℕ) (element : PlainType) (l : Layout) → Whole (K c) element → layout_of (K c) element ≡ Some l → offset + n * l.size ≤ 268435456 → PartsIn (K c) (elements asked n offset (size_or_zero c element) element)
-array_in c asked n offset element l w e h =
-    subst (λ (o : Option Layout). PartsIn (K c) (elements asked n offset (unwrap_or (option_map (λ (x : Layout). x.size) o) 0) element)) (sym e) (elements_in (K c) asked n offset l element w e h)
+array_in c asked n offset element l w e h = search (arith, option_map, elements_in)
 
 pub parts_in : (c : Context) (asked : ℕ) (type : PlainType) (offset : ℕ) → Solid c → Whole (K c) type → Within (K c) type offset → PartsIn (K c) (parts_of c asked type offset)
 unfolding parts_of
@@ -730,8 +678,4 @@ starts_within c type l h w e = let s = made_sized c.tags.completed type l h.made
 
 -- a row of characters is no longer than an object
 pub row_short : (c : Context) (element : PlainType) (n : ℕ) → Solid c → Whole (K c) (Array element n) → n ≤ 268435456
-row_short c element n h w = let s = made_sized c.tags.completed element w.1.0 h.made w.0 w.1.1 in times n w.1.0.size s.0 w.1.2
-  where
-    times : (n k : ℕ) → 1 ≤ k → n * k ≤ 268435456 → n ≤ 268435456
-    times n zero h g = absurd (omega (arith, h))
-    times n (suc k) h g = omega arith
+row_short c element n h w = grind (arith, made_sized, zero)

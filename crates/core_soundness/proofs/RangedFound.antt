@@ -109,12 +109,10 @@ abbrev In0 : {A : Type 0} → Context × A → Type 0
 In0 {A} z = In z.0
 
 pub literal_in : (line : ℕ) (bytes : List ℕ) (c : Context) → In c → Led (In0 {A = ℕ}) (with_literal line bytes c)
-literal_in line bytes c g =
-    led_after (In0 {A = ℕ}) (with_static line (length bytes + 1) c) (λ d q. led_ok (In0 {A = ℕ}) (static_in line (length bytes + 1) c g d q))
+literal_in line bytes c g = search (arith, led_after, led_ok, static_in)
 
 pub string_in : (line : ℕ) (bytes : List ℕ) (c : Context) → In c → Led E (literal_answer line bytes c)
-string_in line bytes c g =
-    led_after E (string line bytes) (λ e q. led_after E (with_literal line bytes c) (λ d k. led_ok E (literal_in line bytes c g d k, tt)))
+string_in line bytes c g = search (arith, led_after, led_ok, literal_in)
 
 -- places
 
@@ -131,15 +129,10 @@ indexed_in line c x y h g p q v w =
     (combined_in line b.Add c.code x y c g g p q (element_steps line c (operand x.typed.type) (operand y.typed.type) t h (pointed_of c x.typed.type v) (pointed_of c y.typed.type w) k)))
 
 pub dotted_in : (line : ℕ) (name : List ℕ) (c : Context) (e : Found) → Solid c → In c → SpotIn e.spot → Led E (dotted line name c e)
-dotted_in line name c e h g s =
-    led_after E (dot line name c.tags e.typed)
-    (λ t k. led_ok E (member_in line (offset_of c.tags name e.typed.type) (atom_in e) c g (spot_atom e.spot s) (offset_number c name e.typed.type h)))
+dotted_in line name c e h g s = search (arith, led_after, led_ok, member_in, spot_atom, offset_number)
 
 pub pointed_in : (line : ℕ) (name : List ℕ) (c : Context) (e : Found) → Solid c → In c → SpotIn e.spot → Led E (pointed line name c e)
-pointed_in line name c e h g s =
-    let type = target_of (operand e.typed.type) in
-    led_after E (arrow line name c.tags e.typed)
-    (λ t k. led_ok E (member_in line (offset_of c.tags name type) (atom_in e) c g (spot_atom e.spot s) (offset_number c name type h)))
+pointed_in line name c e h g s = search (arith, led_after, led_ok, member_in, spot_atom, offset_number)
 
 -- operators before a value
 
@@ -175,8 +168,7 @@ between_in line op before c x y i f h g p q v w =
     (λ t k. led_ok E (combined_in line op before x y c f g p q (binary_steps op line c x.typed y.typed t i h v w k)))
 
 pub cast_in : (line : ℕ) (type : PlainType) (before : Code) (c : Context) (e : Found) → PiecesIn before.pieces → In c → SpotIn e.spot → Led E (cast_to line type before c e)
-cast_in line type before c e f g s =
-    led_after E (cast line type e.typed) (λ t k. led_ok E (convert_in line before type e.typed (atom_in e) c f g (spot_atom e.spot s)))
+cast_in line type before c e f g s = search (arith, led_after, led_ok, convert_in, spot_atom)
 
 set_again_in : (line : ℕ) (t x : Atom) (c : Context) → In c → AtomIn x → In (set_again line t x c)
 set_again_in line (atom.Reg r) x c g h = in_emit line (Set r x) c g ((h, tt), tt)
@@ -187,8 +179,7 @@ compare_again_in line (atom.Reg r) x c g h = in_emit line (Cmp cmp.Ne r x (atom.
 compare_again_in line other x c g h = g
 
 pub and_then_in : (line : ℕ) (tree : Tree) (d : Context × Found) → E d → In (and_then line tree d)
-and_then_in line tree d h =
-    let t = tested_value tree d in let r = tested_value_in tree d h in in_emit line (Zero t.1 (new_label t.0)) (with_labels 2 t.0) r.0 ((r.1, tt), tt)
+and_then_in line tree d h = search (arith, tested_value_in, in_emit)
 
 and_ends_in : (line label : ℕ) (t : Context × Atom) → Has t → Has (and_ends line label t)
 and_ends_in line label t h =
@@ -200,9 +191,7 @@ and_ends_in line label t h =
     (in_here (label + 1) (set_again line d.1 (atom.Int (pos 0)) e) (set_again_in line d.1 (atom.Int (pos 0)) e ge zero_number), r.1)
 
 pub and_ended_in : (line label : ℕ) (tree : Tree) (x : Found) (d : Context × Found) → E d → Led E (and_ended line label tree x d)
-and_ended_in line label tree x d h =
-    led_after E (binary line b.And d.0.tags x.typed d.1.typed)
-    (λ t k. led_ok E (and_ends_in line label (tested_value tree d) (tested_value_in tree d h)))
+and_ended_in line label tree x d h = search (arith, led_after, led_ok, and_ends_in, tested_value_in)
 
 pub or_else_in : (line : ℕ) (tree : Tree) (d : Context × Found) → E d → Has (or_else line tree d)
 or_else_in line tree d h =
@@ -216,11 +205,7 @@ or_else_in line tree d h =
     (in_here next (emit line (Jump (next + 1)) e.0) (in_emit line (Jump (next + 1)) e.0 ge.0 (tt, tt)), ge.1)
 
 pub or_ended_in : (line end : ℕ) (tree : Tree) (i : Atom) (x : Found) (d : Context × Found) → AtomIn i → E d → Led E (or_ended line end tree i x d)
-or_ended_in line end tree i x d p h =
-    let t = tested_value tree d in
-    let r = tested_value_in tree d h in
-    led_after E (binary line b.Or d.0.tags x.typed d.1.typed)
-    (λ y k. led_ok E (in_here end (compare_again line i t.1 t.0) (compare_again_in line i t.1 t.0 r.0 r.1), p))
+or_ended_in line end tree i x d p h = search (arith, tested_value_in, led_after, led_ok, in_here, compare_again_in)
 
 chosen_by_in : (line : ℕ) (before : Code) (type : PlainType) (e : PlainTyped) (d : Context × Atom) → PiecesIn before.pieces → Has d → Has (chosen_by line before type e d)
 chosen_by_in line before (Int ty) e d f h =
@@ -321,10 +306,7 @@ result_in line (Pointer target) kind c g h = in_pointer line (λ r. kind (Some r
 result_in line type kind c g h = (in_emit line (kind None) c g (h None), tt)
 
 free_in : (line : ℕ) (x : Atom) (c : Context) → In c → AtomIn x → In (emit line Leave (emit line (Free x) (emit line Enter c)))
-free_in line x c g h =
-    let c1 = emit line Enter c in
-    let c2 = emit line (Free x) c1 in
-    in_emit line Leave c2 (in_emit line (Free x) c1 (in_emit line Enter c g (tt, tt)) ((h, tt), tt)) (tt, tt)
+free_in line x c g h = search (arith, in_emit)
 
 built_in : (line : ℕ) (name : BuiltIn) (answer wanted : PlainType) (format : Option (List ℕ)) (args : List Argument) (c : Context) → Solid c → Whole (K c) wanted → In c → AtomsIn (atoms_of args) → R (call_built_in line name answer wanted format args c)
 unfolding call_built_in
@@ -354,11 +336,7 @@ argument_in line (ct.first type rest) before c e f g s = convert_in line before 
 -- sizes
 
 sized_in : (line : ℕ) (tags : TagTable) (type : PlainType) (y : PlainTyped) → AreMade nothing tags.completed → Whole (known tags.completed) type → size line tags type ≡ Ok y → SpotIn (constant_found y).spot
-sized_in line tags type y m w q = by (layout_in tags type) refl q
-  where
-    by : (o : Option Layout) → layout_in tags type ≡ o → size_answer line (option_map (λ (l : Layout). l.size) o) ≡ Ok y → SpotIn (constant_found y).spot
-    by None e k = never _ _ y k
-    by (Some l) e k = subst (λ (x : PlainTyped). SpotIn (constant_found x).spot) (ok_same _ y k) (small_number l.size (made_sized tags.completed type l m w e).1)
+sized_in line tags type y m w q = grind (arith, option_map, ok_same, small_number, made_sized)
 
 expr_size_in : (line : ℕ) (e : Tree) (c : Context) (t : names.Context × PlainTyped) → Solid c → typed (Node f.SizeofExpr (At line ▹ e ▹ none)) (asked c) ≡ Ok t → SpotIn (constant_found t.1).spot
 unfolding typed
@@ -379,17 +357,12 @@ type_size_in line e c t h q =
     (sized_in line d.value.0.tags d.value.1 y.value (subst (λ (x : List CompletedTag). AreMade nothing x) (sym g.0.completed) h.made) (subst (λ (x : List CompletedTag). Whole (known x) d.value.1) (sym g.0.completed) g.1) y.is)
 
 unevaluated_in : (tree : Tree) (c : Context) (z : Context × Found) → In c → ((t : names.Context × PlainTyped) → typed tree (asked c) ≡ Ok t → SpotIn (constant_found t.1).spot) → unevaluated c (typed tree (asked c)) ≡ Ok z → E z
-unevaluated_in tree c z g k q =
-    let t = came (typed tree (asked c)) q in
-    subst E (ok_same (told t.value.0 c, constant_found t.value.1) z t.last) (g, k t.value t.is)
+unevaluated_in tree c z g k q = search (arith, came, ok_same)
 
 -- parts
 
 pub unused_in : (e : Tree) (wish : PlainType) (c : Context) (z : Context × Found) → ((x : Context × Found) → found e wish c ≡ Ok x → E x) → unused e (found e wish c) ≡ Ok z → E z
-unused_in e wish c z k q =
-    let d = came (found e wish c) q in
-    let r = k d.value d.is in
-    valued_from_in e d.value.0 d.value.1 z r.0 r.1 d.last
+unused_in e wish c z k q = search (arith, came, valued_from_in)
 
 pub valued_in : (e : Tree) (wish : PlainType) (c : Context) (z : Context × Found) → ((x : Context × Found) → found e wish c ≡ Ok x → E x) → valued e (found e wish c) ≡ Ok z → E z
 valued_in e wish c z k q = unused_in e wish c z k (valued_unused e (found e wish c) z q)
@@ -473,9 +446,7 @@ record Arguments_in (c : Context) (z : Context × List Argument) : Type 0 where
   atoms : AtomsIn (atoms_of z.1)
 
 call_answer_in : (line : ℕ) (name : Option PlainNamed) (function : Callee) (wanted : PlainType) (trees : Trees) (c : Context) (values : List Argument) → Solid c → Whole (K c) wanted → In c → AtomsIn (atoms_of values) → Led E (call_answer line name function wanted trees c values)
-call_answer_in line name function wanted trees c values h w g s =
-    led_after E (call line (first_literal trees) function (types_of values))
-    (λ e q. let d = call_named line name e.type wanted (first_literal trees) values c in led_ok E (call_in line name e.type wanted (first_literal trees) values c h w g s))
+call_answer_in line name function wanted trees c values h w g s = search (arith, led_after, led_ok, call_in)
 
 mutual
   unfolding found arguments Written AllWritten
@@ -687,20 +658,13 @@ coded_rises a c code r k = record { solid = r.solid; more = r.more; kinds = r.ki
 
 -- a part that grew behind what was led to
 pub rises_more : (a b d : Context) → Rises a b → base.Widens b d → Grows b d → (In a → In d) → Rises a d
-rises_more a b d r s g k =
-    with_code a d (base.widens_trans a b d (record { solid = r.solid; more = r.more; kinds = r.kinds }) s) k (λ q. same_cases b d g (r.cases q)) (λ q. same_walked b d g (r.walked q))
+rises_more a b d r s g k = search (arith, with_code, widens_trans, same_cases, same_walked)
 
 pub opened_rises : (e : Tree) (c : Context) → Solid c → Rises c (opened e c)
-opened_rises e c h =
-    either_way (Rises c) (reallocates c.scopes e)
-    (record { solid = h; more = extends_refl (K c); kinds = kinds_refl c; code = λ k. in_emit (code_line e) Enter (anew c) k (tt, tt); cases = λ k. k; walked = λ k. k })
-    (record { solid = h; more = extends_refl (K c); kinds = kinds_refl c; code = λ k. k; cases = λ k. k; walked = λ k. k })
+opened_rises e c h = search (arith, either_way, extends_refl, kinds_refl, in_emit)
 
 pub closed_rises : (e : Tree) (c : Context) → Solid c → Rises c (closed e c)
-closed_rises e c h =
-    either_way (Rises c) (reallocates c.scopes e)
-    (record { solid = h; more = extends_refl (K c); kinds = kinds_refl c; code = λ k. in_emit (code_line e) Leave c k (tt, tt); cases = λ k. k; walked = λ k. k })
-    (rises_refl c h)
+closed_rises e c h = search (arith, either_way, extends_refl, kinds_refl, in_emit, rises_refl)
 
 pub write_rises : (line : ℕ) (type : PlainType) (spot : Spot) (a : Atom) (c : Context) → Solid c → (In c → SpotIn spot × AtomIn a) → Rises c (write line type spot a c)
 write_rises line type spot a c h s = with_code c _ (base.write_widens line type spot a c h) (λ k. let r = s k in write_in line type spot a c k r.0 r.1) (same_cases c _ (grows_write line type spot a c)) (same_walked c _ (grows_write line type spot a c))

@@ -26,8 +26,7 @@ use Rattle.core_soundness.proofs.Choices.{either_way, three_parts, some_same}
 
 -- what stands behind the front that passes a test
 behind_front : (test : ℕ → Bool) (bytes : List ℕ) → bytes ≡ take_while test bytes ++ drop (length (take_while test bytes)) bytes
-behind_front test bytes =
-    sym (take-append-drop (prefix_len test bytes) bytes) ∙ ap (λ (k : ℕ). take_while test bytes ++ drop k bytes) (sym (length-prefix_len test bytes))
+behind_front test bytes = search (arith, take-append-drop, length-prefix_len)
 
 outside_front : (test : ℕ → Bool) (bytes : List ℕ) → StartsOutside test (drop (length (take_while test bytes)) bytes)
 outside_front test bytes = subst (λ (k : ℕ). StartsOutside test (drop k bytes)) (sym (length-prefix_len test bytes)) (rest_starts_outside test bytes)
@@ -210,9 +209,7 @@ by_rest locals integers quotient rest = cond (rest == 0) quotient (cond (rest ==
 
 rest_of : (locals integers r quotient rest : ℕ) → r / 3 ≡ quotient → r % 3 ≡ rest → register_by locals integers r ≡ by_rest locals integers quotient rest
 unfolding by_rest
-rest_of locals integers r quotient rest e h =
-    ap (λ (q : ℕ). cond (r % 3 == 0) q (cond (r % 3 == 1) (locals + q) (locals + integers + q))) e
-    ∙ ap (λ (m : ℕ). cond (m == 0) quotient (cond (m == 1) (locals + quotient) (locals + integers + quotient))) h
+rest_of locals integers r quotient rest e h = search arith
 
 local_number : (locals integers k : ℕ) → register_by locals integers (local_register k) ≡ k
 unfolding by_rest
@@ -252,19 +249,10 @@ some_left xs ys k sort None e h = cc
 some_left xs ys k sort (Some reg) e h = ap (λ (o : Option Register). option_map sort_of o) (get_left xs ys k reg e) ∙ h
 
 pub variable_number : (count k : ℕ) → static_by count (file_variable k) ≡ k
-variable_number count k = ap (λ (t : Bool). cond t (file_variable k / 2) (count + file_variable k / 2)) (eq-eqb ((2 * k) % 2) 0 (omega arith)) ∙ half
-  where
-    half : file_variable k / 2 ≡ k
-    half = omega arith
+variable_number count k = grind (arith, eq-eqb)
 
 pub literal_number : (count k : ℕ) → static_by count (literal_object k) ≡ count + k
-literal_number count k = ap (λ (t : Bool). cond t (literal_object k / 2) (count + literal_object k / 2)) (subst (λ (j : ℕ). (j == 0) ≡ false) (sym one) refl) ∙ ap (λ (j : ℕ). count + j) half
-  where
-    one : literal_object k % 2 ≡ 1
-    one = omega arith
-
-    half : literal_object k / 2 ≡ k
-    half = omega arith
+literal_number count k = grind (arith, false)
 
 module _ (c : Context) (w : Walked) where
   abbrev num : Numbers
@@ -283,11 +271,7 @@ module _ (c : Context) (w : Walked) where
   here = walked_world c w
 
   register_resolves : (sort : Sort) (r : ℕ) → IsRegister here sort r → register_sort func (num.register r) ≡ Some sort
-  register_resolves sort r (is_local k at there) =
-      let locals : ℕ = length w.running.locals in
-      ap (λ (i : ℕ). register_sort func (register_by locals w.code.most_integers i)) at
-      ∙ ap (λ (i : ℕ). register_sort func i) (local_number locals w.code.most_integers k)
-      ∙ some_left w.running.locals temporaries k sort (slice_get w.running.locals k) refl there
+  register_resolves sort r (is_local k at there) = search (arith, local_number, some_left)
   register_resolves sort r (is_integer k at there same) =
       let locals : ℕ = length w.running.locals in
       ap (λ (i : ℕ). register_sort func (register_by locals w.code.most_integers i)) at

@@ -65,19 +65,7 @@ pub more_refl : (s : ScopeList) → More s s
 more_refl s = record { file = tags_refl s.file; inner = all_refl s.inner }
 
 pub tags_trans : (a b c : Table) → MoreTags a b → MoreTags b c → MoreTags a c
-tags_trans a b c x y name =
-    ⊎_elim
-    (λ (e : named_in name b ≡ named_in name a).
-    ⊎_elim
-    (λ (f : named_in name c ≡ named_in name b). inl (f ∙ e))
-    (λ (f : IsNewTag name b c). inr (f.0, f.1, f.2, sym e ∙ f.3, f.4))
-    (y name))
-    (λ (e : IsNewTag name a b).
-    ⊎_elim
-    (λ (f : named_in name c ≡ named_in name b). inr (e.0, e.1, e.2, e.3, f ∙ e.4))
-    (λ (f : IsNewTag name b c). let clash : None ≡ Some (Tag e.1) = sym f.3 ∙ e.4 in cc)
-    (y name))
-    (x name)
+tags_trans a b c x y name = search arith
 
 pub all_trans : (a b c : List Table) → MoreAll a b → MoreAll b c → MoreAll a c
 all_trans [] [] [] x y = tt
@@ -106,11 +94,7 @@ pub left_more : (s t : ScopeList) → More s t → More (scopes.left s) (scopes.
 left_more s t m = record { file = m.file; inner = tail_more s.inner t.inner m.inner }
 
 tags_safe : (a b : Table) → MoreTags a b → SafeTable a → SafeTable b
-tags_safe a b m s x =
-    ⊎_elim
-    (λ (e : named_in (tag_name x) b ≡ named_in (tag_name x) a). ap frees e ∙ s x)
-    (λ (e : IsNewTag (tag_name x) a b). ap frees e.4)
-    (m (tag_name x))
+tags_safe a b m s x = search arith
 
 all_safe : (a b : List Table) → MoreAll a b → SafeAll a → SafeAll b
 all_safe [] [] m s = tt
@@ -136,11 +120,7 @@ or_same None b c e = e
 or_same (Some n) b c e = refl
 
 found_same : (f g : Table) (a b : List Table) (name : List ℕ) → MoreTags f g → MoreAll a b → SafeTable f → SafeAll a → frees (found_from g name b) ≡ frees (found_from f name a)
-found_same f g [] [] name mf m sf s =
-    ⊎_elim
-    (λ (e : named_in name g ≡ named_in name f). ap frees e)
-    (λ (e : IsNewTag name f g). ap frees e.4 ∙ sym (ap frees e.3))
-    (mf name)
+found_same f g [] [] name mf m sf s = search arith
 found_same f g [] (t ∷ ts) name mf m sf s = absurd m
 found_same f g (t ∷ ts) [] name mf m sf s = absurd m
 found_same f g (t ∷ ts) (u ∷ us) name mf m sf s =
@@ -177,25 +157,11 @@ named_push name key v (e ∷ t) =
     ]
 
 tag_pushed : (t : Table) (x : List ℕ) (type : PlainType) → MoreTags t (t ++ (tag_name x, Tag type) ∷ [])
-tag_pushed t x type name = by (named_in name t) refl
-  where
-    other : (b : Bool) → bytes_eq name (tag_name x) ≡ b → named_in name t ≡ None
-        → (named_in name (t ++ (tag_name x, Tag type) ∷ []) ≡ named_in name t) ⊎ IsNewTag name t (t ++ (tag_name x, Tag type) ∷ [])
-    other true e n = inr (x, type, (bytes_eq-Decides name (tag_name x)).0 e, n, named_push name (tag_name x) (Tag type) t ∙ ap (λ o. option_or o (cond (bytes_eq name (tag_name x)) (Some (Tag type)) None)) n ∙ ap (λ b. cond b (Some (Tag type)) None) e)
-    other false e n = inl (named_push name (tag_name x) (Tag type) t ∙ ap (λ o. option_or o (cond (bytes_eq name (tag_name x)) (Some (Tag type)) None)) n ∙ ap (λ b. cond b (Some (Tag type)) None) e ∙ sym n)
-
-    by : (o : Option PlainNamed) → named_in name t ≡ o
-        → (named_in name (t ++ (tag_name x, Tag type) ∷ []) ≡ named_in name t) ⊎ IsNewTag name t (t ++ (tag_name x, Tag type) ∷ [])
-    by (Some v) e = inl (named_push name (tag_name x) (Tag type) t ∙ ap (λ o. option_or o (cond (bytes_eq name (tag_name x)) (Some (Tag type)) None)) e ∙ sym e)
-    by None e = other (bytes_eq name (tag_name x)) refl e
+tag_pushed t x type name = grind (arith, bytes_eq, true, bytes_eq-Decides, named_push, false)
 
 -- a tag more, in the innermost scope
 pub with_tag_more : (s : ScopeList) (x : List ℕ) (type : PlainType) → More s (with_name s (tag_name x) (Tag type))
-with_tag_more s x type = by s.inner refl
-  where
-    by : (inner : List Table) → s.inner ≡ inner → More s (with_name s (tag_name x) (Tag type))
-    by [] e = subst (λ i. More (record { file = s.file; inner = i }) (scopes.with_name_in s.file i (tag_name x) (Tag type))) (sym e) (record { file = tag_pushed s.file x type; inner = tt })
-    by (t ∷ ts) e = subst (λ i. More (record { file = s.file; inner = i }) (scopes.with_name_in s.file i (tag_name x) (Tag type))) (sym e) (record { file = tags_refl s.file; inner = (tag_pushed t x type, all_refl ts) })
+with_tag_more s x type = grind (arith, tag_pushed, tags_refl, all_refl)
 
 -- any name more that is no `realloc`
 pushed_safe : (t : Table) (key : List ℕ) (v : PlainNamed) → frees (Some v) ≡ false → SafeTable t → SafeTable (t ++ (key, v) ∷ [])
@@ -204,11 +170,7 @@ pushed_safe t key v e s x =
     ∙ or_safe (named_in (tag_name x) t) (cond (bytes_eq (tag_name x) key) (Some v) None) (s x) (either_way (λ x. frees x ≡ false) (bytes_eq (tag_name x) key) e refl)
 
 pub with_name_safe : (s : ScopeList) (key : List ℕ) (v : PlainNamed) → frees (Some v) ≡ false → Safe s → Safe (with_name s key v)
-with_name_safe s key v e h = by s.inner h.inner
-  where
-    by : (inner : List Table) → SafeAll inner → Safe (scopes.with_name_in s.file inner key v)
-    by [] i = record { file = pushed_safe s.file key v e h.file; inner = tt }
-    by (t ∷ ts) i = record { file = h.file; inner = (pushed_safe t key v e i.0, i.1) }
+with_name_safe s key v e h = grind (arith, pushed_safe)
 
 pub entered_safe : (s : ScopeList) → Safe s → Safe (scopes.entered s)
 entered_safe s h = record { file = h.file; inner = (λ x. refl, h.inner) }
@@ -241,8 +203,7 @@ pub get_push : {X : Type 0} (xs : List X) (y : X) (i : ℕ) (x : X) → slice_ge
 get_push [] y zero x e = inr (refl, sym (some_same y x e))
 get_push [] y (suc i) x e = cc
 get_push (z ∷ xs) y zero x e = inl e
-get_push (z ∷ xs) y (suc i) x e =
-    ⊎_elim (λ (h : slice_get xs i ≡ Some x). inl h) (λ (h : (i ≡ length xs) × (x ≡ y)). inr (ap suc h.0, h.1)) (get_push xs y i x e)
+get_push (z ∷ xs) y (suc i) x e = search (arith, (get_push xs y i x e))
 
 pub get_below : {X : Type 0} (xs : List X) (i : ℕ) (x : X) → slice_get xs i ≡ Some x → i < length xs
 get_below [] i x e = cc
@@ -259,8 +220,7 @@ set_get [] i y j x e = cc
 set_get (z ∷ xs) zero y zero x e = inl (refl, sym (some_same y x e))
 set_get (z ∷ xs) zero y (suc j) x e = inr (λ h. omega arith, e)
 set_get (z ∷ xs) (suc i) y zero x e = inr (λ h. omega arith, e)
-set_get (z ∷ xs) (suc i) y (suc j) x e =
-    ⊎_elim (λ (h : (j ≡ i) × (x ≡ y)). inl (ap suc h.0, h.1)) (λ (h : (j ≡ i → ⊥) × (slice_get xs j ≡ Some x)). inr (λ q. h.0 (omega arith), h.1)) (set_get xs i y j x e)
+set_get (z ∷ xs) (suc i) y (suc j) x e = search (arith, (set_get xs i y j x e))
 
 pub set_other : {X : Type 0} (xs : List X) (i : ℕ) (y : X) (j : ℕ) (x : X) → (j ≡ i → ⊥) → slice_get xs j ≡ Some x → slice_get (slice_set xs i y) j ≡ Some x
 set_other [] i y j x n e = cc
@@ -290,10 +250,7 @@ tag_same f g name type i (inl e) h = sym e ∙ h
 tag_same f g name type i (inr new) h = let clash : Some (Tag new.1) ≡ Some (Function type i) = sym new.4 ∙ h in cc
 
 pub more_keeps : (a b : ScopeList) → More a b → FileKeeps a.file b.file
-more_keeps a b m = record {
-  kept = λ name v. tag_kept a.file b.file name v (m.file name);
-  same = λ name type i. tag_same a.file b.file name type i (m.file name);
-}
+more_keeps a b m = search (arith, tag_kept, tag_same)
 
 all_length : (a b : List Table) → MoreAll a b → length b ≡ length a
 all_length [] [] m = refl
@@ -322,15 +279,7 @@ pub record Pushed (name key : List ℕ) (v w : PlainNamed) (t : Table) : Type 0 
   pub value : v ≡ w
 
 pub push_get : (name key : List ℕ) (v w : PlainNamed) (t : Table) → named_in name (t ++ (key, v) ∷ []) ≡ Some w → (named_in name t ≡ Some w) ⊎ Pushed name key v w t
-push_get name key v w t e = by (named_in name t) refl (sym (named_push name key v t) ∙ e)
-  where
-    last : (k : Bool) → bytes_eq name key ≡ k → named_in name t ≡ None → cond k (Some v) None ≡ Some w → (named_in name t ≡ Some w) ⊎ Pushed name key v w t
-    last true b h q = inr (record { absent = h; key_is = (bytes_eq-Decides name key).0 b; value = some_same v w q })
-    last false b h q = cc
-
-    by : (o : Option PlainNamed) → named_in name t ≡ o → option_or o (cond (bytes_eq name key) (Some v) None) ≡ Some w → (named_in name t ≡ Some w) ⊎ Pushed name key v w t
-    by (Some x) h q = inl (h ∙ q)
-    by None h q = last (bytes_eq name key) refl h q
+push_get name key v w t e = grind (arith, named_push, bytes_eq, true, bytes_eq-Decides, some_same, false)
 
 -- scopes of which each name is such a one
 
@@ -350,11 +299,7 @@ module _ (P : PlainNamed → Type 0) where
   tail_fits (t ∷ ts) h = h.1
 
   pub innermost_fits : (s : ScopeList) → ScopesFit P P s → TableFits P (innermost s)
-  innermost_fits s h = by s.inner h.inner
-    where
-      by : (inner : List Table) → TablesFit P inner → TableFits P (first_or s.file inner)
-      by [] k = h.file
-      by (t ∷ ts) k = k.0
+  innermost_fits s h = grind arith
 
   from_fits : (file : Table) (inner : List Table) (name : List ℕ) (v : PlainNamed) → TableFits P file → TablesFit P inner → found_from file name inner ≡ Some v → P v
   from_fits file [] name v f h e = f name v e
@@ -390,24 +335,13 @@ module _ (P Q : PlainNamed → Type 0) where
   scopes_fit f s h = record { file = λ name v e. f v (h.file name v e); inner = tables_fit f s.inner h.inner }
 
 push_keeps : (key : List ℕ) (v : PlainNamed) (t : Table) → IsNoFunction v → FileKeeps t (t ++ (key, v) ∷ [])
-push_keeps key v t h = record {
-  kept = λ name w e. push_kept name key v w t e;
-  same = λ name type i e. ⊎_elim (λ (q : named_in name t ≡ Some (Function type i)). q) (λ (q : Pushed name key v (Function type i) t). absurd (no_function_is v type i h q.value)) (push_get name key v (Function type i) t e);
-}
+push_keeps key v t h = search (arith, push_kept, no_function_is, push_get)
 
 pub with_name_keeps : (s : ScopeList) (key : List ℕ) (v : PlainNamed) → IsNoFunction v → FileKeeps s.file (with_name s key v).file
-with_name_keeps s key v h = by s.inner
-  where
-    by : (inner : List Table) → FileKeeps s.file (scopes.with_name_in s.file inner key v).file
-    by [] = push_keeps key v s.file h
-    by (t ∷ ts) = keeps_refl s.file
+with_name_keeps s key v h = grind (arith, push_keeps, keeps_refl)
 
 pub with_name_depth : (s : ScopeList) (key : List ℕ) (v : PlainNamed) → length (with_name s key v).inner ≡ length s.inner
-with_name_depth s key v = by s.inner
-  where
-    by : (inner : List Table) → length (scopes.with_name_in s.file inner key v).inner ≡ length inner
-    by [] = refl
-    by (t ∷ ts) = refl
+with_name_depth s key v = grind arith
 
 -- what holds of functions, the file scope and the bodies that were walked
 
@@ -441,21 +375,10 @@ pub tied_trans : (fs gs hs : List Declared) (f g h : Table) (us vs ws : List Wal
 tied_trans fs gs hs f g h us vs ws x y = grind arith
 
 pub tied_file : (fs : List Declared) (f g : Table) (ws : List Walked) → FileKeeps f g → Tied fs f ws fs g ws
-tied_file fs f g ws keep = record {
-  kept = λ i d e. e;
-  named = λ h. record {
-    declared = λ i d e. let x = h.declared i d e in (x.0, keep.kept d.name (Function x.0 i) x.1);
-    found = λ name type i e. h.found name type i (keep.same name type i e);
-    owned = h.owned;
-    single = h.single;
-    bound = h.bound;
-  };
-  strict = λ h. h;
-}
+tied_file fs f g ws keep = search arith
 
 pub tied_same : (fs gs : List Declared) (f g : Table) (ws vs : List Walked) → gs ≡ fs → vs ≡ ws → FileKeeps f g → Tied fs f ws gs g vs
-tied_same fs gs f g ws vs e e2 keep =
-    subst (λ (x : List Declared). Tied fs f ws x g vs) (sym e) (subst (λ (x : List Walked). Tied fs f ws fs g x) (sym e2) (tied_file fs f g ws keep))
+tied_same fs gs f g ws vs e e2 keep = search (arith, tied_file)
 
 -- a function more, whose name the file scope does not have yet
 
@@ -477,10 +400,7 @@ module _ (fs : List Declared) (file : Table) (ws : List Walked) (name : List ℕ
   before i k d e h = ⊎_elim (λ (q : slice_get fs i ≡ Some d). q) (λ (q : (i ≡ length fs) × (d ≡ new)). absurd (never_defined d k q.1 h)) (get_push fs new i d e)
 
   pub here : named_in name with_it ≡ Some (Function type (length fs))
-  here =
-      named_push name name (Function type (length fs)) file
-      ∙ ap (λ o. option_or o (cond (bytes_eq name name) (Some (Function type (length fs))) None)) absent
-      ∙ ap (λ k. cond k (Some (Function type (length fs))) None) ((bytes_eq-Decides name name).1 refl)
+  here = search (arith, named_push, bytes_eq, bytes_eq-Decides)
 
   pub tied_function : Tied fs file ws more with_it ws
   tied_function = record {
@@ -522,11 +442,7 @@ module _ (fs : List Declared) (file : Table) (ws : List Walked) (index : ℕ) (o
   which i d e = set_get fs index made i d e
 
   clash : (k : ℕ) (d : Declared) → slice_get fs index ≡ Some d → d.defined ≡ Some k → ⊥
-  clash k d e h =
-      let same : Some old ≡ Some d = sym there ∙ e in
-      let one : old ≡ d = cc in
-      let bad_one : None ≡ Some k = sym undefined ∙ ap (λ (x : Declared). x.defined) one ∙ h in
-      cc
+  clash k d e h = search arith
 
   found_in : (i : ℕ) (d : Declared) (name : List ℕ) (k : Bool) → nat_eq i index ≡ k → slice_get fs i ≡ Some d → d.name ≡ name → (x : Declared) × (slice_get set i ≡ Some x) × (x.name ≡ name)
   found_in i d name true q e is =

@@ -136,10 +136,7 @@ seat_element n i l sound small = record {
         order zero zero = inr (inr refl)
         order zero (suc c) = inl (omega arith)
         order (suc a) zero = inr (inl (omega arith))
-        order (suc a) (suc c) = ⊎_elim
-            (λ (k : a + 1 ≤ c). inl (omega (arith, k)))
-            (λ k. ⊎_elim (λ (k : c + 1 ≤ a). inr (inl (omega (arith, k)))) (λ (k : a ≡ c). inr (inr (ap suc k))) k)
-            (order a c)
+        order (suc a) (suc c) = search (arith, (order a c))
 
 -- members of structs
 
@@ -373,9 +370,7 @@ padded_is : (old bytes : List ℕ) (offset : ℕ) → padded old offset bytes �
 padded_is old bytes offset = append_assoc old (replicate (offset - length old) 0) bytes
 
 padded_length : (old bytes : List ℕ) (offset : ℕ) → length old ≤ offset → length (padded old offset bytes) ≡ offset + length bytes
-padded_length old bytes offset h =
-    let zeros : List ℕ = replicate (offset - length old) 0 in
-    omega (arith, h, ap length (padded_is old bytes offset), length-append old (zeros ++ bytes), length-append zeros bytes, length-replicate {A = ℕ} (offset - length old) 0)
+padded_length old bytes offset h = search (arith, padded_is, length-append, length-replicate)
 
 padded_before : (old bytes : List ℕ) (offset j : ℕ) → length old ≤ offset → j < offset → byte (padded old offset bytes) j ≡ byte old j
 padded_before old bytes offset j h k =
@@ -477,11 +472,7 @@ distinct_push slots low [] p e h d = (tt, tt)
 distinct_push slots low (q ∷ ps) p e h d = (all_last ps (d.0), distinct_push slots low ps p e h.1 d.1)
   where
     apart : nat_eq q.0 p.0 ≡ false
-    apart = by (nat_eq q.0 p.0) refl
-      where
-        by : (t : Bool) → nat_eq q.0 p.0 ≡ t → t ≡ false
-        by true k = absurd (omega (arith, eqb-true q.0 p.0 k, h.0.1, e))
-        by false k = refl
+    apart = grind (arith, false, true, eqb-true)
 
     all_last : (rs : List (ℕ × ℕ × ℕ)) → AllByRecursion (λ y. nat_eq q.0 y ≡ false) (places rs) → AllByRecursion (λ y. nat_eq q.0 y ≡ false) (places (rs ++ (p ∷ [])))
     all_last [] k = (apart, tt)

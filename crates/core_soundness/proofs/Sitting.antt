@@ -70,8 +70,7 @@ ahead_is g c d r same h =
 
 -- an operand that is read and written
 comma_comes : (c : Context) (r z : Context × Found) → Comes c r → good (comma_answer r) ≡ Ok z → Comes c z
-comma_comes c r z h q =
-    subst (Comes c) (ok_same (comma_answer r) z q) (record { goes = h.goes; value = record { spot = h.value.spot; value = refl; held = h.value.held } })
+comma_comes c r z h q = search (arith, ok_same)
 
 -- callees
 
@@ -137,11 +136,7 @@ one_argument other e c answer walked d h q = let k = h d q in record { goes = k.
 more_arguments : (line : ℕ) (target : Callee) (params : PlainTypes) (c : Context) (d : Context × Found) (more z : Context × List Argument) → 1 ≤ line → HasParams target params → OneArgument c target d
     → (let v = argument_from line params c.code d.0 d.1 in Goes c v.0 → Held_all v.0 NoFunction (rest_types params) more)
     → (let v = argument_from line params c.code d.0 d.1 in (more.0, v.1 ∷ more.1)) ≡ z → Held_all c target params z
-more_arguments line Prints params c d more z l p o k e =
-    let v = argument_from line params c.code d.0 d.1 in
-    let g : Goes c v.0 = subst (λ (x : PlainTypes). Goes c (argument_from line x c.code d.0 d.1).0) (sym p) o.goes in
-    let m = k g in
-    subst (Held_all c Prints params) e (record { goes = goes_trans c v.0 more.0 g m.goes; held = m.held })
+more_arguments line Prints params c d more z l p o k e = search (arith, goes_trans)
 more_arguments line (Takes answer takes) params c d more z l p o k e =
     let v = argument_from line params c.code d.0 d.1 in
     let r = argument_goes line params c d.0 d.1 l o.goes (o.held (λ x. cc)) in
@@ -158,11 +153,7 @@ has_params Prints = refl
 has_params other = tt
 
 in_memory_by : (c : Context) (e : Tree) (d : Context × Found) → NoRegister c.scopes (plain_name e) → Rests c e d → InMemory d.1
-in_memory_by c e d s r k q = by (plain_name e) s (r.local k q)
-  where
-    by : (o : Option (List ℕ)) → NoRegister c.scopes o → NamesRegister c.scopes o → ⊥
-    by None s h = h
-    by (Some name) s h = let clash : false ≡ true = sym s ∙ h in cc
+in_memory_by c e d s r k q = grind (arith, false, true)
 
 -- a value that came from further on
 landed : (c : Context) (d z : Context × Found) → Goes c d.0 → Comes d.0 z → Lands c z

@@ -68,9 +68,7 @@ fill_scalar_rises e line type offset (InStatic start) c d h w t m q =
     led_after (R1 c) (static_scalar line type offset start d.1) (λ filled s. led_ok (R1 c) (rises_trans c begun d.0 o (went_rises begun d v)))
 
 scalar_rises : (e : Tree) (line : ℕ) (type : PlainType) (offset : ℕ) (target : Target) (c : Context) → Solid c → Written e → Whole (K c) type → IsNumber (pos offset) → Led (R1 c) (scalar e line type offset target c)
-scalar_rises e line type offset target c h w t m =
-    led_after (R1 c) (valued e (found e type (opened e c)))
-    (λ d q. led_barred (R1 c) (unconverted type d.1.typed) line (fill_scalar_rises e line type offset target c d h w t m q))
+scalar_rises e line type offset target c h w t m = search (arith, led_after, led_barred, fill_scalar_rises)
 
 fill_record_rises : (e : Tree) (line : ℕ) (type : PlainType) (offset : ℕ) (c : Context) (d : Context × Found) (target : Target) → Rises c d.0 → (In c → SpotIn d.1.spot) → Whole (K c) type → IsNumber (pos offset) → Led (R1 c) (fill_record e line type offset d target)
 fill_record_rises e line type offset c d (InMemory at mem) r f t m =
@@ -185,11 +183,7 @@ with_local_rises name type c h w s = by (next_is_memory type c)
     by false = let q = named_rises (with_register (Some name) type c) name (n.Register type (length c.running.locals)) h w (λ ks. tt) in record { solid = q.solid; more = q.more; kinds = q.kinds; code = q.code; cases = q.cases; walked = q.walked }
 
 local_spot : (name : List ℕ) (type : PlainType) (c : Context) → SpotIn (with_local name type c).1
-local_spot name type c = by (next_is_memory type c)
-  where
-    by : (t : Bool) → SpotIn (counted_local (local_in t name type c)).1
-    by true = tt
-    by false = tt
+local_spot name type c = grind (arith, true, false)
 
 -- the layout of a type that has one
 has_layout : (c : Context) (type : PlainType) → is_some (layout_in c.tags type) ≡ true → layout_in c.tags type ≡ Some (unwrap_or (layout_in c.tags type) no_layout)
@@ -276,8 +270,7 @@ new_variable_rises line name type c h w s =
     }) y.rises.code y.rises.cases y.rises.walked))
 
 pub variable_rises : (line index : ℕ) (name : List ℕ) (type : PlainType) (c : Context) → Solid c → Whole (K c) type → is_some (layout_in c.tags type) ≡ true → Led (Rises c) (with_variable line index name type c)
-variable_rises line index name type c h w s =
-    led_cond (Rises c) (nat_lt index (length c.variables)) (Ok c) (with_new_variable line name type c) (led_ok (Rises c) (rises_refl c h)) (new_variable_rises line name type c h w s)
+variable_rises line index name type c h w s = search (arith, led_cond, led_ok, rises_refl, new_variable_rises)
 
 get_laid : (vs : List Variable) (i : ℕ) (v : Variable) → slice_get vs i ≡ Some v → VariablesLaid vs → IsLayoutOfType v.layout
 get_laid [] i v e h = cc
@@ -294,11 +287,7 @@ started_laid index start None vs e h = h
 started_laid index start (Some v) vs e h = set_laid vs index (record v { start = Some start }) h (get_laid vs index v e h)
 
 started_rises : (index : ℕ) (d : Context × Target) → Solid d.0 → Rises d.0 (started index d)
-started_rises index d h = with_code d.0 _ (record {
-  solid = record { made = h.made; names = h.names; list = h.list; memory = h.memory; result = h.result; statics = started_laid index (start_in d.1) (slice_get d.0.variables index) d.0.variables refl h.statics; functions = h.functions };
-  more = extends_refl (K d.0);
-  kinds = kinds_refl d.0;
-}) (λ k. k) (λ k. k) (λ k. k)
+started_rises index d h = search (arith, with_code, started_laid, extends_refl, kinds_refl)
 
 fill_variable_rises : (line index : ℕ) (type : PlainType) (inits : Trees) (c : Context) → Solid c → AllWritten inits → Whole (K c) type → is_some (layout_in c.tags type) ≡ true → Led (Rises c) (fill_variable line index type inits c)
 unfolding AllWritten

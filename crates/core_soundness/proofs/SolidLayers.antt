@@ -87,11 +87,7 @@ maybe_named None v c h w s = rises_refl c h
 maybe_named (Some name) v c h w s = named_rises c name v h w s
 
 pub memory_rises : (name : List ℕ) (type : PlainType) (c : Context) → Solid c → Whole (K c) type → is_some (layout_in c.tags type) ≡ true → Rises c (with_memory name type c)
-memory_rises name type c h w s = with_code c _ (record {
-  solid = record { made = h.made; names = h.names; list = h.list; memory = mems_push c.running.mems _ h.memory (laid c type h w s); result = h.result; statics = h.statics; functions = h.functions };
-  more = extends_refl (K c);
-  kinds = kinds_refl c;
-}) (λ k. k) (λ k. k) (λ k. k)
+memory_rises name type c h w s = search (arith, with_code, mems_push, laid, extends_refl, kinds_refl)
 
 pub counted_rises : (c x : Context) → Rises c x → Rises c (counted x)
 counted_rises c x r = record { solid = r.solid; more = r.more; kinds = r.kinds; code = r.code; cases = r.cases; walked = r.walked }
@@ -237,11 +233,7 @@ members_push k [] m h w s = ((w, s), tt)
 members_push k (x ∷ ms) m h w s = (h.0, members_push k ms m h.1 w s)
 
 pub has_size : (tags : TagTable) (type : PlainType) → has_no_size tags type ≡ false → is_some (layout_in tags type) ≡ true
-has_size tags type e = by (layout_in tags type) e
-  where
-    by : (o : Option Layout) → is_none (option_map (λ (l : Layout). l.size) o) ≡ false → is_some o ≡ true
-    by None q = cc
-    by (Some l) q = refl
+has_size tags type e = grind (arith, is_none, option_map, false, true)
 
 with_member_rises : (line : ℕ) (name : Option (List ℕ)) (type : PlainType) (k : Known) (list : d.Members) → MembersWhole k list → Whole k type → is_some (layout_of k type) ≡ true → Led (MembersWhole k) (with_member line name type list)
 with_member_rises line None type k list m w s = led_ok (MembersWhole k) m
@@ -256,13 +248,7 @@ with_member_sorted line None type made list m s = led_ok (MembersSorted made) m
 with_member_sorted line (Some name) type made list m s = led_unless (MembersSorted made) (d.has_member name list) DeclaredTwice line (λ t. led_ok (MembersSorted made) (members_sorted_push made list (name, type) m s))
 
 member_rises : (past : Context) (line : ℕ) (name : Option (List ℕ)) (type : PlainType) (list : d.Members) (c : Context) → Solid c → Whole (K c) type → MembersWhole (K c) list → (Sorts past → SortedType c.tags.made type) → (Sorts past → MembersSorted c.tags.made list) → Led (M past c) (member line name type list c)
-member_rises past line name type list c h w m st sm =
-    let r2 : Checked (Context × d.Members) = then (with_member line name type list) (λ more. Ok (c, more)) in
-    let r1 : Checked (Context × d.Members) = unless (has_no_size c.tags type) Incomplete line r2 in
-    led_unless (M past c) (is_function type) LeftOut line
-    (λ t. led_unless (M past c) (has_no_size c.tags type) Incomplete line
-    (λ s. led_after (M past c) (with_member line name type list)
-    (λ more q. led_ok (M past c) (rises_refl c h, with_member_rises line name type (K c) list m w (has_size c.tags type s) more q, λ ks. with_member_sorted line name type c.tags.made list (sm ks) (st ks) more q))))
+member_rises past line name type list c h w m st sm = search (arith, led_unless, led_after, led_ok, rises_refl, with_member_rises, has_size, with_member_sorted)
 
 -- members in braces are some
 
@@ -275,22 +261,14 @@ Keeps list more = more ≡ [] → list ≡ []
 
 with_member_keeps : (line : ℕ) (name : Option (List ℕ)) (type : PlainType) (list more : d.Members) → with_member line name type list ≡ Ok more → Keeps list more
 with_member_keeps line None type list more q e = ok_same list more q ∙ e
-with_member_keeps line (Some name) type list more q e =
-    absurd (append_some list (name, type) (ok_same (list ++ (name, type) ∷ []) more (behind_test (d.has_member name list) DeclaredTwice line (Ok (list ++ (name, type) ∷ [])) more q) ∙ e))
+with_member_keeps line (Some name) type list more q e = search (arith, append_some, ok_same, behind_test)
 
 with_member_some : (line : ℕ) (name : Option (List ℕ)) (type : PlainType) (list more : d.Members) → is_some name ≡ true → with_member line name type list ≡ Ok more → more ≡ [] → ⊥
 with_member_some line None type list more s q e = cc
-with_member_some line (Some name) type list more s q e =
-    append_some list (name, type) (ok_same (list ++ (name, type) ∷ []) more (behind_test (d.has_member name list) DeclaredTwice line (Ok (list ++ (name, type) ∷ [])) more q) ∙ e)
+with_member_some line (Some name) type list more s q e = search (arith, append_some, ok_same, behind_test)
 
 member_is : (line : ℕ) (name : Option (List ℕ)) (type : PlainType) (list : d.Members) (c : Context) (m : Context × d.Members) → member line name type list c ≡ Ok m → with_member line name type list ≡ Ok m.1
-member_is line name type list c m q =
-    let r2 : Checked (Context × d.Members) = then (with_member line name type list) (λ more. good (c, more)) in
-    let r1 : Checked (Context × d.Members) = unless (has_no_size c.tags type) Incomplete line r2 in
-    let a = behind_test (is_function type) LeftOut line r1 m q in
-    let b = behind_test (has_no_size c.tags type) Incomplete line r2 m a in
-    let k = came (with_member line name type list) b in
-    k.is ∙ ap (λ (x : Context × d.Members). good x.1) (ok_same (c, k.value) m k.last)
+member_is line name type list c m q = search (arith, behind_test, came, ok_same)
 
 names_keep : (parts : Trees) (line : ℕ) (base : PlainType) (list : d.Members) (c : Context) (z : Context × d.Members) → member_names line base parts list c ≡ Ok z → Keeps list z.1
 unfolding member_names
@@ -322,24 +300,17 @@ members_keep (tree ▹ rest) list c z q e = never _ _ z q
 members_some : (parts : Trees) (list : d.Members) (c : Context) (z : Context × d.Members) → HasParts f.Members parts → AllWritten parts → members parts list c ≡ Ok z → z.1 ≡ [] → ⊥
 unfolding members HasParts Written AllWritten
 members_some none list c z h w q e = h
-members_some (Node f.Member (At line ▹ words ▹ Node f.MemberNames declarators ▹ none) ▹ rest) list c z h w q e =
-    let base = came (specs words c) q in
-    let m = came (member_names line base.value.1 declarators list base.value.0) base.last in
-    names_some declarators line base.value.1 list base.value.0 m.value w.0.1.1.1.0.0 m.is (members_keep rest m.value.1 m.value.0 z m.last e)
+members_some (Node f.Member (At line ▹ words ▹ Node f.MemberNames declarators ▹ none) ▹ rest) list c z h w q e = search (arith, came, names_some, members_keep)
 members_some (tree ▹ rest) list c z h w q e = never _ _ z q
 
 -- enumerators
 
 enumerator_rises : (line : ℕ) (name : List ℕ) (value : ℤ) (c : Context) → Solid c → Led (R1 c) (enumerator line name value c)
-enumerator_rises line name value c h =
-    led_after (R1 c) (declared_as line name (n.Constant i.Int (wrapped I32 value)) c)
-    (λ x q. led_ok (R1 c) (declared_rises line name (n.Constant i.Int (wrapped I32 value)) c h (wrapped_number I32 value) (λ ks. tt) x q))
+enumerator_rises line name value c h = search (arith, led_after, led_ok, declared_rises, wrapped_number)
 
 enum_rises : (line : ℕ) (name : Option (List ℕ)) (c : Context) → Solid c → Led (T c) (enum_named line name c)
 enum_rises line None c h = led_ok (T c) (rises_refl c h, tt, λ ks. tt)
-enum_rises line (Some name) c h =
-    led_unless (T c) (is_some (named_in (tag_name name) (innermost c.scopes))) DeclaredTwice line
-    (λ t. led_ok (T c) (named_rises c (tag_name name) (n.Tag (Int i.Int)) h tt (λ ks. tt), tt, λ ks. tt))
+enum_rises line (Some name) c h = search (arith, led_unless, led_ok, named_rises)
 
 -- scopes of parameters
 

@@ -147,23 +147,14 @@ dispatch_in : (line : ℕ) (a : Atom) (end : ℕ) (c : Context) → AtomIn a →
 dispatch_in line a end c h g = pieces_joined (map (λ (x : ℤ × ℕ). does line (Case a x.0 x.1)) c.running.cases) _ (cases_code line a c.running.cases h g) ((tt, tt), tt)
 
 case_rises : (line : ℕ) (a : Around) (ty : IntType) (place : ℕ) (v : ℤ) (label : ℕ) (c : Context) → Solid c → Led (Rises c) (case_of line a ty place v label c)
-case_rises line a ty place v label c h =
-    let value = Rattle.hs_base.specs.Numbers.wrapped (types.kind_of ty) v in
-    led_unless (Rises c) (not a.labelled) LeftOut line
-    (λ x. led_unless (Rises c) (has_case value c) CaseTwice line (λ y. led_ok (Rises c) (record { solid = h; more = extends_refl (K c); kinds = kinds_refl c; code = λ g. g; cases = λ g. cases_put place value label c.running.cases (wrapped_number (types.kind_of ty) v) g; walked = λ g. g })))
+case_rises line a ty place v label c h = search (arith, led_unless, not, led_ok, extends_refl, kinds_refl, cases_put, wrapped_number)
 
 cased_rises : (line : ℕ) (a : Around) (o : Option IntType) (place : ℕ) (v : ℤ) (label : ℕ) (c : Context) → Solid c → Led (Rises c) (cased line a o place v label c)
 cased_rises line a None place v label c h = led_refused (Rises c)
 cased_rises line a (Some ty) place v label c h = case_rises line a ty place v label c h
 
 defaulted_rises : (line : ℕ) (a : Around) (label : ℕ) (c : Context) → Solid c → Led (Rises c) (defaulted line a label c)
-defaulted_rises line a label c h =
-    let d : Context = record c { running = record c.running { otherwise = Some label } } in
-    let r2 : Checked Context = unless (is_some c.running.otherwise) CaseTwice line (Ok d) in
-    let r1 : Checked Context = unless (not a.labelled) LeftOut line r2 in
-    led_unless (Rises c) (not (is_some a.switched)) StrayBreak line
-    (λ x. led_unless (Rises c) (not a.labelled) LeftOut line
-    (λ y. led_unless (Rises c) (is_some c.running.otherwise) CaseTwice line (λ z. led_ok (Rises c) (record { solid = h; more = extends_refl (K c); kinds = kinds_refl c; code = λ g. g; cases = λ g. g; walked = λ g. g }))))
+defaulted_rises line a label c h = search (arith, not, led_unless, led_ok, extends_refl, kinds_refl)
 
 abbrev O1 : Context → Context × (IntType × Atom) → Type 0
 O1 c z = Rises c z.0 × (In c → AtomIn z.1.1)
@@ -179,8 +170,7 @@ operand_of_rises line e (Number ty) c d r =
 operand_of_rises line e other c d r = led_refused (O1 c)
 
 operand_rises : (line : ℕ) (e : Tree) (c : Context) → Solid c → Written e → Led (O1 c) (switch_operand line e c)
-operand_rises line e c h w =
-    led_after (O1 c) (valued e (found e Void (opened e c))) (λ d q. operand_of_rises line e (operand d.1.typed.type) c d (full_value e Void c d h w tt q))
+operand_rises line e c h w = search (arith, led_after, operand_of_rises, full_value)
 
 start_rises : (line : ℕ) (tree : Tree) (c : Context) → Solid c → Written tree → Led (Rises c) (for_start line tree c)
 unfolding Written AllWritten
@@ -295,11 +285,7 @@ mutual
 -- functions
 
 pub begun_rises : (line : ℕ) (addressed : List ℕ) (c : Context) → Solid c → Rises c (begun line addressed c)
-begun_rises line addressed c h = with_code c _ (record {
-  solid = record { made = h.made; names = h.names; list = h.list; memory = tt; result = tt; statics = h.statics; functions = h.functions };
-  more = extends_refl (K c);
-  kinds = kinds_refl c;
-}) (λ g. tt) (λ g. tt) (λ g. g)
+begun_rises line addressed c h = search (arith, with_code, extends_refl, kinds_refl)
 
 answer_whole : (k : Known) (type : PlainType) → Whole k type → Whole k (answer_of type)
 answer_whole k (Function answer params) h = h.0
@@ -322,21 +308,7 @@ walked_in [] x h k = (k, tt)
 walked_in (y ∷ xs) x h k = (h.0, walked_in xs x h.1 k)
 
 body_ended_rises : (line : ℕ) (name : List ℕ) (type : PlainType) (end : ℕ) (c : Context) → Solid c → In c → Led (Rises c) (body_ended line name type end c)
-body_ended_rises line name type end c h g =
-    let d = emit end (Return (last_answer c.running.answer)) c in
-    let done = in_emit end (Return (last_answer c.running.answer)) c g (last_in c.running.answer, tt) in
-    let total = d.length + Rattle.std.specs.List.sum_by Rattle.elaboration.specs.Externals.piece_length d.code.pieces in
-    let z : Context = record d {
-      scopes = record { file = d.scopes.file; inner = [] };
-      length = total;
-      walked = d.walked ++ (record { name = name; params = params_of type; running = d.running; code = d.code }) ∷ [];
-    } in
-    led_unless (Rises c) (nat_lt 268435456 total) ProgramTooLong line
-    (λ x. led_ok (Rises c) (with_code c z (record {
-      solid = record { made = h.made; names = record { file = h.names.file; inner = tt }; list = h.list; memory = h.memory; result = h.result; statics = h.statics; functions = walked_push c.walked _ h.functions h.memory };
-      more = extends_refl (K c);
-      kinds = record { made = λ i u e. e; sorts = λ ks. record { names = record { file = ks.names.file; inner = tt }; list = ks.list; bodies = ks.bodies } };
-    }) (λ k. done) (λ k. k) (λ k. walked_in c.walked (record { name = name; params = params_of type; running = d.running; code = d.code }) k done)))
+body_ended_rises line name type end c h g = search (arith, in_emit, last_in, led_unless, led_ok, with_code, walked_push, extends_refl, walked_in)
 
 body_rises : (line : ℕ) (name : List ℕ) (type : PlainType) (tree : Tree) (c : Context) → Solid c → In c → Written tree → Led (Rises c) (body line name type tree c)
 unfolding Written AllWritten
@@ -444,8 +416,7 @@ literals_all (l ∷ ls) h =
     head size more total s e h = let f : block_size (size * 1) ≤ 67108864 = omega (arith, e, h) in subst (λ (k : ℕ). block_size k ≤ 67108864) s f
 
 literals_small : (c : Context) (vs : List Variable) (ls : List (List ℕ)) → bytes_in (map (variable_static c) vs ++ map literal_static ls) ≤ 67108864 → bytes_in (map literal_static ls) ≤ 67108864
-literals_small c vs ls h =
-    let e = sum_by-append (λ (static : Static). block_size static.layout.size) (map (variable_static c) vs) (map literal_static ls) in omega (arith, e, h)
+literals_small c vs ls h = search (arith, sum_by-append)
 
 each_mems : (c : Context) (xs : List Walked) → WalkedLaid xs → (k : ℕ) (func : Func) → slice_get (map (function_of c) xs) k ≡ Some func → All (λ (m : Mem). IsLayoutOfType m.layout) func.mems
 each_mems c [] h k func e = cc
@@ -522,6 +493,4 @@ each_ranges c (x ∷ xs) h zero func e = let same : function_of c x ≡ func = c
 each_ranges c (x ∷ xs) h (suc i) func e = each_ranges c xs h.1 i func e
 
 pub core_ranges : (unit : Trees) (core : Core) (tags : TagTable) → AreWritten unit → elaborated unit ≡ Ok (core, tags) → EachFunc core HasRanges
-core_ranges unit core tags w q =
-    let b = core_behind unit core tags q in
-    subst (λ (x : Core). EachFunc x HasRanges) b.made (λ i func e. each_ranges b.context b.context.walked (walked_numbers unit b.context w b.is) i func e)
+core_ranges unit core tags w q = search (arith, core_behind, each_ranges, walked_numbers)

@@ -161,12 +161,10 @@ max_right : (a b : ℕ) → a < max b (a + 1)
 max_right a b = omega arith
 
 pub with_integer_grew : (line : ℕ) (kind : ℕ → StmKind) (c : Context) → Grew (world c) (world (integer_by line kind c).0)
-with_integer_grew line kind c =
-    record { locals = λ k r e. e; mems = omega arith; integers = max_left c.code.most_integers (c.code.integers + 1); pointers = omega arith; variables = omega arith; literals = omega arith; formats = λ k f e. e; calls = λ j y e. e; file = λ name t i e. e }
+with_integer_grew line kind c = search (arith, max_left)
 
 pub with_pointer_grew : (line : ℕ) (kind : ℕ → StmKind) (c : Context) → Grew (world c) (world (pointer_by line kind c).0)
-with_pointer_grew line kind c =
-    record { locals = λ k r e. e; mems = omega arith; integers = omega arith; pointers = max_left c.code.most_pointers (c.code.pointers + 1); variables = omega arith; literals = omega arith; formats = λ k f e. e; calls = λ j y e. e; file = λ name t i e. e }
+with_pointer_grew line kind c = search (arith, max_left)
 
 pub integer_there : (line : ℕ) (kind : ℕ → StmKind) (c : Context) → IsRegister (world (integer_by line kind c).0) Integer (integer_temporary c.code.integers)
 integer_there line kind c = is_integer c.code.integers refl (max_right c.code.integers c.code.most_integers) refl
@@ -221,9 +219,7 @@ goes_told n c m = search (arith, more_keeps, pieces_grew)
 
 -- code that is forgotten again
 pub goes_forgotten : (b c : Context) → Goes b c → Goes b (record c { code = b.code })
-goes_forgotten b c g =
-    let grew : Grew (world b) (world (record c { code = b.code })) = record { locals = g.grew.locals; mems = g.grew.mems; integers = omega arith; pointers = omega arith; variables = g.grew.variables; literals = g.grew.literals; formats = g.grew.formats; calls = g.grew.calls; file = g.grew.file } in
-    record { grew = grew; more = g.more; kept = record { line = g.kept.line; answer = g.kept.answer; addressed = g.kept.addressed; declared = g.kept.declared; params = g.kept.params; walked = g.kept.walked }; fits = λ answer h. pieces_grew answer (world b) (world (record c { code = b.code })) b.code.pieces grew h }
+goes_forgotten b c g = search (arith, pieces_grew)
 
 -- the sorts of what conversions and operators give
 
@@ -310,8 +306,7 @@ reads_place line at tags (types.Pointer target) (Memory a) c typed l h e =
     let g = gives_pointer line (λ t. Loadp t a) c l (λ v t grew there. (there, holds_grew (world c) v Pointer a grew h)) in
     subst (λ (x : PlainTyped). Brings c x.type (pointer_by line (λ t. Loadp t a) c) × (x.is_place ≡ false)) (ok_same _ typed e) (record { goes = g.goes; held = g.holds }, refl)
 reads_place line at tags (types.Array element length) (Local r) c typed l h e = let clash : false ≡ true = h.0 in cc
-reads_place line at tags (types.Array element length) (Memory a) c typed l h e =
-    subst (λ (x : PlainTyped). Brings c x.type (c, a) × (x.is_place ≡ false)) (ok_same _ typed e) (record { goes = goes_refl c; held = h }, refl)
+reads_place line at tags (types.Array element length) (Memory a) c typed l h e = search (arith, false, ok_same, goes_refl)
 reads_place line at tags (types.Struct tag) spot c typed l h e = no_record _ (has_no_size tags (types.Struct tag)) _ _ typed e
 reads_place line at tags (types.Union tag) spot c typed l h e = no_record _ (has_no_size tags (types.Union tag)) _ _ typed e
 reads_place line at tags (types.Function answer params) spot c typed l h e = never _ _ typed e
@@ -373,14 +368,10 @@ gives_here c sort a h = record { goes = goes_refl c; holds = h }
 pub integer_converted : (line : ℕ) (ty source : IntType) (a : Atom) (c : Context) → 1 ≤ line → Holds (world c) Integer a → Gives c Integer (convert_integer line ty source a c)
 unfolding convert_integer
 integer_converted line ty source (atom.Int k) c l h = record { goes = goes_refl c; holds = refl }
-integer_converted line ty source (atom.Reg r) c l h =
-    gives_cond c Integer (holds_all (kind_of ty) (kind_of source)) (c, atom.Reg r) _ (gives_here c Integer (atom.Reg r) h) (gives_integer line (λ t. Conv (kind_of ty) t (atom.Reg r)) c l (λ v t g i. (i, holds_grew (world c) v Integer (atom.Reg r) g h)))
-integer_converted line ty source atom.Null c l h =
-    gives_cond c Integer (holds_all (kind_of ty) (kind_of source)) (c, atom.Null) _ (gives_here c Integer atom.Null h) (gives_integer line (λ t. Conv (kind_of ty) t atom.Null) c l (λ v t g i. (i, holds_grew (world c) v Integer atom.Null g h)))
-integer_converted line ty source (atom.Static s) c l h =
-    gives_cond c Integer (holds_all (kind_of ty) (kind_of source)) (c, atom.Static s) _ (gives_here c Integer (atom.Static s) h) (gives_integer line (λ t. Conv (kind_of ty) t (atom.Static s)) c l (λ v t g i. (i, holds_grew (world c) v Integer (atom.Static s) g h)))
-integer_converted line ty source (atom.Mem m) c l h =
-    gives_cond c Integer (holds_all (kind_of ty) (kind_of source)) (c, atom.Mem m) _ (gives_here c Integer (atom.Mem m) h) (gives_integer line (λ t. Conv (kind_of ty) t (atom.Mem m)) c l (λ v t g i. (i, holds_grew (world c) v Integer (atom.Mem m) g h)))
+integer_converted line ty source (atom.Reg r) c l h = search (arith, gives_cond, gives_here, gives_integer, holds_grew)
+integer_converted line ty source atom.Null c l h = search (arith, gives_cond, gives_here, gives_integer, holds_grew)
+integer_converted line ty source (atom.Static s) c l h = search (arith, gives_cond, gives_here, gives_integer, holds_grew)
+integer_converted line ty source (atom.Mem m) c l h = search (arith, gives_cond, gives_here, gives_integer, holds_grew)
 
 -- a value of the second sort of operand converts to the first
 abbrev pub Converting : Operand → Operand → Type 0
@@ -463,8 +454,7 @@ pub makes_integer : (c : Context) (typed : PlainTyped) (ty : IntType) (d : Conte
 makes_integer c typed ty d p e g = record { value = p; goes = g.goes; held = subst (λ (t : PlainType). Held (world d.0) t d.1) (sym e) g.holds }
 
 pub makes_pointer : (c : Context) (type target : PlainType) (typed : PlainTyped) (d : Context × Atom) → operand type ≡ PointerTo target → value type ≡ typed → Gives c Pointer d → Makes c typed d
-makes_pointer c type target typed d o e g =
-    subst (λ (t : PlainTyped). Makes c t d) e (record { value = refl; goes = g.goes; held = subst (λ (q : Operand). HeldAs (world d.0) q d.1) (sym o) g.holds })
+makes_pointer c type target typed d o e g = search arith
 
 -- integers
 

@@ -31,8 +31,7 @@ stays_out c d x y s = search (arith, left_safe, tail_depth)
 
 -- a statement in a scope of its own
 scoped_walks : (a : Around) (c : Context) (inside : Context → Checked Context) → Safe c.scopes → (Safe (entered c).scopes → Led (Walks a (entered c)) (inside (entered c))) → Led (Walks a c) (scoped c inside)
-scoped_walks a c inside s h =
-    led_after (Walks a c) (inside (entered c)) (λ d e. led_ok (Walks a c) (walks_scoped a c d (h (entered_safe c.scopes s) d e)))
+scoped_walks a c inside s h = search (arith, led_after, led_ok, walks_scoped, entered_safe)
 
 -- where the labels of a switch are those before
 walks_same : (a : Around) (c d : Context) → Part (ways a) a.delays c.code d.code [] → ((l : ℕ) → HasLabel l d.running → HasLabel l c.running) → Stays c d → Walks a c d
@@ -117,9 +116,7 @@ loop_part a end next t g w = subst (Part (way_on end a.delays ∷ way_on next a.
 
 loop_code : (line l : ℕ) (start i a b c x g h : List Piece) → x ≡ start ++ i → g ≡ (x ++ (Here l ∷ [])) ++ a → h ≡ g ++ b
     → ((h ++ (Here (l + 2) ∷ c)) ++ (Does (stm_at line (Loop l)) ∷ [])) ++ (Here (l + 1) ∷ []) ≡ start ++ (i ++ loop_rest line l a b c)
-loop_code line l start i a b c x g h ex eg eh =
-    ap (λ (z : List Piece). ((z ++ (Here (l + 2) ∷ c)) ++ (Does (stm_at line (Loop l)) ∷ [])) ++ (Here (l + 1) ∷ []))
-    (eh ∙ ap (λ (z : List Piece). z ++ b) (eg ∙ ap (λ (z : List Piece). (z ++ (Here l ∷ [])) ++ a) ex)) ∙ simp append_assoc
+loop_code line l start i a b c x g h ex eg eh = search (arith, stm_at, append_assoc)
 
 for_walks : (a : Around) (line : ℕ) (c x t g h : Context) → Fits c.code.labels a → Passes (entered (with_labels 3 c)) x → Tests (c.code.labels + 1) (here c.code.labels x) t
     → Passes (apart t) g → Walks (in_loop (c.code.labels + 1) (c.code.labels + 2) a) (with_pieces t.code.pieces g) h
@@ -154,8 +151,7 @@ while_walks a line c t g fit s test w =
 
 do_code : (line l : ℕ) (start b c g t : List Piece) → g ≡ (start ++ (Here l ∷ [])) ++ b → t ≡ (g ++ (Here (l + 2) ∷ [])) ++ c
     → (t ++ (Does (stm_at line (Loop l)) ∷ [])) ++ (Here (l + 1) ∷ []) ≡ start ++ looped_code line l ((b ++ (Here (l + 2) ∷ [])) ++ c)
-do_code line l start b c g t eg et =
-    ap (λ (z : List Piece). (z ++ (Does (stm_at line (Loop l)) ∷ [])) ++ (Here (l + 1) ∷ [])) (et ∙ ap (λ (z : List Piece). (z ++ (Here (l + 2) ∷ [])) ++ c) eg) ∙ simp append_assoc
+do_code line l start b c g t eg et = search (arith, stm_at, append_assoc)
 
 do_walks : (a : Around) (line : ℕ) (c g t : Context) → Fits c.code.labels a → Walks (in_loop (c.code.labels + 1) (c.code.labels + 2) a) (here c.code.labels (entered (with_labels 3 c))) g
     → Tests (c.code.labels + 1) (here (c.code.labels + 2) g) t → Walks a c (left (looped line c.code.labels (c.code.labels + 1) t))
@@ -316,9 +312,7 @@ break_facts (Some z) y n l early out e is =
     subst (Leave_to (way_on z.0 z.1 ∷ ways_of y) n l) same (record { is = inl refl; early = early.0; outside = out; stands = λ m end lead. lead.0 })
 
 only_facts : (y : Option (ℕ × ℕ)) (n l : ℕ) → AreEarlier l (ways_of y) → IsOutside n y → (e : ℕ × ℕ) → y ≡ Some e → Leave_to (ways_of y) n l e
-only_facts y n l early out e is =
-    let f = break_facts y None n l (subst (AreEarlier l) (sym (append-nil (ways_of y))) early) out e is in
-    subst (λ (ws : List Way). Leave_to ws n l e) (append-nil (ways_of y)) f
+only_facts y n l early out e is = search (arith, break_facts, append-nil, ways_of)
 
 continue_facts : (x y : Option (ℕ × ℕ)) (n l : ℕ) → AreEarlier l (ways_of x ++ ways_of y) → IsOutside n y → (e : ℕ × ℕ) → y ≡ Some e → Leave_to (ways_of x ++ ways_of y) n l e
 continue_facts None y n l early out e is = only_facts y n l early out e is
@@ -517,25 +511,10 @@ record Inner (name : List ℕ) (index : ℕ) (c : Context) : Type 0 where
   size : c.length ≡ sum_by walked_length c.walked
 
 inner_stays : (name : List ℕ) (index : ℕ) (b c : Context) → Inner name index b → Stays b c → Inner name index c
-inner_stays name index b c s h = record {
-  safe = h.safe;
-  params = h.params s.params;
-  complete = subst AreComplete (sym h.walked) s.complete;
-  counted = h.counted s.counted;
-  named = h.tied.named s.named;
-  declared = s.declared;
-  there = h.tied.kept index s.declared s.there;
-  defined = s.defined ∙ ap (λ (ws : List Walked). Some (length ws)) (sym h.walked);
-  name_is = s.name_is;
-  size = h.length ∙ s.size ∙ ap (sum_by walked_length) (sym h.walked);
-}
+inner_stays name index b c s h = search arith
 
 not_defined : (d : Declared) → is_some d.defined ≡ false → d.defined ≡ None
-not_defined d = by d.defined
-  where
-    by : (o : Option ℕ) → is_some o ≡ false → o ≡ None
-    by None e = refl
-    by (Some k) e = absurd (true≢false e)
+not_defined d = grind (arith, false, true)
 
 inner_begun : (name : List ℕ) (index : ℕ) (type t : PlainType) (c : Context) → Sane c → named_in name c.scopes.file ≡ Some (n.Function t index) → is_defined (slice_get c.functions index) ≡ false → Inner name index (body_begun index type c)
 inner_begun name index type t c s there undefined =

@@ -91,11 +91,7 @@ answer_held w answer (types.Pointer target) a e n h = subst (λ (o : Option Sort
 answer_held w answer other a e n h = absurd (n refl)
 
 never_neither : (type : PlainType) (e : Rattle.c_decls.specs.Typed.PlainTyped) → unconverted type e ≡ None → operand type ≡ Neither → ⊥
-never_neither type e u o = by (operand type) o u
-  where
-    by : (s : Operand) → s ≡ Neither → Rattle.c_decls.specs.PlaceRules.unconverted_types e s (operand e.type) ≡ None → ⊥
-    by (Number ty) k u = cc
-    by other k u = cc
+never_neither type e u o = grind arith
 
 return_of_runs : (answer : Option Sort) (line delays : ℕ) (e : Tree) (type : PlainType) (c z : Context) → 1 ≤ line → Spoken c.scopes e → Fine c → result_sort type ≡ answer → return_of line delays e type c ≡ Ok z → Runs answer c z
 return_of_runs answer line delays e type c z l p g s q =

@@ -1,5 +1,5 @@
 -- Initializers and names go in step with the walk over addresses.
-use Rattle.std.proofs.Common.{◌≡◌, ◌+◌, ℕ, pos, Bool, true, false, not, cond, length, min, List, [], ◌∷◌, Option, Some, None, Ok, refl, subst, ◌||◌, ◌&&◌, zero, suc, is_some, unwrap_or, bytes_eq, ◌++◌, sym, ap, ◌∙◌}
+use Rattle.std.proofs.Common.{◌≡◌, ◌+◌, ℕ, pos, Bool, true, false, not, cond, length, min, List, [], ◌∷◌, Option, Some, None, Ok, refl, subst, ◌||◌, ◌&&◌, zero, suc, is_some, unwrap_or, bytes_eq, ◌++◌, sym, ap, ◌∙◌, arith}
 use Rattle.std.proofs.lemmas.Slice.Eq.{bytes_eq-Decides}
 use Rattle.std.proofs.lemmas.Bool.{and_parts}
 use Rattle.std.specs.Option.{option_or}
@@ -66,11 +66,7 @@ fill_scalar_went e line type offset b d (InStatic start) x q =
     reached_after (Went e b) (static_scalar line type offset start d.1) (λ filled h. reached_ok (Went e b) (x, full_keeps e type b d q))
 
 scalar_went : (e : Tree) (line : ℕ) (type : PlainType) (offset : ℕ) (t : Target) (b : Context) → Formed e → Reached (Went e b) (scalar e line type offset t b)
-scalar_went e line type offset t b g =
-    let begun = opened e b in
-    reached_after (Went e b) (valued e (found e type begun))
-    (λ d h. reached_barred (Went e b) (unconverted type d.1.typed) line
-    (fill_scalar_went e line type offset b d t (valued_calm e type begun d g h) h))
+scalar_went e line type offset t b g = search (arith, reached_after, reached_barred, fill_scalar_went, valued_calm)
 
 fill_record_went : (e : Tree) (line : ℕ) (type : PlainType) (offset : ℕ) (b : Context) (d : Context × Found) (t : Target) → Went e b d.0 → Reached (Went e b) (fill_record e line type offset d t)
 fill_record_went e line type offset b d (InMemory at mem) x =
@@ -160,11 +156,7 @@ IsSpot (Memory (atom.Mem mem)) = Unit {0}
 IsSpot spot = ⊥
 
 pub local_spot : (name : List ℕ) (type : PlainType) (c : Context) → IsSpot (with_local name type c).1
-local_spot name type c = by (next_is_memory type c)
-  where
-    by : (b : Bool) → IsSpot (local_in b name type c).1
-    by true = tt
-    by false = tt
+local_spot name type c = grind (arith, true, false)
 
 maybe_calm : (init : Tree) → Calm init → Calm (Node f.MaybeInit (init ▹ none))
 unfolding Still AllStill shape
@@ -213,14 +205,7 @@ inits_spoken line name type inits t c z h i w g q =
 -- a name of a scope that has it not yet
 
 unequal : (x y : List ℕ) → bytes_eq x y ≡ false → bytes_eq y x ≡ false
-unequal x y e = by (bytes_eq y x) refl
-  where
-    by : (b : Bool) → bytes_eq y x ≡ b → bytes_eq y x ≡ false
-    by false q = q
-    by true q =
-        let same : y ≡ x = (bytes_eq-Decides y x).0 q in
-        let clash : true ≡ false = sym q ∙ ap (λ (l : List ℕ). bytes_eq y l) (sym same) ∙ ap (λ (l : List ℕ). bytes_eq l y) same ∙ e in
-        cc
+unequal x y e = grind (arith, bytes_eq, false, true, bytes_eq-Decides)
 
 or_none : (o : Option PlainNamed) → option_or o None ≡ o
 or_none None = refl
@@ -229,13 +214,10 @@ or_none (Some v) = refl
 -- what is declaration under the name, and under another
 module _ (name : List ℕ) (v : PlainNamed) where
   here_named : (t : Table) → named_in name t ≡ None → (x : List ℕ) → bytes_eq x name ≡ true → named_in x (t ++ (name, v) ∷ []) ≡ Some v
-  here_named t e x q =
-      let same : x ≡ name = (bytes_eq-Decides x name).0 q in
-      named_push x name v t ∙ ap (λ (o : Option PlainNamed). option_or o (cond (bytes_eq x name) (Some v) None)) (ap (λ (l : List ℕ). named_in l t) same ∙ e) ∙ ap (λ (b : Bool). cond b (Some v) None) q
+  here_named t e x q = search (arith, bytes_eq-Decides, named_push, bytes_eq)
 
   else_named : (t : Table) (x : List ℕ) → bytes_eq x name ≡ false → named_in x (t ++ (name, v) ∷ []) ≡ named_in x t
-  else_named t x q =
-      named_push x name v t ∙ ap (λ (b : Bool). option_or (named_in x t) (cond b (Some v) None)) q ∙ or_none (named_in x t)
+  else_named t x q = search (arith, named_push, or_none)
 
   here_found : (file : Table) (inner : List Table) → named_in name (first_or file inner) ≡ None → (x : List ℕ) → bytes_eq x name ≡ true → declaration (with_name_in file inner name v) x ≡ Some v
   here_found file [] e x q = here_named file e x q
@@ -270,31 +252,14 @@ drops_same zero file = refl
 drops_same (suc k) file = drops_same k file
 
 pushed_fewer : (name : List ℕ) (v : PlainNamed) (t : Table) → is_register (Some v) ≡ false → (x : List ℕ) → is_register (named_in x (t ++ (name, v) ∷ [])) ≡ true → is_register (named_in x t) ≡ true
-pushed_fewer name v t e x r = by (named_in x t) (bytes_eq x name) (sym (ap is_register (named_push x name v t)) ∙ r)
-  where
-    by : (o : Option PlainNamed) (b : Bool) → is_register (option_or o (cond b (Some v) None)) ≡ true → is_register o ≡ true
-    by (Some w) b q = q
-    by None true q = let clash : true ≡ false = sym q ∙ e in cc
-    by None false q = q
+pushed_fewer name v t e x r = grind (arith, bytes_eq, named_push, true, false)
 
 -- a name in an inner scope, and one that stands for no register
 pub inner_outside : (s : ScopeList) (name : List ℕ) (v : PlainNamed) → HasScope s.inner → (k : ℕ) → Fewer (drops k (scopes.left s)) (drops k (scopes.left (with_name s name v)))
-inner_outside s name v h k = by s.inner refl h
-  where
-    by : (inner : List Table) → s.inner ≡ inner → HasScope inner → Fewer (drops k (scopes.left s)) (drops k (scopes.left (with_name s name v)))
-    by [] e h = absurd h
-    by (t ∷ ts) e h =
-        subst (λ (i : List Table). Fewer (drops k (record { file = s.file; inner = scopes.tail i })) (drops k (scopes.left (with_name_in s.file i name v)))) (sym e) (λ x r. r)
+inner_outside s name v h k = grind arith
 
 pub plain_outside : (s : ScopeList) (name : List ℕ) (v : PlainNamed) → is_register (Some v) ≡ false → (k : ℕ) → Fewer (drops k (scopes.left s)) (drops k (scopes.left (with_name s name v)))
-plain_outside s name v p k = by s.inner refl
-  where
-    by : (inner : List Table) → s.inner ≡ inner → Fewer (drops k (scopes.left s)) (drops k (scopes.left (with_name s name v)))
-    by [] e =
-        subst (λ (i : List Table). Fewer (drops k (record { file = s.file; inner = scopes.tail i })) (drops k (scopes.left (with_name_in s.file i name v)))) (sym e)
-        (λ x r. ap (λ (y : ScopeList). is_register (declaration y x)) (drops_same k s.file) ∙ pushed_fewer name v s.file p x (sym (ap (λ (y : ScopeList). is_register (declaration y x)) (drops_same k (s.file ++ (name, v) ∷ []))) ∙ r))
-    by (t ∷ ts) e =
-        subst (λ (i : List Table). Fewer (drops k (record { file = s.file; inner = scopes.tail i })) (drops k (scopes.left (with_name_in s.file i name v)))) (sym e) (λ x r. r)
+plain_outside s name v p k = grind (arith, drops_same, pushed_fewer)
 
 named_depth : (file : Table) (inner : List Table) (name : List ℕ) (v : PlainNamed) → length (with_name_in file inner name v).inner ≡ length inner
 named_depth file [] name v = refl
@@ -358,11 +323,7 @@ IsNew None c = Unit {0}
 IsNew (Some name) c = named_in name (innermost c.scopes) ≡ None
 
 not_register : (type : PlainType) (c : Context) (b : Bool) → not (is_scalar type) || b ≡ false → b ≡ false
-not_register type c b e = by (not (is_scalar type)) e
-  where
-    by : (x : Bool) → x || b ≡ false → b ≡ false
-    by true e = cc
-    by false e = e
+not_register type c b e = grind (arith, not, false, true)
 
 one_local : (name : Option (List ℕ)) (v : PlainNamed) (t : Taken) (c d : Context) → d.scopes ≡ c.scopes → d.running.declared ≡ c.running.declared → d.running.addressed ≡ c.running.addressed → IsNew name c → HasScope c.scopes.inner
     → (is_register (Some v) ≡ true → among c.running.declared c.running.addressed ≡ false) → Follows t c → Stepped t c (walk.with_local name t) (counted (with_named name v d))
@@ -487,8 +448,7 @@ module _ (parts : Trees) (t : Taken) where
 module _ (t : Taken) where
   pub pointer_taken : (consts line : ℕ) (declarator : Tree) → SameNames (taken declarator t) (taken (Node (f.Pointer consts) (At line ▹ declarator ▹ none)) t)
   unfolding taken all_taken left shape is_scope
-  pointer_taken consts line declarator =
-      same_of (taken declarator t) _ (ap (λ (ps : List Place). all_taken (declarator ▹ none) ps t) (behind_stars consts))
+  pointer_taken consts line declarator = search (arith, same_of, behind_stars)
 
   pub direct_taken : (base : Tree) (suffixes : Trees) → SameNames (each suffixes (taken base t)) (taken (Node f.Direct (base ▹ Node f.Suffixes suffixes ▹ none)) t)
   unfolding taken all_taken left shape is_scope
@@ -511,10 +471,4 @@ local_names (Some name) u v h =
 
 pub param_taken : (line : ℕ) (words declarator : Tree) (t : Taken) → name_of words ≡ None → SameNames (taken_local (name_of declarator) (taken declarator (taken words t))) (taken (Node f.Param (At line ▹ words ▹ declarator ▹ none)) t)
 unfolding taken all_taken left shape is_scope name_among
-param_taken line words declarator t e =
-    let inner : Taken = taken declarator (taken words t) in
-    let back : Taken = record inner { typedef = t.typedef } in
-    let named : first_name (name_of words) (first_name (name_of declarator) None) ≡ name_of declarator = ap (λ (o : Option (List ℕ)). first_name o (first_name (name_of declarator) None)) e ∙ first_none (name_of declarator) in
-    same_trans (taken_local (name_of declarator) inner) (taken_local (name_of declarator) back) (taken_local (first_name (name_of words) (first_name (name_of declarator) None)) back)
-    (local_names (name_of declarator) inner back (refl, refl))
-    (same_of (taken_local (name_of declarator) back) (taken_local (first_name (name_of words) (first_name (name_of declarator) None)) back) (ap (λ (o : Option (List ℕ)). taken_local o back) named))
+param_taken line words declarator t e = search (arith, first_none, same_trans, local_names, same_of)

@@ -1,5 +1,5 @@
 -- Tags and the sorts by which types name them.
-use Rattle.std.proofs.Common.{◌≡◌, ℕ, true, false, List, [], ◌∷◌, ◌++◌, length, slice_get, Option, Some, None, refl, ◌∙◌, subst, ⊎_elim, ◌*◌, zero, Bool, cond, nat_lt, Ok, sym, ap}
+use Rattle.std.proofs.Common.{◌≡◌, ℕ, true, false, List, [], ◌∷◌, ◌++◌, length, slice_get, Option, Some, None, refl, ◌∙◌, subst, ⊎_elim, ◌*◌, zero, Bool, cond, nat_lt, Ok, sym, ap, arith}
 use Rattle.std.specs.Option.{option_or}
 use Rattle.core_soundness.proofs.Words.Trees.{name_of, Tree, Trees, Leaf, At, Node, none, ◌▹◌, RecordSort}
 use Rattle.core_soundness.proofs.Words.Types.{TagTable, size_in, CompletedTag, PlainType, Array, Struct, Union, Void, Int, TagInfo, named, called, call, no_function, line_of, Found, answered, wanted, changing, one, two, joined, string, first_literal, callee, in_new_scope, typed, values, typename, layers, suffix_layers, suffix_layer, param_types, param_type, unused, cast_operand, PlainNamed, held_place, element, dot, arrow, stepped, size, cast, choice, assigned, changed, behind_comma, Checked, ScopeList, Table, named_in, found_from, found, innermost, with_name, with_name_in, first_or, tag_name, record_type, is_union, Context, Layer, ArrayOf, FunctionOf, has, is_void_word, word_type, same_sort, tag_named, enum_named, type_named, special_type, array_of, layered, layered_before, with_layers, specs_type, array_length, with_param_layers, adjusted, with_param, declared_param, with_new_tag, address, unary, binary, is_function, PlainTyped, read, is_void, wanted_value, LeftOut, TypeTooLarge, DeclaredTwice, Incomplete}
@@ -63,11 +63,7 @@ new_sorted r.Union made name = (record { is_union = true; name = name }, get_las
 -- words
 
 pub word_sorted : (made : List TagInfo) (words : Trees) → SortedType made (word_type words)
-word_sorted made words = by (has is_void_word words) _
-  where
-    by : (t : Bool) (ty : _) → SortedType made (cond t Void (Int ty))
-    by true ty = tt
-    by false ty = tt
+word_sorted made words = grind (arith, true, false)
 
 -- tags and names of types
 
@@ -127,8 +123,7 @@ module _ (made : List TagInfo) where
   pub init_layers_sorted : (tags : TagTable) (ls : List Layer) (inits : Trees) (type : PlainType) → SortedType made type → Led (SortedType made) (with_init_layers tags ls inits type)
   init_layers_sorted tags [] inits type h = led_ok (SortedType made) h
   init_layers_sorted tags (ArrayOf line None ∷ []) inits type h = layered_sorted tags (ArrayOf line (given_length type inits)) type h
-  init_layers_sorted tags (ArrayOf line None ∷ (next ∷ ls)) inits type h =
-      led_after (SortedType made) (layered_before tags (ArrayOf line None) (next ∷ ls) type) (λ inner q. init_layers_sorted tags (next ∷ ls) inits inner (before_sorted tags (ArrayOf line None) (next ∷ ls) type h inner q))
+  init_layers_sorted tags (ArrayOf line None ∷ (next ∷ ls)) inits type h = search (arith, led_after)
   init_layers_sorted tags (layer ∷ ls) inits type h =
       led_after (SortedType made) (layered_before tags layer ls type) (λ inner q. init_layers_sorted tags ls inits inner (before_sorted tags layer ls type h inner q))
 
@@ -181,11 +176,8 @@ module _ (b : Context) where
       reached_then (Leads b) (Leads b) g (λ d k. reached_then (Leads b) (Leads b) (h d.0 k) (λ e q. answered_leads e.0 (rule e.0.tags d.1 e.1) q))
 
   callee_leads : (e : Tree) (c : Context) (answer : Found) → Leads b c → Reached (Leads b) answer → Reached (Leads b) (callee e c answer)
-  callee_leads (Node f.Name (At line ▹ Leaf (w.Name name) ▹ none)) c answer g h =
-      reached_after (Leads b) (called line c.tags (found c.scopes name)) (λ function k. reached_ok (Leads b) g)
-  callee_leads e c answer g h =
-      reached_then (Leads b) (Leads b) h
-      (λ d k. reached_after (Leads b) (no_function (line_of e) d.0.tags (Ok d.1)) (λ function q. reached_ok (Leads b) k))
+  callee_leads (Node f.Name (At line ▹ Leaf (w.Name name) ▹ none)) c answer g h = search (arith, reached_after, reached_ok)
+  callee_leads e c answer g h = search (arith, reached_then, reached_after, reached_ok)
 
 -- tags and the names of types
 
@@ -269,8 +261,7 @@ param_inside line c (Some name) type h =
     }))
 
 declared_inside : (line : ℕ) (c : Context) (name : Option (List ℕ)) (type : PlainType) → HasScope c.scopes.inner → Reached (Inside c) (declared_param line c name type)
-declared_inside line c name type h =
-    reached_unless (Inside c) (is_void type) Incomplete line (reached_unless (Inside c) _ LeftOut line (param_inside line c name type h))
+declared_inside line c name type h = search (arith, reached_unless, param_inside)
 
 mutual
   unfolding typed values typename layers suffix_layers suffix_layer param_types param_type
@@ -389,9 +380,7 @@ pub special_after : (line : ℕ) (tree : Tree) (c : Context) → Reached (After 
 special_after line tree c d e = (special_leads line tree c d e).more
 
 pub wanted_after : (b : Context) (tree : Tree) (x : Found) → Reached (After b) x → Reached (After b) (wanted tree x)
-wanted_after b tree x g =
-    reached_then (After b) (After b) g
-    (λ d h. reached_after (After b) (wanted_value (line_of tree) d.0.tags d.1) (λ e k. reached_ok (After b) h))
+wanted_after b tree x g = search (arith, reached_then, reached_after, reached_ok)
 
 -- each tag that was completed is of the sort that it was made of, and so are its members and all types that have names
 
@@ -452,5 +441,4 @@ leads_kinds c d l p q = record {
 
 -- the same scopes and tags
 pub same_kinds : (c d : TextContext) → asked d ≡ asked c → d.params ≡ c.params → Kinds c d
-same_kinds c d e p =
-    leads_kinds c d (subst (λ (x : names.Context). Leads (asked c) x) (sym e) (leads_refl (asked c))) p (ap (λ (x : names.Context). x.tags.completed) e)
+same_kinds c d e p = search (arith, leads_kinds, leads_refl)

@@ -1,5 +1,5 @@
 -- The walk over addresses: what it adds, and what it leaves.
-use Rattle.std.proofs.Common.{◌≡◌, ℕ, Bool, true, false, ◌||◌, nat_eq, List, [], ◌∷◌, Option, Some, None, refl, ◌≤◌, sym, ap, ◌∙◌, zero, suc, length, ⊎_elim}
+use Rattle.std.proofs.Common.{◌≡◌, ℕ, Bool, true, false, ◌||◌, nat_eq, List, [], ◌∷◌, Option, Some, None, refl, ◌≤◌, sym, ap, ◌∙◌, zero, suc, length, ⊎_elim, arith}
 use Rattle.std.specs.List.{list_any}
 use Rattle.std.specs.Option.{option_or}
 use Rattle.core_soundness.proofs.Words.Trees.{Form, shape, rows, some, commas, behind_commas, some_commas, here_rows, Place, name_among, is_scope, places, Tree, Trees, Node, none, ◌▹◌, count, Leaf, At}
@@ -139,9 +139,7 @@ parts_good numbers (tree ▹ rest) (place ∷ ps) t g =
 
 pub node_good : (numbers : List ℕ) (form : Form) (parts : Trees) (t : Taken) → Good numbers t (Node form parts) → PartsGood numbers t parts (places (shape form (count parts)))
 unfolding taken Written Formed
-node_good numbers form parts t g =
-    let ps : List Place = places (shape form (count parts)) in
-    parts_good numbers parts ps t (record { inside = λ k h. g.inside k (left_adds form parts t (all_taken parts ps t) k h); written = g.written.1; formed = g.formed.1 })
+node_good numbers form parts t g = search (arith, parts_good, left_adds)
 
 -- items
 pub items_of : (numbers : List ℕ) (parts : Trees) (t : Taken) → Good numbers t (Node f.Items parts) → ItemsGood numbers t parts
@@ -337,8 +335,7 @@ left_names f.FunctionSuffix parts before inner e h = (refl, h.1)
 left_names f.Declared parts before inner e h = cc
 left_names f.Param parts before inner e h = cc
 left_names f.Enumerator parts before inner e h = cc
-left_names (f.Unary u.Address) (line ▹ e1 ▹ none) before inner e h =
-    let a = address_names (plain_name e1) inner in (a.0 ∙ h.0, a.1 ∙ h.1)
+left_names (f.Unary u.Address) (line ▹ e1 ▹ none) before inner e h = search (arith, address_names)
 left_names _ parts before inner e h = (h.0, h.1)
 
 pub part_names : (scope : Bool) (before inner : Taken) → SameNames before inner → SameNames before (left_part scope before inner)
@@ -406,7 +403,4 @@ address_typedef (Some name) t = by (number_of t.names name)
 
 pub calm_address : (line : ℕ) (e : Tree) → Calm e → Calm (Node (f.Unary u.Address) (At line ▹ e ▹ none))
 unfolding Still AllStill taken all_taken left shape is_scope
-calm_address line e h = record {
-  still = (refl, tt, (tt, (h.still, tt)));
-  typedef = λ t. address_typedef (plain_name e) (taken e t) ∙ h.typedef t;
-}
+calm_address line e h = search (arith, address_typedef)

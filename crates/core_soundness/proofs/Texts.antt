@@ -88,8 +88,7 @@ have_weights (tokens ∷ texts) (unit ∷ units) h =
 have_weights texts units h = absurd h
 
 pub made_weighed : (texts : List (List Token)) (units : List Trees) (unit : Trees) → IsMadeOf texts units unit → IsSmall texts unit → weights unit ≤ 1610612736
-made_weighed texts units unit m s =
-    omega (arith, s.few, have_weights texts units m.trees, some_weighed (all_joined units) unit m.renamed)
+made_weighed texts units unit m s = search (arith, have_weights, some_weighed)
 
 -- a suffix leaves names short
 

@@ -53,9 +53,7 @@ module _ (ts : List CompletedTag) where
   row_of : (line : ℕ) (tags : TagTable) (element : PlainType) (o : Option Layout) (length : Option ℕ) → tags.completed ≡ ts → layout_in tags element ≡ o → Whole (known ts) element → LayerWhole (known ts) (ArrayOf line length) → Led (Whole (known ts)) (array_of line element (option_map (λ (l : Layout). l.size) o) length)
   row_of line tags element None length c q h g = led_refused (Whole (known ts))
   row_of line tags element (Some l) None c q h g = led_refused (Whole (known ts))
-  row_of line tags element (Some l) (Some m) c q h g =
-      led_unless (Whole (known ts)) (nat_lt 268435456 (m * l.size)) TypeTooLarge line
-      (λ t. led_ok (Whole (known ts)) (h, (l, ap (λ (x : List CompletedTag). layout_of (known x) element) (sym c) ∙ q, ltb-false 268435456 (m * l.size) t, g)))
+  row_of line tags element (Some l) (Some m) c q h g = search (arith, led_unless, led_ok, ltb-false)
 
   pub layered_whole : (tags : TagTable) (layer : Layer) (type : PlainType) → tags.completed ≡ ts → Whole (known ts) type → LayerWhole (known ts) layer → Led (Whole (known ts)) (layered tags layer type)
   layered_whole tags (names.PointerTo line) type c h g = led_unless (Whole (known ts)) (is_function type) LeftOut line (λ t. led_ok (Whole (known ts)) h)
@@ -63,8 +61,7 @@ module _ (ts : List CompletedTag) where
   layered_whole tags (FunctionOf line params) type c h g = led_unless (Whole (known ts)) _ LeftOut line (λ t. led_ok (Whole (known ts)) (h, g))
 
   pub before_whole : (tags : TagTable) (layer : Layer) (layers : List Layer) (type : PlainType) → tags.completed ≡ ts → Whole (known ts) type → LayerWhole (known ts) layer → Led (Whole (known ts)) (layered_before tags layer layers type)
-  before_whole tags (FunctionOf line params) (next ∷ layers) type c h g =
-      led_after (Whole (known ts)) (layered tags (FunctionOf line params) type) (λ t q. led_refused (Whole (known ts)))
+  before_whole tags (FunctionOf line params) (next ∷ layers) type c h g = search (arith, led_after, led_refused)
   before_whole tags (FunctionOf line params) [] type c h g = layered_whole tags (FunctionOf line params) type c h g
   before_whole tags (names.PointerTo line) layers type c h g = layered_whole tags (names.PointerTo line) type c h g
   before_whole tags (ArrayOf line length) layers type c h g = layered_whole tags (ArrayOf line length) type c h g
@@ -78,9 +75,7 @@ module _ (ts : List CompletedTag) where
   pub with_param_layers_whole : (tags : TagTable) (layers : List Layer) (type : PlainType) → tags.completed ≡ ts → Whole (known ts) type → LayersWhole (known ts) layers → Led (Whole (known ts)) (with_param_layers tags layers type)
   with_param_layers_whole tags [] type c h g = led_ok (Whole (known ts)) h
   with_param_layers_whole tags (ArrayOf line None ∷ []) type c h g = layered_whole tags (ArrayOf line (Some 1)) type c h (omega arith)
-  with_param_layers_whole tags (ArrayOf line None ∷ (next ∷ layers)) type c h g =
-      led_after (Whole (known ts)) (layered_before tags (ArrayOf line None) (next ∷ layers) type)
-      (λ inner q. with_param_layers_whole tags (next ∷ layers) inner c (before_whole tags (ArrayOf line None) (next ∷ layers) type c h g.0 inner q) g.1)
+  with_param_layers_whole tags (ArrayOf line None ∷ (next ∷ layers)) type c h g = search (arith, led_after)
   with_param_layers_whole tags (layer ∷ layers) type c h g =
       led_after (Whole (known ts)) (layered_before tags layer layers type)
       (λ inner q. with_param_layers_whole tags layers inner c (before_whole tags layer layers type c h g.0 inner q) g.1)
@@ -168,10 +163,7 @@ module _ (ts : List CompletedTag) (made : AreMade nothing ts) where
       by (Some m) q type e = subst (Whole (known ts)) (some_same m.type type e) (h members m refl q)
 
   tag_member_whole : (line : ℕ) (name : List ℕ) (tags : TagTable) (tag : ℕ) → tags.completed ≡ ts → Led W (member_among line name (members_in tags tag))
-  tag_member_whole line name tags tag c =
-      among_whole line name (members_in tags tag)
-      (λ members m e q. subst (λ (x : List CompletedTag). Whole (known x) m.type) c
-      (member_whole tags tag members (λ (m : PlainMember). bytes_eq name m.name) m (subst (AreMade nothing) (sym c) made) e q))
+  tag_member_whole line name tags tag c = search (arith, member_whole, bytes_eq, nothing)
 
   member_of_whole : (line : ℕ) (name : List ℕ) (tags : TagTable) (type : PlainType) → tags.completed ≡ ts → Led W (member_of line name tags type)
   member_of_whole line name tags (Struct tag) c = tag_member_whole line name tags tag c
@@ -261,8 +253,7 @@ module _ (ts : List CompletedTag) (made : AreMade nothing ts) where
   cast_whole line type e h = led_cond W (is_void type) _ _ (led_ok W h) (cast_types_whole line type e (operand type) (operand e.type) h)
 
   chosen_whole : (line : ℕ) (x y : PlainTyped) (s t : PlainType) → W x → W y → Led W (chosen_pointer line x y s t)
-  chosen_whole line x y s t h k =
-      led_cond W _ _ _ (led_ok W h) (led_cond W x.is_null _ _ (led_ok W k) (led_cond W (is_void s) _ _ (led_ok W h) (led_cond W (is_void t) _ _ (led_ok W k) (led_refused W))))
+  chosen_whole line x y s t h k = search (arith, led_cond, led_ok, led_refused)
 
   choice_types_whole : (line : ℕ) (test : Folded) (x y : PlainTyped) (s t : Operand) → W x → W y → Led W (choice_types line test x y s t)
   choice_types_whole line test x y (Number s) (Number t) h k = led_ok W tt
@@ -275,21 +266,10 @@ module _ (ts : List CompletedTag) (made : AreMade nothing ts) where
   choice_whole line test x y h k = led_unless W _ Operands line (λ t. choice_types_whole line test.folded x y (operand x.type) (operand y.type) h k)
 
   record_whole : (line : ℕ) (tags : TagTable) (target e : PlainTyped) → W target → Led W (record_assigned line tags target e)
-  record_whole line tags target e h =
-      let r4 : Checked PlainTyped = unless (not (same target.type e.type)) Assignment line (Ok (value target.type)) in
-      let r3 : Checked PlainTyped = unless (has_no_size tags target.type) Incomplete line r4 in
-      let r2 : Checked PlainTyped = unless (not target.is_place) NotLvalue line r3 in
-      led_unless W (has_no_value e) Operands line
-      (λ t1. led_unless W (not target.is_place) NotLvalue line
-      (λ t2. led_unless W (has_no_size tags target.type) Incomplete line
-      (λ t3. led_unless W (not (same target.type e.type)) Assignment line (λ t4. led_ok W h))))
+  record_whole line tags target e h = search (arith, not, led_unless, led_ok)
 
   scalar_whole : (line : ℕ) (target e : PlainTyped) → W target → Led W (scalar_assigned line target e)
-  scalar_whole line target e h =
-      let r3 : Checked PlainTyped = converts line target.type e (Ok (value target.type)) in
-      let r2 : Checked PlainTyped = unless (is_void target.type) Incomplete line r3 in
-      led_unless W (not (is_written target)) NotLvalue line
-      (λ t1. led_unless W (is_void target.type) Incomplete line (λ t2. led_barred W (unconverted target.type e) line (led_ok W h)))
+  scalar_whole line target e h = search (arith, led_unless, not, led_barred, led_ok)
 
   pub assigned_whole : (line right : ℕ) (tags : TagTable) (target e : PlainTyped) → W target → Led W (assigned line right tags target e)
   assigned_whole line right tags target e h =
@@ -465,11 +445,7 @@ module _ (ts : List CompletedTag) (made : AreMade nothing ts) where
   special_good line tree c g = led_refused GoodType
 
   pub word_whole : (words : Trees) → Whole (known ts) (word_type words)
-  word_whole words = by (names.has names.is_void_word words) _
-    where
-      by : (t : Bool) (ty : IntType) → Whole (known ts) (cond t Void (Int ty))
-      by true ty = tt
-      by false ty = tt
+  word_whole words = grind (arith, true, false)
 
   specs_good : (line : ℕ) (all words : Trees) (c : Context) → Fit c → Led GoodType (specs_type line all words c)
   specs_good line all none c g = led_ok GoodType (g, word_whole all)

@@ -68,18 +68,7 @@ walked_grew : (c d : Context) (x : Walked) → Statics c d → Grew (walked_worl
 walked_grew c d x s = record { locals = λ k r e. e; mems = omega arith; integers = omega arith; pointers = omega arith; variables = s.variables; literals = s.literals; formats = λ k v e. e; calls = s.calls; file = s.file }
 
 walked_on : (c d : Context) (x : Walked) → Statics c d → WalkedFits c x → WalkedFits d x
-walked_on c d x s h = record {
-  answer = h.answer;
-  params = h.params;
-  index = h.index;
-  own = h.own;
-  named = s.file x.name (Function h.answer h.params) h.index h.named;
-  lined = h.lined;
-  fits = pieces_grew (result_sort h.answer) (walked_world c x) (walked_world d x) x.code.pieces (walked_grew c d x s) h.fits;
-  count = h.count;
-  rest = h.rest;
-  sorted = h.sorted;
-}
+walked_on c d x s h = search (arith, pieces_grew, walked_grew)
 
 -- what holds between external declarations
 pub record Between (c : Context) : Type 0 where
@@ -176,8 +165,7 @@ abbrev Typed : List ℕ → PlainType → Context → Context → Type 0
 Typed name type c d = named_in name d.scopes.file ≡ Some (n.Function type (function_number name c))
 
 pushed_name : (key : List ℕ) (v : PlainNamed) (table : Table) → named_in key table ≡ None → named_in key (table ++ (key, v) ∷ []) ≡ Some v
-pushed_name key v table e =
-    named_push key key v table ∙ ap (λ o. option_or o (cond (bytes_eq key key) (Some v) None)) e ∙ ap (λ k. cond k (Some v) None) ((bytes_eq-Decides key key).1 refl)
+pushed_name key v table e = search (arith, named_push, bytes_eq, bytes_eq-Decides)
 
 function_kept : (k : Bool) (name key : List ℕ) (type : PlainType) (index : ℕ) (x : Context) → named_in key x.scopes.file ≡ Some (n.Function type index) → named_in key (cond k x (record x { functions = x.functions ++ (record { name = name; defined = None }) ∷ [] })).scopes.file ≡ Some (n.Function type index)
 function_kept true name key type index x e = e
@@ -408,8 +396,7 @@ unfolding temporaries_of
 function_params c x h = taken_sorts (param_sorts h.params) x.params x.running.locals (temporaries_of x) h.rest (h.count ∙ count_sorts h.params) h.sorted
 
 params_inside : (c : Context) (x : Walked) (h : WalkedFits c x) → (function_of c x).params ≤ length (function_of c x).regs
-params_inside c x h =
-    omega (arith, h.count, count_sorts h.params, length-append x.running.locals (replicate x.code.most_integers temporary ++ replicate x.code.most_pointers pointer_register), length-map x.running.locals sort_of, ap length h.sorted, length-append (param_sorts h.params) h.rest)
+params_inside c x h = search (arith, count_sorts, length-append, length-map)
 
 get_map : {X Y : Type 0} (g : X → Y) (xs : List X) (k : ℕ) (x : X) → slice_get xs k ≡ Some x → slice_get (map g xs) k ≡ Some (g x)
 get_map g [] k x e = cc

@@ -57,11 +57,7 @@ commas_said place (suc k) = omega (arith, behind_said place k)
 -- formats are no longer than objects
 
 string_short : (line : ℕ) (bytes : List ℕ) (known : names.Context) (z : names.Context × PlainTyped) → then (string line bytes) (λ e. good (known, e)) ≡ Ok z → IsShort bytes
-string_short line bytes known z h = by (nat_lt 268435456 (length bytes + 1)) refl h
-  where
-    by : (t : Bool) → nat_lt 268435456 (length bytes + 1) ≡ t → then (unless t TypeTooLarge line (good (place (Array (Int i.Char) (length bytes + 1))))) (λ e. good (known, e)) ≡ Ok z → IsShort bytes
-    by true e q = never (IsShort bytes) _ z q
-    by false e q = omega (arith, ltb-false 268435456 (length bytes + 1) e)
+string_short line bytes known z h = grind (arith, true, false, ltb-false)
 
 text_short : (e : Tree) (known : names.Context) (z : names.Context × PlainTyped) → typed e known ≡ Ok z → IfSome (literal e) IsShort
 unfolding typed
@@ -86,14 +82,11 @@ formats_short none line params c z h = omega arith
 formats_short (e ▹ rest) line params c z h = some_short (literal e) (first_short e rest line params c z h)
 
 called_printf : (line : ℕ) (tags : TagTable) (o : Option PlainNamed) (k : Callee) → called line tags o ≡ Ok k → built_in_at o ≡ Some bi.Printf → k ≡ Prints
-called_printf line tags (Some (n.BuiltIn index)) k h e =
-    sym (ok_same Prints k (subst (λ (o : Option BuiltIn). built_in_called line tags o (callee_at o) ≡ Ok k) e h))
+called_printf line tags (Some (n.BuiltIn index)) k h e = search (arith, ok_same)
 called_printf line tags other k h e = cc
 
 printf_callee : (e : Tree) (c : Context) (answer : With Found) (d : Context × Callee) → callee e c answer ≡ Ok d → built_in_at (callee_name e c) ≡ Some bi.Printf → d.1 ≡ Prints
-printf_callee (Node f.Name (At line ▹ Leaf (w.Name name) ▹ none)) c answer d h e =
-    let k = came (called line c.tags (declaration c.scopes name)) h in
-    subst (λ (x : Context × Callee). x.1 ≡ Prints) (ok_same (c, k.value) d k.last) (called_printf line c.tags (declaration c.scopes name) k.value k.is e)
+printf_callee (Node f.Name (At line ▹ Leaf (w.Name name) ▹ none)) c answer d h e = search (arith, came, ok_same, called_printf)
 printf_callee tree c answer d h e = none_there e
   where
     none_there : {G : Type 0} → built_in_at None ≡ Some bi.Printf → G
@@ -104,9 +97,7 @@ prints_short (Some bi.Printf) format h = h refl
 prints_short other format h = tt
 
 call_prints : (e : Tree) (c : Context) (answer : With Found) (values : Trees) (line : ℕ) (d : Context × Callee) (v : Context × List Argument) → callee e c answer ≡ Ok d → arguments line d.1 (parameters d.1) values d.0 ≡ Ok v → PrintsShort (built_in_at (callee_name e c)) (first_literal values)
-call_prints e c answer values line d v h k =
-    prints_short (built_in_at (callee_name e c)) (first_literal values)
-    (λ q. formats_short values line (parameters d.1) d.0 v (subst (λ (x : Callee). arguments line x (parameters d.1) values d.0 ≡ Ok v) (printf_callee e c answer d h q) k))
+call_prints e c answer values line d v h k = search (arith, prints_short, formats_short, printf_callee)
 
 -- the steps of a walk over expressions: what writes code, what types tell, and literals
 pub record Walks (R : ℕ → Context → Context → Type 0) : Type 0 where
@@ -139,13 +130,10 @@ module _ (R : ℕ → Context → Context → Type 0) (walk : Walks R) where
   address_keeps line c e = reached_after (R 0 c) (address line e.typed) (λ type h. reached_ok (R 0 c) (walk.writes.stop 0 c))
 
   changing_keeps : (k : ℕ) (tree : Tree) (c : Context) (answer : With Found) → Reached (R k c) answer → Reached (R k c) (changing tree answer)
-  changing_keeps k tree c answer g =
-      reached_then (R k c) (R k c) g
-      (λ d h. reached_after (R k c) (held_place (line_of tree) d.0.tags d.1.typed) (λ held q. reached_ok (R k c) h))
+  changing_keeps k tree c answer g = search (arith, reached_then, reached_after, reached_ok)
 
   callee_keeps : (k : ℕ) (tree : Tree) (c : Context) (answer : With Found) → Reached (R k c) answer → Reached (R (k + 1) c) (callee tree c answer)
-  callee_keeps k (Node f.Name (At line ▹ Leaf (w.Name name) ▹ none)) c answer h =
-      reached_after (R (k + 1) c) (called line c.tags (declaration c.scopes name)) (λ function q. reached_ok (R (k + 1) c) (walk.writes.stop (k + 1) c))
+  callee_keeps k (Node f.Name (At line ▹ Leaf (w.Name name) ▹ none)) c answer h = search (arith, reached_after, reached_ok)
   callee_keeps k tree c answer h = reached_then (R (k + 1) c) (R (k + 1) c) (valued_keeps R walk.writes k tree c answer h) (λ d q. reached_ok (R (k + 1) c) q)
 
   format_keeps : (k : ℕ) (format : Option (List ℕ)) (c : Context) (answer : Checked (names.Context × PlainTyped)) (walked : With Found) → Reached (R k c) walked → Reached (R k c) (format_argument format c answer walked)
@@ -153,9 +141,7 @@ module _ (R : ℕ → Context → Context → Type 0) (walk : Walks R) where
   format_keeps k None c answer walked h = h
 
   called_keeps : (line : ℕ) (name : Option PlainNamed) (function : Callee) (wanted : PlainType) (trees : Trees) (c : Context) (values : List Argument) → PrintsShort (built_in_at name) (first_literal trees) → Reached (R 2 c) (call_answer line name function wanted trees c values)
-  called_keeps line name function wanted trees c values g =
-      reached_after (R 2 c) (call line (first_literal trees) function (types_of values))
-      (λ e h. reached_ok (R 2 c) (call_keeps R walk.writes line name e.type wanted (first_literal trees) values c g))
+  called_keeps line name function wanted trees c values g = search (arith, reached_after, reached_ok, call_keeps)
 
   assigned_keeps : (k : ℕ) (test : Bool) (line : ℕ) (x : Tree) (target : Found) (c : Context) (r : Context × Found) → R k c r.0 → Reached (R (k + 2) c) (cond test (record_assigned line (line_of x) target r) (scalar_assigned line c.code x target r))
   assigned_keeps k true line x target c r g z q = both k 0 (k + 2) (omega arith) g (record_keeps R walk.writes line (line_of x) target r z q)
@@ -326,23 +312,15 @@ module _ (R : Context → Context → Type 0) (tag : Tagging R) where
   ended_keeps line sort type c list = reached_refused (R c)
 
   pub members_keep_one : (line : ℕ) (name : Option (List ℕ)) (type : PlainType) (list : d.Members) (c : Context) → Reached (R c) (member line name type list c)
-  members_keep_one line name type list c =
-      reached_unless (R c) (is_function type) LeftOut line (reached_unless (R c) (has_no_size c.tags type) Incomplete line
-      (reached_after (R c) (with_member line name type list) (λ more h. reached_ok (R c) (tag.stop c))))
+  members_keep_one line name type list c = search (arith, reached_unless, reached_after, reached_ok)
 
   pub enum_named_keeps : (line : ℕ) (name : Option (List ℕ)) (c : Context) → Reached (R c) (enum_named line name c)
   enum_named_keeps line None c = reached_ok (R c) (tag.stop c)
-  enum_named_keeps line (Some name) c =
-      let z : Context = record c { scopes = with_name c.scopes (tag_name name) (n.Tag (Int i.Int)) } in
-      reached_unless (R c) (is_some (named_in (tag_name name) (innermost c.scopes))) DeclaredTwice line (reached_ok (R c) (tag.names name c))
+  enum_named_keeps line (Some name) c = search (arith, reached_unless, reached_ok)
 
   module _ (adds : Enumerates R) where
     enumerator_keeps : (line : ℕ) (name : List ℕ) (value : ℤ) (c : Context) → Reached (R c) (enumerator line name value c)
-    enumerator_keeps line name value c =
-        let held = wrapped I32 value in
-        let z : Context = record c { scopes = after_declaration c.scopes name (n.Constant i.Int held) } in
-        reached_after (R c) (declared_as line name (n.Constant i.Int held) c)
-        (λ e q. reached_ok (R c) (led_unless (R c) (is_twice c.scopes name (n.Constant i.Int held)) DeclaredTwice line (λ t. led_ok (R c) (adds name held c)) e q))
+    enumerator_keeps line name value c = search (arith, reached_after, reached_ok, led_unless, led_ok)
 
     pub enumerators_keep : (parts : Trees) (next : ℤ) (c : Context) → Led (R c) (enumerators parts next c)
     unfolding enumerators
@@ -387,9 +365,7 @@ module _ (W : List ℕ → Type 0) (R : Bool → ℕ → Context → Context →
   tagging deep = record { stop = step.stop deep 0; join = λ a b c x y. step.join deep 0 0 0 a b c (omega arith) x y; tells = step.tells deep; retags = step.retags deep; names = step.names deep }
 
   pub param_keeps : (line : ℕ) (name : Option (List ℕ)) (type : PlainType) (c : Context) → IfSome name W → Reached (R true 2 c) (param line name type c)
-  param_keeps line name type c h =
-      reached_unless (R true 2 c) (is_void type) Incomplete line (reached_unless (R true 2 c) (is_record type || is_function type) LeftOut line
-      (reached_unless (R true 2 c) (is_declared name c) DeclaredTwice line (reached_ok (R true 2 c) (step.takes name type c h))))
+  param_keeps line name type c h = search (arith, reached_unless, true, reached_ok)
 
   mutual
     unfolding specs words_type tag_type members member_names layers suffix_layers suffix_layer params shape

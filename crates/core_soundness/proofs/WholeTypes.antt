@@ -34,11 +34,7 @@ mutual
   all_stay (first type rest) j k x h = (whole_stays type j k x h.0, all_stay rest j k x h.1)
 
 pub some_stays : (j k : Known) (type : PlainType) → Extends j k → IsSome (layout_of j type) → IsSome (layout_of k type)
-some_stays j k type x h = by (layout_of j type) refl h
-  where
-    by : (o : Option Layout) → layout_of j type ≡ o → is_some o ≡ true → is_some (layout_of k type) ≡ true
-    by None e q = cc
-    by (Some l) e q = ap (λ (y : Option Layout). is_some y) (layout_stays j k x type l e)
+some_stays j k type x h = grind (arith, true, layout_stays)
 
 pub members_stay : (ms : List (List ℕ × PlainType)) (j k : Known) → Extends j k → MembersWhole j ms → MembersWhole k ms
 members_stay [] j k x h = tt
@@ -115,8 +111,7 @@ first_far : (u : Bool) (l : Layout) (ls : List Layout) → 1 ≤ l.size → 1 �
 first_far u l ls h = let rest = placed_far u (place u none_placed l) ls in omega (arith, rest, h)
 
 body_some : (u : Bool) (l : Layout) (ls : List Layout) → 1 ≤ l.size → 1 ≤ (members_layout u (l ∷ ls)).size
-body_some u l ls h =
-    let all = placed u (l ∷ ls) in let e = first_far u l ls h in let r = rounded_le all.end all.align in omega (arith, e, r)
+body_some u l ls h = search (arith, first_far, rounded_le)
 
 pub some_layout : (o : Option Layout) → is_some o ≡ true → o ≡ Some (unwrap_or o no_layout)
 some_layout None e = cc
@@ -124,20 +119,10 @@ some_layout (Some l) e = refl
 
 tag_some : (k : Known) → AllSized k → (new : CompletedTag) (ms : List (List ℕ × PlainType)) → new.members ≡ ms → ((new.members ≡ []) → ⊥) → MembersWhole k ms → 1 ≤ (tag_layout k new).size
 tag_some k a new [] e s w = absurd (s e)
-tag_some k a new (m ∷ ms) e s w =
-    let here : 1 ≤ (member_layout k m).size = layout_some k a m.1 (member_layout k m) w.0.0 (some_layout (layout_of k m.1) w.0.1) in
-    subst (λ (x : List (List ℕ × PlainType)). 1 ≤ (members_layout new.is_union (map (member_layout k) x)).size) (sym e) (body_some new.is_union (member_layout k m) (map (member_layout k) ms) here)
+tag_some k a new (m ∷ ms) e s w = search (arith, layout_some, some_layout, body_some)
 
 learn_some : (k : Known) (new : CompletedTag) → AllSized k → 1 ≤ (tag_layout k new).size → AllSized (learn k new)
-learn_some k new a h tag l e = by (k tag) refl e
-  where
-    other : (t : Bool) → cond t (Some (tag_layout k new)) None ≡ Some l → 1 ≤ l.size
-    other true q = let same : tag_layout k new ≡ l = cc in subst (λ (x : Layout). 1 ≤ x.size) same h
-    other false q = cc
-
-    by : (o : Option Layout) → k tag ≡ o → option_or o (cond (new.tag == tag) (Some (tag_layout k new)) None) ≡ Some l → 1 ≤ l.size
-    by None q r = other (new.tag == tag) r
-    by (Some x) q r = a tag l (q ∙ r)
+learn_some k new a h tag l e = grind (arith, true, false)
 
 learns_some : (k : Known) (tags : List CompletedTag) → AreMade k tags → AllSized k → AllSized (fold learn k tags)
 learns_some k [] m a = a
@@ -172,12 +157,4 @@ made_found j (t ∷ tags) test done m e = by (test t) (made_found (learn j t) ta
     by false again q = again q
 
 pub member_whole : (table : TagTable) (tag : ℕ) (members : List PlainMember) (p : PlainMember → Bool) (m : PlainMember) → AreMade nothing table.completed → members_in table tag ≡ Some members → find p members ≡ Some m → Whole (known table.completed) m.type
-member_whole table tag members p m made e f = by (find (λ (done : CompletedTag). done.tag == tag) table.completed) refl e
-  where
-    by : (o : Option CompletedTag) → find (λ (done : CompletedTag). done.tag == tag) table.completed ≡ o → option_map (placed_members (known table.completed)) o ≡ Some members → Whole (known table.completed) m.type
-    by None q r = cc
-    by (Some done) q r =
-        let same : placed_members (known table.completed) done ≡ members = ap (λ (o : Option (List PlainMember)). unwrap_or o members) r in
-        placed_whole (known table.completed) done.members (placed done.is_union (map (member_layout (known table.completed)) done.members)).members p m
-        (made_found nothing table.completed (λ (d : CompletedTag). d.tag == tag) done made q)
-        (subst (λ (xs : List PlainMember). find p xs ≡ Some m) (sym same) f)
+member_whole table tag members p m made e f = grind (arith, option_map, placed_whole, made_found)
