@@ -1,9 +1,9 @@
 -- The type of an expression that is elaborated is the one that its types alone give it.
 use Rattle.std.proofs.Common.{◌≡◌, ◌&&◌, ℕ, pos, Bool, true, false, not, cond, List, Option, Some, Ok, Err, refl, sym, ap, ◌∙◌, subst, ◌+◌, [], ◌∷◌, length, None, arith}
 use Rattle.core_soundness.proofs.Words.Trees.{Tree, Trees, Leaf, At, Node, none, ◌▹◌, AssignOp, BinaryOp, UnaryOp}
-use Rattle.core_soundness.proofs.Words.Types.{TagTable, PlainType, PlainTypes, Void, Int, Pointer, Array, named, Callee, Takes, Prints, NoFunction, called, call, no_function, line_of, answered, wanted, one, two, string, typed, values, calling, int_constant, char_constant, joined, literal, first_literal, typename, PlainNamed, held_place, element, dot, arrow, cast, choice, assigned, changed, changed_types, is_written, behind_comma, Checked, then, unless, found as declaration, address, unary, unary_of, binary, PlainTyped, Operand, Number, operand, read, is_null_constant, int, is_void, has_no_value, wanted_value, place, value, is_record, constant, NotLvalue, Operands, TypeTooLarge}
+use Rattle.core_soundness.proofs.Words.Types.{TagTable, PlainType, PlainTypes, Void, Int, Pointer, Array, named, Callee, Takes, Prints, NoFunction, called, call, no_function, line_of, answered, wanted, one, two, string, typed, values, calling, int_constant, char_constant, joined, literal, first_literal, typename, PlainNamed, held_place, element, dot, arrow, cast, choice, assigned, changed, changed_types, is_written, behind_comma, Checked, then, unless, found as declaration, address, unary, unary_of, binary, PlainTyped, Operand, Number, operand, read, is_null_constant, int, wanted_value, place, value, is_record, constant, NotLvalue, TypeTooLarge}
 use Rattle.core_soundness.proofs.Words.Core.{Atom, Copy}
-use Rattle.core_soundness.proofs.Words.Elaborating.{record_assigned, set_to, scalar_assigned, old_value, change_place, changed_answer, changed_by, one_found, stepped, Argument, types_of, first_type, rest_types, argument_from, call_named, Code, Context, With, asked, told, emit, here, new_label, Found, Value, Empty, Unknown, found_as, atom_in, read_spot, read_value, code_line, valued_from, valued, convert, tested_value, size_or_zero, unused, wanted_from, valued_as, name_answer, literal_answer, unevaluated, address_answer, changing, cast_operand, comma_answer, callee_name, callee, parameters, format_argument, is_printf, call_answer, found, arguments, combined, fixed_sum, offset_of, operator_of, changed_to, constant_found, object_found, built_in_found, name_found, is_inner, with_literal, literal_found, at_address, with_value, indexed, member_of, dotted, target_of, pointed, apply, applied, before_number, left_operand, tells_equal, is_pointer_ahead, ahead, between, cast_fixed, cast_to, and_ends, and_ended, or_ends, or_ended, choose_first, choose_last, choice_found, chosen, and_then, or_else, choose, type_ahead}
+use Rattle.core_soundness.proofs.Words.Elaborating.{record_assigned, set_to, scalar_assigned, old_value, change_place, changed_answer, changed_by, stepped, Argument, types_of, first_type, rest_types, argument_from, Code, Context, With, asked, told, emit, here, new_label, Found, Value, Empty, Unknown, found_as, atom_in, valued_from, valued, size_or_zero, unused, wanted_from, valued_as, name_answer, literal_answer, unevaluated, address_answer, changing, cast_operand, comma_answer, callee_name, callee, parameters, format_argument, is_printf, call_answer, found, arguments, offset_of, constant_found, object_found, built_in_found, name_found, indexed, member_of, dotted, target_of, pointed, apply, applied, before_number, left_operand, tells_equal, is_pointer_ahead, ahead, between, cast_to, and_ended, or_ended, choose_first, choose_last, choice_found, chosen, and_then, or_else, choose, type_ahead}
 use Rattle.c_types.specs.Types as ct
 use Rattle.c_types.specs.declared.types.IntType.TheVariants as i
 use Rattle.core_tree.specs.declared.statements.Atom.TheVariants as atom

@@ -5,9 +5,9 @@ use Rattle.std.specs.Option.{option_or}
 use Rattle.std.specs.Ordering.{int_eq}
 use Rattle.std.specs.Prelude.{int_le, nat_le, unsigned_abs}
 use Rattle.core_soundness.proofs.Words.Trees.{Tree, Trees, Leaf, At, Node, none, ◌▹◌, count, AssignOp, BinaryOp, UnaryOp}
-use Rattle.core_soundness.proofs.Words.Types.{PlainType, Void, Array, Struct, Union, Layout, IntType, named, Callee, call, line_of, string, int_constant, char_constant, joined, first_literal, typed, typename, PlainNamed, element, dot, arrow, cast, choice, assigned, changed, unconverted, Checked, refused, then, Table, named_in, found_from, found as declaration, unary, binary, address, PlainTyped, Operand, Number, PointerTo, operand, read, is_null_constant, is_record, constant, StaticTooLarge, Assignment, Folded, Is}
+use Rattle.core_soundness.proofs.Words.Types.{PlainType, Void, Array, Struct, Union, Layout, IntType, named, Callee, line_of, string, int_constant, char_constant, joined, typed, typename, PlainNamed, element, dot, arrow, choice, assigned, unconverted, Checked, refused, then, Table, named_in, found_from, found as declaration, binary, address, PlainTyped, Operand, Number, PointerTo, operand, read, is_null_constant, is_record, constant, StaticTooLarge, Assignment, Folded, Is}
 use Rattle.core_soundness.proofs.Words.Core.{block_size, Start, Atom}
-use Rattle.core_soundness.proofs.Words.Elaborating.{record_assigned, scalar_assigned, old_value, changed_answer, changed_by, one_found, stepped, Argument, types_of, Code, Context, Variable, With, file_variable, literal_object, asked, told, new_label, Found, Fixed, Unknown, Nowhere, Inside, atom_in, code_line, read_spot, read_fixed, valued_from, valued, convert, size_or_zero, unused, name_answer, literal_answer, address_answer, unevaluated, changing, comma_answer, callee, callee_name, parameters, call_answer, found, arguments, cast_operand, Target, InRegister, InMemory, InStatic, static_integer, static_address, static_pointer, static_scalar, fill_scalar, scalar, fill_record, is_same_place, whole, fill_text, is_character, text, by_text, by_expression, parts_of, takes_braces, is_scalar_type, all_surplus, initialize, initialize_parts, not_whole, variable_size, literal_size, static_size, moved_by, moved_times, fixed_sum_of, fixed_sum, combined, offset_of, member_address, reallocates, opened, object_found, built_in_found, name_found, is_inner, with_static, with_literal, literal_found, indexed, dotted, target_of, pointed, before_number, apply, applied, tells_equal, is_pointer_ahead, ahead, left_operand, between, cast_to, constant_found, and_then, and_ended, or_else, or_ended, choose, type_ahead, choose_first, chosen}
+use Rattle.core_soundness.proofs.Words.Elaborating.{record_assigned, scalar_assigned, old_value, changed_answer, changed_by, one_found, stepped, Argument, Code, Context, Variable, With, file_variable, literal_object, asked, told, new_label, Found, Fixed, Unknown, Nowhere, Inside, atom_in, code_line, read_spot, read_fixed, valued_from, valued, convert, size_or_zero, unused, name_answer, literal_answer, address_answer, unevaluated, changing, comma_answer, callee, callee_name, parameters, call_answer, found, arguments, cast_operand, Target, InRegister, InMemory, InStatic, static_integer, static_address, static_pointer, static_scalar, fill_scalar, scalar, fill_record, whole, fill_text, is_character, text, by_text, by_expression, parts_of, takes_braces, is_scalar_type, all_surplus, initialize, initialize_parts, static_size, moved_by, moved_times, fixed_sum_of, fixed_sum, combined, offset_of, member_address, opened, object_found, built_in_found, name_found, is_inner, with_static, with_literal, literal_found, indexed, dotted, target_of, pointed, before_number, apply, applied, tells_equal, is_pointer_ahead, ahead, left_operand, between, cast_to, constant_found, and_then, and_ended, or_else, or_ended, choose, type_ahead, choose_first, chosen}
 use Rattle.c_types.specs.Types as ct
 use Rattle.c_tree.specs.Forms as f
 use Rattle.c_tree.specs.Words as w
@@ -17,7 +17,7 @@ use Rattle.c_tree.specs.declared.operator.UnaryOp.TheVariants as u
 use Rattle.c_decls.specs.Named as n
 use Rattle.c_decls.specs.TypeNames as names
 use Rattle.core_soundness.proofs.Agreeing.{came}
-use Rattle.core_soundness.proofs.Growth.{Longer, Counted, Grows, grows_refl, grows_trans, grows_told, ok_same, never, Settled, grows_settled, valued_unused, cast_unused, Led, led_ok, led_refused, led_after, led_unless, led_barred, settled_refl, settled_trans, behind_string}
+use Rattle.core_soundness.proofs.Growth.{Longer, Grows, grows_refl, grows_trans, grows_told, ok_same, never, Settled, grows_settled, valued_unused, cast_unused, Led, led_ok, led_refused, led_after, led_unless, led_barred, settled_refl, settled_trans, behind_string}
 use Rattle.core_soundness.proofs.Scopes.{more_refl, get_last}
 use Rattle.core_soundness.proofs.Sorting.{passed}
 use Rattle.core_soundness.proofs.TagSorts.{typename_after}

@@ -5,9 +5,9 @@ use Rattle.std.proofs.lemmas.Bool.{and_parts}
 use Rattle.std.specs.List.{flat_map}
 use Rattle.std.specs.Option.{option_or}
 use Rattle.core_soundness.proofs.Words.Trees.{Form, Tree, Trees, Leaf, At, Node, none, ◌▹◌, AssignOp}
-use Rattle.core_soundness.proofs.Words.Types.{TagTable, PlainType, PlainTypes, Void, kind_of, built_ins, Callee, Takes, Prints, NoFunction, built_in_callee, function_callee, no_function, built_in_named, built_in_called, callee_at, named, called, call, prints, is_format, suit, suits_type, line_of, first_literal, promoted, PlainNamed, Tag, unconverted, unconverted_types, converts, is_written, changed, changed_types, assigned, all_convert, length_of, Checked, then, unless, named_in, ScopeList, Table, found_from, found as declaration, PlainTyped, Operand, Number, PointerTo, Neither, operand, value, is_scalar, is_record, is_array, is_void, same, has_no_size, read, has_no_value, wanted_value, BuiltIn, NotLvalue, Incomplete, Operands, Assignment, ArgumentCount, Format}
-use Rattle.core_soundness.proofs.Words.Core.{width, pieces_of, Piece, Pointer, Sort, Integer, lib_takes, lib_gives, piece_takes, Reg as Register, Atom, StmKind, Copy, Call, Malloc, Calloc, Realloc, Free, Lib, Printf, Enter, Leave}
-use Rattle.core_soundness.proofs.Words.Elaborating.{plain_name, record_assigned, set_to, scalar_assigned, old_value, change_place, changed_answer, changed_by, one_found, stepped, Argument, types_of, atoms_of, atom_at, rest_types, argument_from, lib_name, result_by, pointer_result, with_format, printing, call_built_in, call_of_built_in, call_named, element_layout, Context, emit, With, Found, Empty, Unknown, found_as, atom_in, code_line, convert, write, valued_from, size_or_zero, Spot, Local, valued, unused, call_answer, parameters as params_of, name_answer, changed_to, operator_of, name_found, is_inner, object_found, built_in_found}
+use Rattle.core_soundness.proofs.Words.Types.{TagTable, PlainType, PlainTypes, Void, kind_of, built_ins, Callee, Takes, Prints, NoFunction, built_in_callee, function_callee, no_function, built_in_named, built_in_called, callee_at, named, called, call, prints, is_format, suit, suits_type, line_of, first_literal, promoted, PlainNamed, Tag, unconverted, changed, assigned, all_convert, length_of, Checked, then, unless, named_in, ScopeList, Table, found_from, found as declaration, PlainTyped, Neither, operand, value, is_scalar, is_record, same, has_no_size, read, has_no_value, wanted_value, BuiltIn, NotLvalue, Incomplete, Operands, Assignment, ArgumentCount, Format}
+use Rattle.core_soundness.proofs.Words.Core.{width, pieces_of, Piece, Pointer, Sort, Integer, lib_takes, lib_gives, piece_takes, Atom, StmKind, Copy, Call, Malloc, Calloc, Realloc, Free, Lib, Printf, Enter, Leave}
+use Rattle.core_soundness.proofs.Words.Elaborating.{plain_name, record_assigned, set_to, scalar_assigned, old_value, change_place, changed_answer, changed_by, one_found, stepped, Argument, types_of, atoms_of, atom_at, rest_types, argument_from, lib_name, result_by, pointer_result, with_format, printing, call_built_in, call_of_built_in, call_named, element_layout, Context, emit, With, Found, Empty, Unknown, found_as, atom_in, code_line, convert, write, valued_from, size_or_zero, Spot, Local, valued, unused, call_answer, parameters as params_of, name_answer, changed_to, operator_of, name_found, object_found, built_in_found}
 use Rattle.core_soundness.proofs.Words.Facts.{is_register, NoRegister, TakesAddress, Spoken, AllSpoken, World, world, Holds, Held, StandsAs, Stands, HoldAll, Receives, IsPrinted, Fits, type_sort, param_sorts, result_sort, local_sort, InnerFits, FileFits, NamesFit, TableFits, TablesFit}
 use Rattle.c_types.specs.Types as types
 use Rattle.c_types.specs.declared.types.IntType.TheVariants as i

@@ -1,20 +1,19 @@
 -- What the walk over a text says of its core.
-use Rattle.std.proofs.Common.{◌≡◌, ◌≤◌, ◌<◌, ◌+◌, ℕ, zero, suc, List, [], ◌∷◌, ◌++◌, length, map, sum_by, Some, None, slice_get, Ok, Err, All, refl, sym, ap, ◌∙◌, subst, arith, mul-one, Bool, true, false, cond, bytes_eq, codes, count_by, Option, unwrap_or}
+use Rattle.std.proofs.Common.{◌≡◌, ◌≤◌, ◌<◌, ◌+◌, ℕ, zero, suc, List, [], ◌∷◌, ◌++◌, length, map, sum_by, Some, None, slice_get, Ok, All, refl, sym, ap, ◌∙◌, subst, arith, mul-one, Bool, true, false, cond, bytes_eq, codes, count_by, Option}
 use Rattle.std.proofs.lemmas.List.{length-map}
 use Rattle.std.proofs.lemmas.List.Sums.{sum_by-append, sum_by-cons}
 use Rattle.std.proofs.lemmas.Slice.Eq.{bytes_eq-Decides}
 use Rattle.std.proofs.lemmas.Bool.{and_parts}
 use Rattle.core_soundness.proofs.Words.Trees.{Trees}
-use Rattle.core_soundness.proofs.Words.Types.{TagTable, PlainType, Int, Function, none, PlainNamed, Checked, then, named_in, same}
+use Rattle.core_soundness.proofs.Words.Types.{TagTable, PlainType, PlainNamed, named_in}
 use Rattle.core_soundness.proofs.Words.Core.{block_size, EachFunc, EachStatement, LeadsOn, HasScopes, code_size, is_main, operands, edges, Core, Func, Static, Stm, StmKind, Call, Lib, Printf, Return}
-use Rattle.core_soundness.proofs.Words.Elaborating.{Piece, Does, Here, Context, Walked, Declared, walked, elaborated, piece_length, is_defined, Numbers, numbered, atom_by, point_in, body_of, numbers_of, function_of, variable_static, literal_static, core_of, definition_of, function_by}
+use Rattle.core_soundness.proofs.Words.Elaborating.{Piece, Does, Here, Context, Walked, Declared, walked, elaborated, piece_length, is_defined, Numbers, numbered, atom_by, point_in, body_of, numbers_of, function_of, core_of, function_by}
 use Rattle.core_soundness.proofs.Words.Facts.{HasFlow, HasSizes, CallsInside}
-use Rattle.c_types.specs.declared.types.IntType.TheVariants as i
 use Rattle.c_decls.specs.Named as n
 use Rattle.elaboration.specs.Externals as externals
 use Rattle.elaboration.specs.Resolving.{plain_name}
 use Rattle.core_soundness.proofs.Flows.{steps, stm_at, body_length, inside, ahead, scopes}
-use Rattle.core_soundness.proofs.Growth.{variable_bytes, literal_bytes, ok_same, never}
+use Rattle.core_soundness.proofs.Growth.{variable_bytes, literal_bytes, ok_same}
 use Rattle.core_soundness.proofs.OwnNames.{IsOwn}
 use Rattle.core_soundness.proofs.Statements.{Complete, AreComplete, walked_length, Sane, walked_sane, Finished, walked_finished}
 use Rattle.core_soundness.proofs.Choices.{some_same, get_some, some_number}

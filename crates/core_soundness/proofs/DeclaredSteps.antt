@@ -1,19 +1,17 @@
 -- Declarators and declarations go in step with the walk over addresses.
-use Rattle.std.proofs.Common.{◌≡◌, ◌||◌, ℕ, suc, ℤ, pos, ◌+ℤ◌, false, is_some, length, reverse, List, [], ◌∷◌, ◌++◌, Option, Some, None, Result, Ok, Err, refl, sym, ap, ◌∙◌, subst, Bool, true, cond, IsSome, ◌≤◌, ◌+◌, nat_lt, arith}
+use Rattle.std.proofs.Common.{◌≡◌, ◌||◌, ℕ, suc, ℤ, pos, ◌+ℤ◌, false, is_some, length, reverse, List, [], ◌∷◌, ◌++◌, Option, Some, None, Ok, refl, sym, ap, ◌∙◌, subst, Bool, true, cond, IsSome, ◌≤◌, ◌+◌, arith}
 use Rattle.std.specs.Option.{option_or}
-use Rattle.core_soundness.proofs.Words.Trees.{Form, shape, name_of, places, name_among, first_name, has_typedef, is_scope, leads_to_name, suffix_params, first_list, params_of, params_among, Tree, Trees, Leaf, At, Node, none, ◌▹◌, count, RecordSort}
-use Rattle.core_soundness.proofs.Words.Types.{TagTable, completion, known, PlainType, PlainTypes, Int, Struct, Union, first, TagError, line_of, typed, wanted, PlainNamed, Checked, then, unless, named_in, innermost, with_name, tag_name, Table, found_from, first_or, Layer, ArrayOf, FunctionOf, word_type, with_new_tag, special_type, array_length, with_layers, with_param_layers, adjusted, has, tag_named, is_void, is_record, is_function, has_no_size, DeclaredTwice, Incomplete, LeftOut}
+use Rattle.core_soundness.proofs.Words.Trees.{Form, shape, name_of, places, name_among, has_typedef, is_scope, leads_to_name, suffix_params, first_list, params_of, params_among, Tree, Trees, Leaf, At, Node, none, ◌▹◌, count, RecordSort}
+use Rattle.core_soundness.proofs.Words.Types.{PlainType, PlainTypes, first, line_of, typed, wanted, PlainNamed, Checked, unless, named_in, innermost, tag_name, Table, found_from, first_or, Layer, ArrayOf, FunctionOf, word_type, special_type, array_length, with_layers, with_param_layers, adjusted, tag_named, is_void, is_record, is_function, has_no_size, DeclaredTwice, Incomplete, LeftOut}
 use Rattle.core_soundness.proofs.Words.Core.{wrapped, I32}
-use Rattle.core_soundness.proofs.Words.Elaborating.{Taken, left_scope, taken, all_taken, with_known, declare, nothing_taken, params_taken, Context, asked, told, entered, Spot, Storage, Typedef, Outside, is_outside_word, storage_of, specs_alone, specs_before, fill_local, local_object, local_name, name_in, entry, entries, declaration, function_number, with_function, declared_function, constant, with_type, maybe_name, begun_as, completed_by, complete, ended, with_member, member, enumerator, enum_named, is_declared, param, left_params, specs, words_type, tag_type, members, member_names, enumerators, layers, suffix_layers, suffix_layer, params, body_begun, with_init_layers, declared_as, with_param, is_twice, with_local}
+use Rattle.core_soundness.proofs.Words.Elaborating.{Taken, left_scope, taken, all_taken, with_known, declare, nothing_taken, params_taken, Context, asked, told, entered, Spot, Storage, Typedef, Outside, storage_of, specs_alone, specs_before, fill_local, local_object, local_name, name_in, entry, entries, declaration, declared_function, constant, with_type, maybe_name, member, enumerator, is_declared, param, left_params, specs, words_type, tag_type, members, member_names, enumerators, layers, suffix_layers, suffix_layer, params, body_begun, with_init_layers, declared_as, with_param, is_twice, with_local}
 use Rattle.core_soundness.proofs.Words.Facts.{AllSpoken, is_register, World, world, FileFits, Written, AllWritten, TableFits}
 use Rattle.c_types.specs.Types as types
 use Rattle.c_types.specs.declared.types.IntType.TheVariants as i
 use Rattle.c_tree.specs.Forms as f
 use Rattle.c_tree.specs.Places as p
 use Rattle.c_tree.specs.Words as w
-use Rattle.c_tree.specs.declared.operator.RecordSort.TheVariants as r
 use Rattle.c_decls.specs.Named as n
-use Rattle.c_decls.specs.TypeNames as names
 use Rattle.c_decls.specs.TypeNames.{PointerTo}
 use Rattle.elaboration.specs.Addressed as walk
 use Rattle.elaboration.specs.Addressed.{left}
@@ -29,7 +27,7 @@ use Rattle.core_soundness.proofs.Keeping.{shows_first, typed_calm, special_still
 use Rattle.core_soundness.proofs.LocalsRun.{LocalSpoken, EntrySpoken, EntriesSpoken, DeclarationSpoken}
 use Rattle.core_soundness.proofs.Walks.{constant_keeps, with_type_keeps, begun_keeps, ended_keeps, enum_named_keeps}
 use Rattle.core_soundness.proofs.Parameters.{functions, functions_joined, functions_one, functions_reversed, counts, declared_counts, suffixes_counts}
-use Rattle.core_soundness.proofs.Scopes.{More, more_refl, with_tag_more, file_register, HasScope, scope_more}
+use Rattle.core_soundness.proofs.Scopes.{file_register, HasScope, scope_more}
 use Rattle.core_soundness.proofs.Sorting.{passed, kept_test}
 use Rattle.core_soundness.proofs.Steps.{with_one, IsNew, plain_stepped, param_stepped, no_nodes_each, specs_taken, pointer_taken, direct_taken, specs_unnamed, param_taken, not_twice, local_stepped, commas_each, local_went, inits_spoken, member_names_taken, members_taken, enumerators_taken, params_taken_each}
 use Rattle.core_soundness.proofs.TagSorts.{typed_after, wanted_after, special_after, tag_after}

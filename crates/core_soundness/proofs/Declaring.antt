@@ -1,11 +1,11 @@
 -- What declarations do to what is known.
-use Rattle.std.proofs.Common.{◌≡◌, ℕ, suc, Bool, true, false, cond, is_some, List, [], ◌∷◌, length, unwrap_or, Option, Some, None, ◌≤◌, refl, arith, slice_get, sym, ◌∙◌, subst, ◌+◌, pos, not, min, ◌<◌, ◌++◌, Ok, ap, ⊎_elim, ltb-false, ltb-true, zero, option_map, slice_set, sum_by, true≢false}
+use Rattle.std.proofs.Common.{◌≡◌, ℕ, suc, Bool, true, false, cond, is_some, List, [], ◌∷◌, length, unwrap_or, Option, Some, None, ◌≤◌, refl, arith, slice_get, sym, ◌∙◌, subst, ◌+◌, pos, not, min, ◌++◌, Ok, ap, ltb-false, ltb-true, zero, option_map, slice_set, sum_by, true≢false}
 use Rattle.std.proofs.lemmas.List.Sums.{sum_by-append, sum_by-cons}
 use Rattle.std.specs.Prelude.{nat_lt}
-use Rattle.core_soundness.proofs.Words.Trees.{name_of, Tree, Trees, At, Node, none, ◌▹◌, count, Leaf, RecordSort}
-use Rattle.core_soundness.proofs.Words.Types.{no_layout, TagTable, layout_in, PlainType, Int, Array, Struct, Union, Layout, line_of, PlainNamed, unconverted, Checked, refused, then, unless, ScopeList, Table, named_in, innermost, with_name, tag_name, after_declaration, tag_named, is_function, has_no_size, TypeKind, DeclaredTwice, Assignment, Incomplete, LeftOut, StaticTooLarge}
+use Rattle.core_soundness.proofs.Words.Trees.{name_of, Tree, Trees, At, Node, none, ◌▹◌, count, Leaf}
+use Rattle.core_soundness.proofs.Words.Types.{no_layout, TagTable, PlainType, Int, Array, Struct, Union, Layout, line_of, PlainNamed, unconverted, Checked, refused, then, unless, ScopeList, Table, named_in, innermost, with_name, tag_name, after_declaration, tag_named, is_function, has_no_size, TypeKind, DeclaredTwice, Assignment, Incomplete, LeftOut}
 use Rattle.core_soundness.proofs.Words.Core.{block_size, Start, Atom, Off, Copy, Enter, Set, Clear}
-use Rattle.core_soundness.proofs.Words.Elaborating.{Context, Running, asked, told, entered, local_register, emit, anew, Declared, Walked, Variable, Memory, Found, Local, code_line, atom_in, valued, convert, write, size_or_zero, Spot, function_number, function_number_of, with_function, declared_function, Storage, Typedef, Outside, Plain, storage_of, specs_alone, specs_before, zero_of, cleared, fill_memory, fill_register, fill_at, local_object, local_name, no_initializer, variable_number_of, with_new_variable, with_variable, start_of, start_in, started_variable, started, fill_variable, file_object, file_function, file_value, file_name, name_in, entry, entries, declaration, constant, with_type, left_params, specs, layers, member, param, member_names, suffix_layer, found, Target, InRegister, InMemory, InStatic, static_scalar, member_place, store_at, fill_scalar, scalar, copy_to, fill_record, is_same_place, whole, fill_text, is_character, text, by_text, by_expression, parts_of, takes_braces, is_scalar_type, all_surplus, initialize, initialize_parts, not_whole, surplus, no_start, with_init_layers, is_twice, declared_as, next_is_memory, with_register, with_memory, counted, with_named, memory_param, register_param, function_param, prototype_param, is_prototype, with_param, local_in, with_local, is_twice_in, reallocates, opened, closed, with_literal}
+use Rattle.core_soundness.proofs.Words.Elaborating.{Context, Running, asked, told, entered, local_register, emit, anew, Declared, Walked, Variable, Memory, Found, Local, code_line, atom_in, valued, convert, write, size_or_zero, Spot, function_number, function_number_of, with_function, declared_function, Storage, Typedef, Outside, Plain, storage_of, specs_alone, specs_before, zero_of, cleared, fill_memory, fill_register, fill_at, local_object, local_name, no_initializer, variable_number_of, with_new_variable, with_variable, start_of, started_variable, started, fill_variable, file_object, file_function, file_value, file_name, name_in, entry, entries, declaration, constant, with_type, left_params, specs, layers, param, suffix_layer, found, Target, InRegister, InMemory, InStatic, static_scalar, member_place, store_at, fill_scalar, scalar, copy_to, fill_record, whole, fill_text, is_character, text, by_text, by_expression, parts_of, takes_braces, is_scalar_type, all_surplus, initialize, initialize_parts, surplus, no_start, with_init_layers, is_twice, declared_as, next_is_memory, with_register, with_memory, counted, with_named, memory_param, register_param, function_param, prototype_param, is_prototype, with_param, local_in, with_local, is_twice_in, reallocates, opened, closed, with_literal}
 use Rattle.c_types.specs.declared.types.IntType.TheVariants as i
 use Rattle.core_tree.specs.declared.statements.Atom.TheVariants as atom
 use Rattle.c_tree.specs.Forms as f
@@ -13,10 +13,8 @@ use Rattle.c_tree.specs.Words as w
 use Rattle.c_decls.specs.Named as n
 use Rattle.c_decls.specs.ScopeList as scopes
 use Rattle.c_decls.specs.TypeNames as names
-use Rattle.elaboration.specs.Declarators as d
-use Rattle.elaboration.specs.Declarators.{begun}
-use Rattle.core_soundness.proofs.Growth.{grows_told, grows_refl, Reached, reached_ok, reached_after, Led, led_ok, led_unless, ObjectsStay, inner_objects, declared_objects, Passes, passes_trans, grows_passes, passes_beside, stays_beside, Grows, Settled, settled_refl, settled_trans, grows_settled, IsNoObject, with_name_objects, grows_trans, grows_emit, grows_pointer, grows_code, led_refused, led_after, led_barred, grown_literal, Stays, stays_trans, grows_stays, grows_closed, opened_stays, behind_string, good, ok_same, never, Counted, variable_bytes}
-use Rattle.core_soundness.proofs.Scopes.{Safe, first_safe, More, frees, with_name_safe, entered_safe, left_safe, FileKeeps, IsNoFunction, tied_refl, tied_file, keeps_refl, with_name_keeps, with_name_depth, Any, any_names, more_depth, any_name, all_any, Tied, get_left, get_push, get_below, tied_function, here, no_scope}
+use Rattle.core_soundness.proofs.Growth.{grows_told, grows_refl, Reached, reached_ok, reached_after, Led, led_ok, led_unless, ObjectsStay, inner_objects, declared_objects, Passes, passes_trans, grows_passes, passes_beside, stays_beside, Grows, Settled, settled_refl, settled_trans, grows_settled, IsNoObject, with_name_objects, grows_trans, grows_emit, grows_pointer, grows_code, led_refused, led_after, led_barred, grown_literal, Stays, stays_trans, grows_stays, grows_closed, opened_stays, behind_string, good, ok_same, never, variable_bytes}
+use Rattle.core_soundness.proofs.Scopes.{Safe, first_safe, More, frees, with_name_safe, entered_safe, left_safe, FileKeeps, IsNoFunction, tied_refl, tied_file, keeps_refl, with_name_keeps, with_name_depth, Any, any_names, more_depth, any_name, Tied, get_left, get_push, get_below, tied_function, here, no_scope}
 use Rattle.core_soundness.proofs.TagSorts.{After, tag_after}
 use Rattle.core_soundness.proofs.Walks.{Steps, constant_keeps, specs_keep, layers_keep, grows_write, param_keeps, suffix_keeps, tagging, found_grows, grown_valued, grows_convert}
 use Rattle.core_soundness.proofs.Choices.{either_way}

@@ -3,9 +3,9 @@ use Rattle.std.proofs.Common.{◌≡◌, ◌≤◌, ◌+◌, ◌*◌, not, ℕ, 
 use Rattle.std.proofs.lemmas.Bool.{ltb-true, ltb-false, eqb-true}
 use Rattle.std.specs.List.{find}
 use Rattle.core_soundness.proofs.Words.Trees.{name_of, Tree, Trees, At, Node, none, ◌▹◌, count}
-use Rattle.core_soundness.proofs.Words.Types.{layout_of, number_layout, pointer_layout, array_layout, Known, no_layout, CompletedTag, known, TagTable, layout_in, PlainType, Void, Int, Pointer, Array, Struct, Union, Function, width_of, Layout, TagInfo, IntType, built_ins, numbered_from, line_of, typed, string, PlainNamed, unconverted, refused, then, unless, Table, named_in, is_null_constant, is_function, has_no_size, same, BuiltIn, Assignment, DeclaredTwice, Incomplete, StaticTooLarge, Undeclared, NoMain, Folded, Is}
+use Rattle.core_soundness.proofs.Words.Types.{layout_of, number_layout, pointer_layout, array_layout, Known, no_layout, CompletedTag, known, TagTable, layout_in, PlainType, Void, Int, Pointer, Array, Struct, Union, Function, width_of, Layout, TagInfo, IntType, built_ins, numbered_from, line_of, typed, string, PlainNamed, unconverted, refused, then, unless, Table, named_in, is_null_constant, is_function, has_no_size, same, BuiltIn, Assignment, DeclaredTwice, Incomplete, StaticTooLarge, Folded, Is}
 use Rattle.core_soundness.proofs.Words.Core.{low_bits, block_size, IsStatic, Core, Start}
-use Rattle.core_soundness.proofs.Words.Elaborating.{addressed_in, Code, Context, asked, Variable, Declared, first_context, Found, Fixed, Unknown, Nowhere, Inside, valued, size_or_zero, Storage, Typedef, storage_of, specs_before, declared_function, no_initializer, variable_number_of, with_new_variable, with_variable, start_of, start_in, started_variable, fill_variable, file_object, file_function, file_value, file_name, name_in, entry, entries, declaration, layers, walked, elaborated, found, begun, is_defined, external, externals, calls_defined, is_main, Target, InRegister, InMemory, InStatic, bytes_of, static_integer, static_address, static_pointer, static_scalar, fill_scalar, scalar, fill_record, is_same_place, whole, fill_text, is_character, text, by_text, by_expression, parts_of, takes_braces, is_scalar_type, all_surplus, initialize, initialize_parts, not_whole, surplus, no_start, with_init_layers, is_twice_in, declared_as, reallocates, opened, core_of, with_static}
+use Rattle.core_soundness.proofs.Words.Elaborating.{addressed_in, Code, Context, asked, Variable, first_context, Found, Fixed, Unknown, Nowhere, Inside, valued, size_or_zero, Storage, Typedef, storage_of, specs_before, declared_function, no_initializer, variable_number_of, with_new_variable, with_variable, start_of, start_in, started_variable, fill_variable, file_object, file_function, file_value, file_name, name_in, entry, entries, declaration, layers, walked, elaborated, found, begun, external, externals, Target, InRegister, InMemory, InStatic, bytes_of, static_integer, static_address, static_pointer, static_scalar, fill_scalar, scalar, fill_record, whole, fill_text, is_character, text, by_text, by_expression, parts_of, takes_braces, is_scalar_type, all_surplus, initialize, initialize_parts, surplus, no_start, with_init_layers, is_twice_in, declared_as, reallocates, opened, core_of, with_static}
 use Rattle.core_soundness.proofs.Words.Facts.{HasLayouts, Solid, TableFits, Whole, Written, AllWritten, AreWritten}
 use Rattle.c_types.proofs.MemberLemmas.{some_array, Extends, layout_stays}
 use Rattle.c_types.specs.declared.types.IntType.TheVariants as i

@@ -1,9 +1,9 @@
 -- What the grammar says of trees.
-use Rattle.std.proofs.Common.{◌≡◌, Bool, true, false, IsSome, ◌⊎◌, replicate, ◌≤◌, ℕ, zero, suc, List, [], ◌∷◌, ◌++◌, All, Option, Some, None, refl, sym, ap, ◌∙◌, subst, inl, inr, arith, ◌+◌, ◌==◌, ◌||◌, ◌&&◌, nat_le, not, if◌then◌else◌}
+use Rattle.std.proofs.Common.{◌≡◌, Bool, true, false, IsSome, ◌⊎◌, replicate, ◌≤◌, ℕ, zero, suc, List, [], ◌∷◌, ◌++◌, All, Option, Some, None, refl, sym, ap, ◌∙◌, subst, inl, inr, arith, ◌||◌, nat_le, not}
 use Rattle.std.proofs.lemmas.Bool.{eqb-true, and_parts}
 use Rattle.std.proofs.lemmas.List.Elements.{All-tail}
 use Rattle.std.proofs.lemmas.Bool.{false≢true}
-use Rattle.core_soundness.proofs.Words.Trees.{IsToken, IsLexed, Token, TokenKind, Takes, IsBase, IsDeclarator, Allowed, AllAllowed, IsExternal, AreExternals, Tally, with_keyword, with_word, tally, is_integer_type, is_one_type, are_specs, obeys, is_none, Form, Item, Says, Here, Part, key, shape, form_home, keyword_home, home, rows, some, commas, behind_commas, some_commas, expr, cond_level, HasTree, Place, Expression, name_of, has_typedef, params_of, Scope, leads_to_name, places, params_among, suffix_params, first_list, first_scope, is_scope, after, left, Piece, Said, Line, filled, spell, spell_all, IsWord, Spells, Tree, Trees, Leaf, At, Node, none, ◌▹◌, count, Word, Keyword}
+use Rattle.core_soundness.proofs.Words.Trees.{IsToken, IsLexed, Token, TokenKind, Takes, IsBase, IsDeclarator, Allowed, AllAllowed, IsExternal, AreExternals, Tally, with_keyword, with_word, tally, is_one_type, are_specs, obeys, is_none, Form, Item, Says, Here, Part, key, shape, form_home, keyword_home, home, rows, some, commas, behind_commas, some_commas, expr, cond_level, HasTree, Place, Expression, name_of, has_typedef, params_of, Scope, leads_to_name, places, params_among, suffix_params, first_list, first_scope, is_scope, after, left, Piece, Said, Line, filled, spell, spell_all, IsWord, Spells, Tree, Trees, Leaf, At, Node, none, ◌▹◌, count, Word, Keyword}
 use Rattle.core_soundness.proofs.Words.Facts.{HasLists, HasParameters, IsDefinition, WordNames, Names, AllNames, IsHeld, HasParts, Written, AllWritten, Each, AreWritten}
 use Rattle.c_lexer.proofs.Constants.{constant_read}
 use Rattle.c_lexer.specs.declared.token.TokenKind.TheVariants as kind

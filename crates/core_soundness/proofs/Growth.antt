@@ -1,18 +1,17 @@
 -- How the context grows while a text is walked, and what answers lead to.
 use Rattle.std.proofs.Common.{◌≡◌, ◌≤◌, ◌+◌, ℕ, List, [], ◌∷◌, ◌++◌, length, slice_get, Some, sum_by, refl, sym, ap, ◌∙◌, arith, append_assoc, append-nil, Bool, true, false, cond, is_some, subst, ⊎_elim, Ok, Err, Option, None, ltb-false, ◌⊎◌, ◌<◌, inl, inr, ◌||◌}
 use Rattle.std.proofs.lemmas.List.Sums.{sum_by-append}
-use Rattle.std.specs.Prelude.{nat_lt}
 use Rattle.core_soundness.proofs.Words.Trees.{Tree, Trees, Leaf, At, Node, none, ◌▹◌}
-use Rattle.core_soundness.proofs.Words.Types.{PlainType, line_of, answered, wanted, string, PlainNamed, Checked, Refusal, refused, then, unless, ScopeList, Table, named_in, innermost, with_name, with_name_in, after_declaration, barred, PlainTyped, is_void, read, has_no_value, TypeKind, Operands, StaticTooLarge}
+use Rattle.core_soundness.proofs.Words.Types.{PlainType, line_of, answered, wanted, string, PlainNamed, Checked, Refusal, refused, then, unless, ScopeList, Table, named_in, innermost, with_name, after_declaration, barred, PlainTyped, is_void, read, has_no_value, TypeKind, Operands}
 use Rattle.core_soundness.proofs.Words.Core.{block_size, Atom, Stm, StmKind, Free, Enter, Leave, Jump, Zero}
-use Rattle.core_soundness.proofs.Words.Elaborating.{with_format, asked, Piece, Does, Code, Context, Variable, told, emit, integer_by, pointer_by, With, literal_object, Here, here, with_labels, anew, Found, valued_from, unused, valued, code_line, cast_operand, calls_realloc, reallocates, any_reallocates, opened, closed, with_literal}
+use Rattle.core_soundness.proofs.Words.Elaborating.{with_format, asked, Piece, Does, Code, Context, Variable, told, emit, integer_by, pointer_by, With, Here, here, with_labels, anew, Found, valued_from, unused, valued, code_line, cast_operand, calls_realloc, reallocates, any_reallocates, opened, closed, with_literal}
 use Rattle.c_tree.specs.Forms as f
 use Rattle.c_tree.specs.Words as w
 use Rattle.c_decls.specs.Expressions as types
 use Rattle.c_decls.specs.Named as n
 use Rattle.c_decls.specs.TypeNames as names
 use Rattle.core_soundness.proofs.Flows.{Fragment, IsPlain, nothing, joined, plain, agree_refl, Marks, Targets, Places, Placed, steps, Agree, agree_trans, steps_append, targets_append, targets_map, places_append, places_map, placed_left, placed_right, flows_append, flows_agree, marked, Way, IsWay, Leads, AreEarlier, leads_less, leads_agree, earlier_less, Made, stm_at, in_scope}
-use Rattle.core_soundness.proofs.Scopes.{More, more_refl, more_trans, MoreTags, IsNewTag, Pushed, push_get, get_left, Safe, SafeTable, same_frees, more_safe, Tied, tied_trans, tied_same, more_keeps, more_depth}
+use Rattle.core_soundness.proofs.Scopes.{More, more_refl, more_trans, MoreTags, push_get, get_left, Safe, SafeTable, same_frees, more_safe, Tied, tied_trans, tied_same, more_keeps, more_depth}
 use Rattle.core_soundness.proofs.Choices.{either_way, some_same}
 
 -- what elaborating an expression does to what is known: its code is a fragment with no way out but its end

@@ -3,9 +3,9 @@ use Rattle.std.proofs.Common.{◌≡◌, ◌+◌, ℕ, true, false, List, [], �
 use Rattle.std.proofs.lemmas.Bool.{eq-eqb}
 use Rattle.std.specs.Option.{option_or}
 use Rattle.core_soundness.proofs.Words.Trees.{Form, shape, assign_level, Place, Expression, places, is_scope, Tree, Trees, Leaf, At, Node, none, ◌▹◌, count}
-use Rattle.core_soundness.proofs.Words.Types.{TagTable, PlainType, Void, IntType, call, no_function, Found, line_of, answered, wanted, changing, one, two, callee, first_literal, typed, values, typename, layers, suffix_layers, suffix_layer, param_types, in_new_scope, out_of_scope, unused, cast_operand, constant_from, promoted, PlainNamed, element, choice, assigned, changed, behind_comma, size, cast, converts, unconverted, Checked, then, ScopeList, found, Table, named_in, found_from, Context, Layer, ArrayOf, FunctionOf, special_type, specs_type, array_length, with_layers, address, unary, binary, PlainTyped, is_function, Operand, Number, operand, is_scalar, is_void, Constant, LeftOut, Operands, Assignment}
+use Rattle.core_soundness.proofs.Words.Types.{TagTable, PlainType, Void, IntType, call, no_function, Found, line_of, answered, wanted, changing, one, two, callee, first_literal, typed, values, typename, layers, suffix_layers, suffix_layer, param_types, in_new_scope, out_of_scope, unused, cast_operand, promoted, PlainNamed, element, choice, assigned, changed, behind_comma, size, cast, converts, unconverted, Checked, then, ScopeList, found, Table, named_in, found_from, Context, Layer, ArrayOf, FunctionOf, special_type, specs_type, array_length, with_layers, binary, PlainTyped, is_function, Operand, Number, operand, is_scalar, is_void, Constant, LeftOut, Operands, Assignment}
 use Rattle.core_soundness.proofs.Words.Core.{Atom, StmKind, Zero, Leave, Return}
-use Rattle.core_soundness.proofs.Words.Elaborating.{Taken, Known, number_of, plain_name, with_number, with_address, left_part, taken, all_taken, asked, Context as TextContext, told, emit, anew, valued, unused as unused_value, Found as FoundCode, atom_in, code_line, convert_integer, tested_value, convert, constant, opened, reallocates, closed, evaluated, maybe_evaluated, condition, leaves_if_zero, maybe_leaves, return_of, return_from, switch_operand, closed_atom, switch_operand_of, leaves, returned, return_value}
+use Rattle.core_soundness.proofs.Words.Elaborating.{Taken, Known, number_of, plain_name, with_number, with_address, left_part, taken, all_taken, asked, Context as TextContext, told, emit, valued, unused as unused_value, Found as FoundCode, atom_in, code_line, convert_integer, tested_value, convert, constant, opened, reallocates, closed, evaluated, maybe_evaluated, condition, leaves_if_zero, maybe_leaves, return_of, return_from, switch_operand, closed_atom, switch_operand_of, leaves, returned, return_value}
 use Rattle.core_soundness.proofs.Words.Facts.{is_register, NoRegister, TakesAddress, Spoken, AllSpoken, Written, AllWritten}
 use Rattle.c_types.specs.Types as ct
 use Rattle.c_tree.specs.Forms as f
@@ -13,7 +13,6 @@ use Rattle.c_tree.specs.Places as p
 use Rattle.c_tree.specs.Words as w
 use Rattle.c_tree.specs.declared.operator.AssignOp.TheVariants as a
 use Rattle.c_tree.specs.declared.operator.UnaryOp.TheVariants as u
-use Rattle.c_decls.specs.PlaceRules as rules
 use Rattle.c_decls.specs.ScopeList as scopes
 use Rattle.c_decls.specs.TypeNames as names
 use Rattle.c_decls.specs.TypeNames.{PointerTo}
@@ -27,7 +26,6 @@ use Rattle.core_soundness.proofs.Growth.{good, ok_same, never, type_cast_unused,
 use Rattle.core_soundness.proofs.Parameters.{functions, functions_joined, functions_one, functions_reversed, not_function}
 use Rattle.core_soundness.proofs.Scopes.{with_tag_more, More, MoreTags, MoreAll, IsNewTag, more_refl, more_trans, more_depth, left_more, HasScope, scope_more}
 use Rattle.core_soundness.proofs.Sorting.{kept_test, passed, unbarred}
-use Rattle.core_soundness.proofs.TagSorts.{typed_after, wanted_after}
 use Rattle.core_soundness.proofs.Taking.{declares, restores, Held, Still, AllStill, Calm, rows_held, commas_held, here_held, some_held, no_nodes_still, calm_node, calm_address, Has, Inside, left_adds, part_adds, all_taken_adds, among, Numbered, Follows, SameNames, still_names, all_still_names, part_names, drops, Keeps, Same, Fewer, InStep, Stepped, calm_same}
 use Rattle.core_soundness.proofs.Walks.{Tagging, constant_keeps, found_grows, grown_unused, grows_convert_integer, grows_tested, grown_valued, grows_convert}
 use Rattle.core_soundness.proofs.Choices.{either_way}

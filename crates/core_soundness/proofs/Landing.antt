@@ -13,12 +13,12 @@ use Rattle.c_decls.specs.declared.built_in.BuiltIn.TheVariants as built
 use Rattle.core_soundness.proofs.Agreeing.{came}
 use Rattle.core_soundness.proofs.Growth.{good, ok_same, never, behind_test}
 use Rattle.core_soundness.proofs.Scopes.{more_refl}
-use Rattle.core_soundness.proofs.Sorting.{Grew, holds_grew, pieces_grew, Goes, goes_refl, goes_forgotten, Gives, gives_on, gives_integer, Sits, Lands, Comes, comes_lands, HasValue, Converting, converted, tested_value_gives, passed, kept_test, moved_is, beside_is, Makes, before_gives, member_gives, move_gives, IsPointed, IsBetween, LeftOf, binary_makes, goes_trans, goes_emit, goes_here, goes_labels, gives_pointer, Apart, held_as_grew}
+use Rattle.core_soundness.proofs.Sorting.{holds_grew, pieces_grew, Goes, goes_refl, goes_forgotten, Gives, gives_on, gives_integer, Sits, Lands, Comes, comes_lands, HasValue, Converting, converted, tested_value_gives, passed, kept_test, moved_is, beside_is, Makes, before_gives, member_gives, move_gives, IsPointed, IsBetween, LeftOf, binary_makes, goes_trans, goes_emit, goes_here, goes_labels, gives_pointer, Apart, held_as_grew}
 use Rattle.std.proofs.lemmas.Bool.{and_parts}
 use Rattle.core_soundness.proofs.Words.Trees.{Tree, BinaryOp, UnaryOp}
-use Rattle.core_soundness.proofs.Words.Types.{TagTable, PlainMember, members_in, PlainType, IntType, built_ins, constant_of, named, built_in_named, built_in_value, string, PlainNamed, cast, cast_types, null_pointer, element, element_types, dot, arrow, arrow_of, member_among, member_answer, choice, choice_types, chosen_pointer, refused, Table, named_in, found_from, found as declaration, unary, unary_of, unary_on_integer, unary_type, binary, address, logical, PlainTyped, Operand, Number, PointerTo, Neither, operand, place, value, int, constant, is_scalar, is_null_constant, is_void, same, BuiltIn, Constant, TypeTooLarge, StaticTooLarge, NotLvalue, Operands}
+use Rattle.core_soundness.proofs.Words.Types.{TagTable, PlainMember, members_in, PlainType, IntType, built_ins, constant_of, named, built_in_named, built_in_value, string, PlainNamed, cast, cast_types, null_pointer, element, element_types, dot, arrow, arrow_of, member_among, member_answer, choice, choice_types, chosen_pointer, refused, Table, named_in, found_from, found as declaration, unary, unary_of, unary_on_integer, unary_type, binary, logical, PlainTyped, Operand, Number, PointerTo, Neither, operand, place, value, int, constant, is_scalar, is_null_constant, is_void, same, BuiltIn, Constant, TypeTooLarge, StaticTooLarge, Operands}
 use Rattle.core_soundness.proofs.Words.Core.{block_size, Integer, Pointer, Sort, Atom, Cmp, Set, Zero, Jump}
-use Rattle.core_soundness.proofs.Words.Elaborating.{Context, literal_object, local_register, Code, emit, here, with_labels, new_label, integer_by, Found, Spot, Local, Memory, Value, Fixed, Unknown, Nowhere, found_as, atom_in, code_line, convert, forget, tested_value, Empty, name_answer, literal_answer, address_answer, working, move_pointer, combine, combined, fixed_sum, moved_by, offset_of, constant_found, object_found, built_in_found, name_found, is_inner, with_static, with_literal, literal_found, at_address, with_value, indexed, dotted, target_of, pointed, negated, before_number, apply, applied, tells_equal, is_pointer_ahead, is_pointer_operand, ahead, left_operand, between, cast_fixed, cast_to, set_again, compare_again, and_then, and_ends, and_ended, or_else, or_ends, or_ended, choice_spot, choice_found, chosen_by, choose_first, choose_last, chosen}
+use Rattle.core_soundness.proofs.Words.Elaborating.{Context, literal_object, local_register, Code, emit, here, with_labels, new_label, integer_by, Found, Spot, Local, Memory, Value, Fixed, Unknown, Nowhere, found_as, atom_in, code_line, convert, forget, tested_value, name_answer, literal_answer, address_answer, working, move_pointer, combine, combined, fixed_sum, moved_by, offset_of, constant_found, object_found, built_in_found, name_found, is_inner, with_static, with_literal, literal_found, at_address, with_value, indexed, dotted, target_of, pointed, negated, before_number, apply, applied, tells_equal, is_pointer_ahead, is_pointer_operand, ahead, left_operand, between, cast_fixed, cast_to, set_again, compare_again, and_then, and_ends, and_ended, or_else, or_ends, or_ended, choice_spot, choice_found, chosen_by, choose_first, choose_last, chosen}
 use Rattle.core_soundness.proofs.Words.Facts.{World, world, Holds, HeldAs, Held, StandsAs, Stands, IsObject, is_variable, is_literal, is_local, InnerFits, FileFits, NamesFit, local_sort, type_sort, TablesFit}
 use Rattle.core_soundness.proofs.Choices.{not_false}
 

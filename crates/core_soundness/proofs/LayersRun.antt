@@ -1,10 +1,10 @@
 -- What declarators, specs and prototypes do to what fits.
-use Rattle.std.proofs.Common.{◌≡◌, ℕ, ◌+◌, Bool, true, false, cond, is_some, nat_lt, List, [], ◌∷◌, length, Option, Some, None, ◌≤◌, refl, ap, ◌∙◌, arith, ◌<◌, not, option_map, sym, subst, ⊎_elim, length-append, zero, suc, ◌||◌, ◌++◌, slice_get, unwrap_or, Ok}
+use Rattle.std.proofs.Common.{◌≡◌, ℕ, Bool, true, false, cond, is_some, nat_lt, List, [], ◌∷◌, length, Option, Some, None, ◌≤◌, refl, ap, ◌∙◌, arith, ◌<◌, not, option_map, sym, subst, length-append, zero, suc, ◌||◌, unwrap_or, Ok}
 use Rattle.std.proofs.lemmas.Bool.{ltb-false}
 use Rattle.core_soundness.proofs.Words.Trees.{Tree, Trees}
-use Rattle.core_soundness.proofs.Words.Types.{no_layout, TagTable, layout_in, PlainType, Int, PlainTypes, Pointer, PlainNamed, Checked, ScopeList, Table, named_in, innermost, with_name, tag_name, after_declaration, first_or, is_scalar, DeclaredTwice}
+use Rattle.core_soundness.proofs.Words.Types.{no_layout, TagTable, layout_in, PlainType, Int, PlainTypes, Pointer, PlainNamed, Checked, ScopeList, Table, named_in, innermost, with_name, tag_name, after_declaration, is_scalar, DeclaredTwice}
 use Rattle.core_soundness.proofs.Words.Core.{Sort, sort_of, Reg as Register}
-use Rattle.core_soundness.proofs.Words.Elaborating.{Context, Running, told, entered, Code, Variable, asked, local_register, Spot, Memory, left_params, specs, layers, params, constant, with_type, suffix_layers, suffix_layer, counted, with_named, prototype_param, function_param, is_prototype, with_param, is_pointer, is_twice, declared_as, next_is_memory, with_register, with_memory, memory_param, register_param, local_in, with_local}
+use Rattle.core_soundness.proofs.Words.Elaborating.{Context, Running, told, entered, Code, asked, local_register, Spot, Memory, left_params, specs, layers, params, constant, with_type, suffix_layers, suffix_layer, counted, with_named, prototype_param, function_param, is_prototype, with_param, is_pointer, is_twice, declared_as, next_is_memory, with_register, with_memory, memory_param, register_param, local_in, with_local}
 use Rattle.core_soundness.proofs.Words.Facts.{World, world, local_sort, type_sort, is_local, Held, StandsAs, InnerFits, FileFits, NamesFit, PiecesFit, TablesFit}
 use Rattle.c_types.specs.declared.types.IntType.TheVariants as i
 use Rattle.core_tree.specs.declared.statements.Atom.TheVariants as atom
@@ -14,7 +14,7 @@ use Rattle.c_decls.specs.TypeNames as names
 use Rattle.core_soundness.proofs.Calls.{names_more, sort_kept}
 use Rattle.core_soundness.proofs.Declaring.{tail_depth}
 use Rattle.core_soundness.proofs.Growth.{Reached, reached_ok, reached_after, Led, led_ok, led_unless}
-use Rattle.core_soundness.proofs.Scopes.{pushed_fits, first_fits, named_fits, left_fit, More, MoreTags, MoreAll, tags_refl, tags_trans, all_refl, all_trans, more_depth, with_name_depth, Any, any_names, all_any, more_refl, IsNoFunction, with_name_keeps, tag_kept, Pushed, push_get, get_left, get_last, tail_more}
+use Rattle.core_soundness.proofs.Scopes.{pushed_fits, first_fits, named_fits, left_fit, More, MoreTags, MoreAll, tags_refl, tags_trans, all_refl, all_trans, more_depth, with_name_depth, Any, any_names, all_any, more_refl, IsNoFunction, with_name_keeps, tag_kept, get_left, get_last, tail_more}
 use Rattle.core_soundness.proofs.Sitting.{Fine, Runs, runs_refl, runs_trans, on_runs, table_grew, entered_fine, goes_runs}
 use Rattle.core_soundness.proofs.Sorting.{Grew, grew_refl, pieces_grew, goes_told, write_goes}
 use Rattle.core_soundness.proofs.TagSorts.{After}

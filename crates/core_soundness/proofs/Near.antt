@@ -1,11 +1,11 @@
 -- How much expressions and declarators make, by the tokens of their trees.
-use Rattle.std.proofs.Common.{◌≡◌, ◌≤◌, ◌+◌, ◌*◌, ℕ, List, [], ◌∷◌, ◌++◌, length, All, arith, max, Option, unwrap_or, length-append, nat_lt, Bool, true, false, cond, Some, None}
+use Rattle.std.proofs.Common.{◌≡◌, ◌≤◌, ◌+◌, ◌*◌, ℕ, List, [], ◌∷◌, ◌++◌, length, All, arith, max, Option, unwrap_or, length-append, Bool, true, false, cond, Some, None}
 use Rattle.std.proofs.lemmas.List.Elements.{All-push}
 use Rattle.std.specs.Prelude.{IfSome}
-use Rattle.core_soundness.proofs.Words.Trees.{Token, Allowed, AllAllowed, IsExternal, AreExternals, Item, Says, Here, Part, shape, rows, HasTree, Place, Scope, places, first_scope, Piece, Said, Line, filled, spell, spell_all, Spells, Tree, Trees, Node, none, ◌▹◌, count}
-use Rattle.core_soundness.proofs.Words.Types.{no_layout, layout_in, PlainType, IntType, PlainNamed, Checked, after_declaration, PlainTyped, StaticTooLarge, DeclaredTwice}
-use Rattle.core_soundness.proofs.Words.Core.{block_size, IsShort, Mem, Reg as Register, Atom, StmKind}
-use Rattle.core_soundness.proofs.Words.Elaborating.{with_format, Context, Variable, Walked, integer_by, pointer_by, With, local_register, Found, Spot, unused, valued, convert_integer, convert, tested_value, write, Memory, constant, with_type, specs, layers, found, is_pointer, with_register, with_memory, is_twice, declared_as, next_is_memory, with_named, memory_param, register_param, function_param, prototype_param, is_prototype, with_param, with_static, with_literal}
+use Rattle.core_soundness.proofs.Words.Trees.{Token, Allowed, AllAllowed, IsExternal, AreExternals, Item, Says, Here, Part, shape, rows, HasTree, Place, Scope, places, Piece, Said, Line, filled, spell, spell_all, Spells, Tree, Trees, Node, none, ◌▹◌, count}
+use Rattle.core_soundness.proofs.Words.Types.{no_layout, layout_in, PlainType, IntType, PlainNamed, Checked, PlainTyped}
+use Rattle.core_soundness.proofs.Words.Core.{IsShort, Mem, Reg as Register, Atom, StmKind}
+use Rattle.core_soundness.proofs.Words.Elaborating.{with_format, Context, Variable, Walked, integer_by, pointer_by, With, local_register, Found, Spot, unused, valued, convert_integer, convert, tested_value, write, Memory, constant, with_type, specs, layers, found, is_pointer, with_register, with_memory, declared_as, next_is_memory, with_named, memory_param, register_param, function_param, prototype_param, is_prototype, with_param, with_static, with_literal}
 use Rattle.core_tree.specs.declared.statements.Atom.TheVariants as atom
 use Rattle.c_tree.specs.Forms as f
 use Rattle.c_tree.specs.Places as p

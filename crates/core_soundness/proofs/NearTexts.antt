@@ -1,12 +1,12 @@
 -- How much declarations, statements and texts make: the lists of a core are short.
-use Rattle.std.proofs.Common.{◌≡◌, ◌≤◌, ◌+◌, ◌*◌, ◌==◌, not, ℕ, zero, suc, pos, Bool, true, false, cond, is_some, nat_lt, length, All, List, [], ◌∷◌, ◌++◌, slice_get, slice_set, Option, Some, None, unwrap_or, Ok, refl, subst, arith, ◌-◌, ℤ, take, drop, Result, Err, length-drop, length-take-le, codes, map, replicate, sum_by, sym, length-append}
+use Rattle.std.proofs.Common.{◌≡◌, ◌≤◌, ◌+◌, ◌*◌, ◌==◌, not, ℕ, zero, suc, pos, Bool, true, false, cond, is_some, nat_lt, length, All, List, [], ◌∷◌, ◌++◌, slice_get, slice_set, Option, Some, None, unwrap_or, Ok, refl, subst, arith, ◌-◌, ℤ, take, drop, Result, Err, length-drop, length-take-le, map, replicate, sum_by, sym, length-append}
 use Rattle.std.proofs.lemmas.List.{length-replicate}
 use Rattle.std.proofs.lemmas.List.Elements.{All-push, All-head, All-tail, All-cons, All-nil, All-weaker, All-append, All-map, All-replicate}
 use Rattle.std.specs.Prelude.{IfSome}
 use Rattle.core_soundness.proofs.Words.Trees.{first_place, behind, IsCut, answer_with, answer_of, HasTokens, PieceKind, LexError, Token, some_commas, shape, Place, name_of, Tree, Trees, Leaf, At, Node, none, ◌▹◌, count}
-use Rattle.core_soundness.proofs.Words.Types.{no_layout, layout_in, TagTable, PlainType, Array, Struct, Union, kind_of, Void, IntType, line_of, promoted, unconverted, Checked, refused, then, unless, named_in, innermost, tag_name, tag_named, with_layers, is_function, has_no_size, Operand, Number, operand, is_void, is_scalar, Assignment, DeclaredTwice, Incomplete, LeftOut, Operands, StrayBreak, CaseTwice, ProgramTooLong, NoMain}
-use Rattle.core_soundness.proofs.Words.Core.{wrapped, IsShort, AreShort, Core, Func, Mem, Reg as Register, Start, Static, Atom, Off, Enter, Leave, Jump, Return}
-use Rattle.core_soundness.proofs.Words.Elaborating.{addressed_in, Context, With, Variable, asked, emit, anew, left, entered, here, new_label, with_labels, with_pieces, Walked, Declared, first_context, Found, Spot, Local, Memory, atom_in, valued, convert, write, size_or_zero, convert_integer, tested_value, unused, Storage, Typedef, Outside, storage_of, specs_alone, specs_before, cleared, fill_memory, fill_register, fill_at, fill_local, local_object, local_name, function_number, with_function, declared_function, no_initializer, variable_number_of, with_new_variable, with_variable, start_of, start_in, started_variable, started, fill_variable, file_object, file_function, file_value, file_name, name_in, entry, entries, declaration, layers, specs, walked, elaborated, found, begun, params_of, is_defined, body_begun, last_answer, piece_length, body_ended, body, defined, named_definition, definition, external, externals, calls_defined, is_main, Target, InRegister, InMemory, InStatic, static_scalar, member_place, store_at, fill_scalar, scalar, copy_to, fill_record, is_same_place, whole, fill_text, is_character, text, by_text, by_expression, parts_of, takes_braces, is_scalar_type, surplus, all_surplus, initialize, initialize_parts, no_start, with_init_layers, not_whole, is_twice, declared_as, next_is_memory, with_memory, with_register, local_in, with_local, reallocates, opened, closed, function_of, variable_static, literal_static, temporary, pointer_register, core_of, with_static, with_literal, Around, below, in_loop, in_switch, in_delay, leaves, leave_to, evaluated, maybe_evaluated, condition, leaves_if_zero, maybe_leaves, apart, return_of, return_from, has_case, case_of, cased, defaulted, switch_operand_of, switch_operand, no_cases, for_start, statement, items, around_body}
+use Rattle.core_soundness.proofs.Words.Types.{no_layout, layout_in, TagTable, PlainType, Array, Struct, Union, Void, IntType, line_of, promoted, unconverted, Checked, refused, then, unless, named_in, innermost, tag_name, tag_named, with_layers, is_function, has_no_size, Operand, Number, operand, is_void, is_scalar, Assignment, DeclaredTwice, Incomplete, LeftOut, Operands, ProgramTooLong}
+use Rattle.core_soundness.proofs.Words.Core.{IsShort, AreShort, Core, Func, Reg as Register, Start, Static, Atom, Off, Enter, Leave, Jump, Return}
+use Rattle.core_soundness.proofs.Words.Elaborating.{addressed_in, Context, With, Variable, asked, emit, anew, left, entered, here, new_label, with_labels, with_pieces, Walked, first_context, Found, Spot, Local, Memory, atom_in, valued, convert, write, size_or_zero, convert_integer, tested_value, unused, Storage, Typedef, Outside, storage_of, specs_alone, specs_before, cleared, fill_memory, fill_register, fill_at, fill_local, local_object, local_name, function_number, with_function, declared_function, no_initializer, variable_number_of, with_new_variable, with_variable, start_of, started_variable, started, fill_variable, file_object, file_function, file_value, file_name, name_in, entry, entries, declaration, layers, specs, walked, elaborated, found, begun, params_of, is_defined, body_begun, last_answer, piece_length, body_ended, body, defined, named_definition, definition, external, externals, Target, InRegister, InMemory, InStatic, static_scalar, member_place, store_at, fill_scalar, scalar, copy_to, fill_record, is_same_place, whole, fill_text, is_character, text, by_text, by_expression, parts_of, takes_braces, is_scalar_type, surplus, all_surplus, initialize, initialize_parts, no_start, with_init_layers, not_whole, is_twice, declared_as, with_local, reallocates, opened, closed, function_of, variable_static, literal_static, temporary, pointer_register, core_of, with_static, with_literal, Around, below, in_loop, in_switch, in_delay, leaves, leave_to, evaluated, maybe_evaluated, condition, leaves_if_zero, maybe_leaves, apart, return_of, return_from, case_of, cased, defaulted, switch_operand_of, switch_operand, no_cases, for_start, statement, items, around_body}
 use Rattle.core_soundness.proofs.Words.Facts.{AreWithin, HasShortLists}
 use Rattle.c_lexer.specs.declared.piece.Piece.{Piece}
 use Rattle.c_lexer.specs.declared.piece.PieceKind.TheVariants as kind

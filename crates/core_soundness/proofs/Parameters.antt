@@ -1,25 +1,19 @@
 -- The registers that declarators make.
-use Rattle.std.proofs.Common.{◌≡◌, ◌≤◌, ◌+◌, ℕ, zero, suc, ℤ, pos, ◌+ℤ◌, Bool, true, false, ◌||◌, cond, is_some, map, length, reverse, unwrap_or, ◌⊎◌, inl, inr, ⊎_elim, List, [], ◌∷◌, ◌++◌, Option, Some, None, Result, Ok, Err, refl, sym, ap, ◌∙◌, subst, arith, append-nil, append_assoc}
+use Rattle.std.proofs.Common.{◌≡◌, ◌≤◌, ◌+◌, ℕ, zero, suc, pos, true, false, ◌||◌, map, length, reverse, ◌⊎◌, inl, inr, List, [], ◌∷◌, ◌++◌, Option, Some, None, Ok, refl, sym, ap, ◌∙◌, subst, arith, append-nil, append_assoc}
 use Rattle.std.proofs.lemmas.List.{reverse-append, map-append}
-use Rattle.core_soundness.proofs.Words.Trees.{name_of, Tree, Trees, Leaf, At, Node, none, ◌▹◌, RecordSort}
-use Rattle.core_soundness.proofs.Words.Types.{TagTable, completion, known, PlainType, PlainTypes, Int, Struct, Union, Function, first, TagError, line_of, typed, wanted, constant_from, PlainNamed, Checked, then, unless, named_in, innermost, with_name, tag_name, after_declaration, Table, Layer, ArrayOf, FunctionOf, word_type, special_type, array_length, layered, with_layers, with_param_layers, adjusted, is_void, is_record, is_function, is_array, has_no_size, Constant, DeclaredTwice, Incomplete, LeftOut}
-use Rattle.core_soundness.proofs.Words.Core.{wrapped, I32, Sort, sort_of, Atom}
-use Rattle.core_soundness.proofs.Words.Elaborating.{Context, Running, asked, told, entered, local_register, Spot, Local, Memory, write, constant, with_type, maybe_name, begun_as, completed_by, complete, ended, with_member, member, enumerator, enum_named, is_declared, param, left_params, specs, words_type, tag_type, members, member_names, enumerators, layers, suffix_layers, suffix_layer, params, is_pointer, declared_as, next_is_memory, with_register, with_memory, with_named, memory_param, register_param, function_param, prototype_param, with_param}
+use Rattle.core_soundness.proofs.Words.Trees.{name_of, Tree, Trees, Leaf, At, Node, none, ◌▹◌}
+use Rattle.core_soundness.proofs.Words.Types.{TagTable, PlainType, PlainTypes, Int, Function, first, line_of, typed, wanted, PlainNamed, after_declaration, Table, Layer, ArrayOf, FunctionOf, special_type, array_length, layered, with_layers, with_param_layers, adjusted, is_record, is_function, is_array}
+use Rattle.core_soundness.proofs.Words.Core.{Sort, sort_of, Atom}
+use Rattle.core_soundness.proofs.Words.Elaborating.{Context, Running, asked, told, entered, Spot, Local, Memory, write, maybe_name, member, param, left_params, specs, words_type, tag_type, members, member_names, layers, suffix_layers, suffix_layer, params, is_pointer, declared_as, with_register, with_named, with_param}
 use Rattle.core_soundness.proofs.Words.Facts.{type_sort, param_sorts}
 use Rattle.c_types.specs.Types as types
-use Rattle.c_types.specs.declared.types.IntType.TheVariants as i
-use Rattle.core_tree.specs.declared.statements.Atom.TheVariants as atom
 use Rattle.c_tree.specs.Forms as f
-use Rattle.c_tree.specs.Words as w
-use Rattle.c_tree.specs.declared.operator.RecordSort.TheVariants as r
-use Rattle.c_decls.specs.Named as n
-use Rattle.c_decls.specs.TypeNames as names
 use Rattle.c_decls.specs.TypeNames.{PointerTo}
 use Rattle.elaboration.specs.Declarators as d
 use Rattle.elaboration.specs.Declarators.{begun}
 use Rattle.core_soundness.proofs.Agreeing.{came}
 use Rattle.core_soundness.proofs.Declaring.{levels_refl, param_levels, layers_level, suffix_levels}
-use Rattle.core_soundness.proofs.Growth.{good, bad, ok_same, never, behind_test, Reached, reached_ok}
+use Rattle.core_soundness.proofs.Growth.{ok_same, never, behind_test, Reached, reached_ok}
 use Rattle.core_soundness.proofs.Walks.{Tagging, Enumerates, begun_keeps, ended_keeps, enum_named_keeps, enumerators_keep, with_type_keeps, members_keep_one}
 use Rattle.core_soundness.proofs.TagSorts.{typed_after, wanted_after, special_after}
 use Rattle.core_soundness.proofs.LayersRun.{Aside, aside_refl, own_params, specs_beside, layers_beside}

@@ -1,7 +1,7 @@
 -- Parts of code behind one another, and the code of statements.
-use Rattle.std.proofs.Common.{◌≡◌, ◌⊎◌, ◌≤◌, ◌<◌, ◌+◌, ℕ, zero, suc, List, [], ◌∷◌, ◌++◌, refl, sym, ap, ◌∙◌, subst, arith, inl, inr, ⊎_elim, append_assoc, ℤ, Bool, false, not, length, take, drop, Option, Some, None, ap₂, append-nil, map}
+use Rattle.std.proofs.Common.{◌≡◌, ◌⊎◌, ◌≤◌, ◌<◌, ◌+◌, ℕ, zero, suc, List, [], ◌∷◌, ◌++◌, refl, sym, ap, ◌∙◌, subst, arith, inl, inr, ⊎_elim, append_assoc, ℤ, Bool, false, not, take, drop, Option, Some, None, ap₂, append-nil, map}
 use Rattle.core_soundness.proofs.Words.Trees.{Tree, Trees, none, ◌▹◌}
-use Rattle.core_soundness.proofs.Words.Types.{PlainType, Void, IntType, line_of, promoted, unconverted, Operand, Number, operand, is_void, is_scalar, Operands, Assignment}
+use Rattle.core_soundness.proofs.Words.Types.{PlainType, Void, IntType, line_of, promoted, unconverted, Operand, Number, is_void, is_scalar, Operands, Assignment}
 use Rattle.core_soundness.proofs.Words.Core.{Atom, Stm, StmKind, Jump, Zero, Case, Loop, Leave, Return}
 use Rattle.core_soundness.proofs.Words.Elaborating.{Piece, Does, Here, Code, Context, Running, entered, left, emit, Found, atom_in, valued, convert, convert_integer, code_line, tested_value, unused, found, opened, closed, Around, below, in_loop, in_switch, in_delay, leaves, evaluated, maybe_evaluated, condition, leaves_if_zero, maybe_leaves, returned, return_of, return_from, switch_operand_of, switch_operand, does}
 use Rattle.core_soundness.proofs.Declaring.{passes_refl, tail_depth}

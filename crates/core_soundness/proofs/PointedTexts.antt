@@ -1,5 +1,5 @@
 -- The pointers that the statics of a core hold first.
-use Rattle.std.proofs.Common.{◌≡◌, ◌≤◌, ◌<◌, ◌+◌, not, ℕ, zero, suc, Bool, true, false, cond, is_some, nat_lt, codes, All, length, map, sum_by, List, [], ◌∷◌, ◌++◌, slice_get, slice_set, option_map, unwrap_or, Option, Some, None, Ok, refl, sym, ap, ◌∙◌, subst, ⊎_elim, arith, bytes_eq, inl, inr}
+use Rattle.std.proofs.Common.{◌≡◌, ◌≤◌, ◌<◌, ◌+◌, not, ℕ, zero, suc, Bool, true, false, cond, is_some, nat_lt, All, length, map, List, [], ◌∷◌, ◌++◌, slice_get, slice_set, option_map, unwrap_or, Option, Some, None, Ok, refl, sym, ap, ◌∙◌, subst, ⊎_elim, arith, bytes_eq, inl, inr}
 use Rattle.std.proofs.lemmas.Bool.{ltb-true, ltb-false}
 use Rattle.std.proofs.lemmas.List.{length-map}
 use Rattle.std.proofs.lemmas.List.Elements.{All-cons, All-nil, All-append, All-head, All-tail}
@@ -7,9 +7,9 @@ use Rattle.std.proofs.lemmas.Option.{slice_get-map}
 use Rattle.std.specs.List.{IsDistinct}
 use Rattle.std.specs.Prelude.{Contains, nat_eq}
 use Rattle.core_soundness.proofs.Words.Trees.{name_of, Tree, Trees, Leaf, At, Node, none, ◌▹◌}
-use Rattle.core_soundness.proofs.Words.Types.{no_layout, array_layout, number_layout, TagTable, layout_in, PlainType, built_ins, numbered_from, PlainNamed, refused, ScopeList, Table, named_in, innermost, with_name, with_name_in, after_declaration, tag_name, with_layers, tag_named, is_function, has_no_size, BuiltIn, DeclaredTwice, Incomplete, LeftOut, StaticTooLarge, ProgramTooLong, Undeclared, NoMain}
-use Rattle.core_soundness.proofs.Words.Core.{block_size, IsLayoutOfType, IsTarget, IsStatic, Core, Start, Static, Return}
-use Rattle.core_soundness.proofs.Words.Elaborating.{addressed_in, Context, Variable, Declared, asked, emit, first_context, size_or_zero, Storage, Typedef, storage_of, specs_alone, specs_before, function_number, with_function, declared_function, no_initializer, variable_number_of, with_new_variable, with_variable, start_of, start_in, started_variable, fill_variable, file_object, file_function, file_value, file_name, name_in, entry, entries, declaration, specs, layers, walked, elaborated, begun, is_defined, body_begun, last_answer, piece_length, params_of, body_ended, body, defined, named_definition, definition, external, externals, calls_defined, is_main, Target, InStatic, initialize, surplus, no_start, with_init_layers, trimmed, is_twice, declared_as, static_by, variable_static, literal_static, core_of, start_by, with_static, around_body, items}
+use Rattle.core_soundness.proofs.Words.Types.{no_layout, array_layout, number_layout, TagTable, layout_in, PlainType, built_ins, numbered_from, ScopeList, Table, named_in, innermost, with_name, with_name_in, after_declaration, tag_name, with_layers, tag_named, is_function, has_no_size, BuiltIn, DeclaredTwice, Incomplete, LeftOut, StaticTooLarge}
+use Rattle.core_soundness.proofs.Words.Core.{block_size, IsLayoutOfType, IsTarget, IsStatic, Core, Start, Static}
+use Rattle.core_soundness.proofs.Words.Elaborating.{addressed_in, Context, Variable, asked, first_context, size_or_zero, Storage, Typedef, storage_of, specs_alone, specs_before, function_number, with_function, declared_function, no_initializer, variable_number_of, with_new_variable, with_variable, start_of, start_in, started_variable, fill_variable, file_object, file_value, file_name, name_in, entry, entries, declaration, specs, layers, walked, elaborated, begun, is_defined, body_begun, body_ended, body, defined, named_definition, definition, external, externals, Target, InStatic, initialize, surplus, no_start, with_init_layers, trimmed, is_twice, declared_as, static_by, variable_static, literal_static, core_of, start_by, with_static, around_body, items}
 use Rattle.core_soundness.proofs.Words.Facts.{HasLayouts}
 use Rattle.c_tree.specs.Forms as f
 use Rattle.c_tree.specs.Words as w
@@ -21,7 +21,7 @@ use Rattle.core_soundness.proofs.Aiming.{Aims, in_variable, in_literal, Variable
 use Rattle.core_soundness.proofs.Cores.{behind as core_behind}
 use Rattle.core_soundness.proofs.Declaring.{passes_refl, specs_passes, layers_pass, introduced, Levels, levels_refl, with_type_levels, declared_levels, specs_level, layers_level}
 use Rattle.core_soundness.proofs.Growth.{good, ok_same, Reached, Led, led_ok, led_refused, led_after, led_unless, Settled, settled_refl, settled_trans}
-use Rattle.core_soundness.proofs.Scopes.{Safe, SafeTable, get_left, get_last, get_push, get_below, set_get, Pushed, push_get}
+use Rattle.core_soundness.proofs.Scopes.{Safe, SafeTable, get_left, get_last, get_push, get_below, set_get, push_get}
 use Rattle.core_soundness.proofs.Seats.{Has, has_row, byte, PointersBelow, places, Filled, trimmed_length}
 use Rattle.core_soundness.proofs.Sorting.{passed}
 use Rattle.core_soundness.proofs.Statements.{behind_text, items_walk, Sane, external_sane, first_sane}

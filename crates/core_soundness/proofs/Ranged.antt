@@ -6,9 +6,9 @@ use Rattle.std.specs.Int.{w8, w16, w32, w64}
 use Rattle.std.specs.List.{find}
 use Rattle.std.specs.Option.{option_or}
 use Rattle.core_soundness.proofs.Words.Trees.{Tree, BinaryOp, UnaryOp}
-use Rattle.core_soundness.proofs.Words.Types.{Known, no_layout, Placed, none_placed, offset_after, placed, keeps_union_rule, layout_of, CompletedTag, known, layout_in, TagTable, PlainMember, learn, tag_layout, member_layout, refusal, placed_members, members_in, PlainType, Int, Pointer, Struct, Union, kind_of, Array, Layout, PointerInUnion, TooLarge, IntType, typed, line_of, promoted, common_type, immovable, result_type, moving, sum_types, difference_types, integer_types, binary, is_void, has_no_size, PlainTyped, Operand, Number, PointerTo, Neither, operand, read, value, int, TypeKind, Operands, Incomplete}
+use Rattle.core_soundness.proofs.Words.Types.{Known, no_layout, Placed, none_placed, offset_after, placed, layout_of, CompletedTag, known, layout_in, TagTable, PlainMember, learn, tag_layout, member_layout, refusal, placed_members, members_in, PlainType, Int, Pointer, Struct, Union, kind_of, Array, Layout, IntType, typed, promoted, common_type, immovable, result_type, moving, sum_types, difference_types, integer_types, binary, is_void, has_no_size, PlainTyped, Operand, Number, PointerTo, Neither, operand, value, int, TypeKind, Operands, Incomplete}
 use Rattle.core_soundness.proofs.Words.Core.{wrapped, IntKind, I8, U8, I16, U16, I32, U32, I64, U64, IsLayoutOfType, IsNumber, Mem, Atom, CmpOp, StmKind, Set, Conv, Load, Loadp, Store, Storep, Test, Un, Bin, Cmp, Add, Sub, Off, Diff, Pcmp}
-use Rattle.core_soundness.proofs.Words.Elaborating.{byte_layout, element_layout, Piece, Does, Here, Context, emit, here, integer_by, pointer_by, Variable, Walked, asked, told, Code, Found, code_line, valued, convert, atom_in, write, Spot, unused, size_or_zero, Local, Memory, Value, Empty, read_spot, read_value, valued_from, atom_of, holds_all, convert_integer, convert_to, tested, found, elements, struct_parts, parts_of, offset_among, offset_of, working, Working, Calculates, Shifts, Compares, Branches, convert_both, work, on_integers, before_integer, move_pointer, between_pointers, pointer_beside, beside_integer, combine, combined, change, changed_to, member_address, reallocates, opened}
+use Rattle.core_soundness.proofs.Words.Elaborating.{byte_layout, element_layout, Piece, Does, Here, Context, emit, here, integer_by, pointer_by, Variable, Walked, asked, told, Code, Found, valued, convert, atom_in, write, Spot, unused, size_or_zero, Local, Memory, Value, Empty, read_spot, valued_from, atom_of, holds_all, convert_integer, convert_to, tested, found, elements, struct_parts, parts_of, offset_among, offset_of, working, Working, Calculates, Shifts, Compares, Branches, convert_both, work, on_integers, before_integer, move_pointer, between_pointers, pointer_beside, beside_integer, combine, combined, change, changed_to, member_address, reallocates, opened}
 use Rattle.core_soundness.proofs.Words.Facts.{IsStep, AtomIn, KindIn, PiecesIn, IsElement, MemsLaid, VariablesLaid, WalkedLaid, Solid, Whole, AreMade, TableWhole, NamesWhole, MembersWhole}
 use Rattle.hs_base.proofs.Wrapping.{low_bits_lt}
 use Rattle.c_types.proofs.MemberLemmas.{Extends, sized_stays, layout_stays, some_array}

@@ -1,7 +1,7 @@
 -- Each expression is where it says, and its code fits.
 use Rattle.std.proofs.Common.{◌≡◌, ◌≤◌, ◌+◌, ℕ, ℤ, pos, Bool, true, false, cond, is_some, ⊎_elim, List, [], ◌∷◌, Option, Some, None, Ok, refl, sym, ap, ◌∙◌, subst, length, arith}
 use Rattle.core_soundness.proofs.Words.Trees.{Tree, Trees, Leaf, At, Node, none, ◌▹◌}
-use Rattle.core_soundness.proofs.Words.Types.{size_in, PlainType, PlainTypes, Void, Callee, Takes, Prints, NoFunction, called, line_of, int_constant, char_constant, joined, literal, typed, typename, PlainNamed, choice, size_answer, Checked, then, named_in, found_from, found as declaration, ScopeList, Table, entered as scope_entered, binary, PlainTyped, operand, is_record, integer, Is}
+use Rattle.core_soundness.proofs.Words.Types.{size_in, PlainType, PlainTypes, Void, Callee, Takes, Prints, NoFunction, called, line_of, int_constant, char_constant, joined, literal, typed, typename, PlainNamed, choice, size_answer, Checked, then, named_in, found_from, found as declaration, Table, binary, PlainTyped, operand, is_record, integer, Is}
 use Rattle.core_soundness.proofs.Words.Core.{Sort, Enter, Leave}
 use Rattle.core_soundness.proofs.Words.Elaborating.{plain_name, record_assigned, scalar_assigned, old_value, Argument, first_type, rest_types, argument_from, Context, With, asked, told, new_label, emit, anew, entered, left, Found, valued_as, atom_in, valued, unused, code_line, unevaluated, changing, comma_answer, callee_name, callee, parameters, format_argument, is_printf, found, arguments, cast_operand, reallocates, opened, closed, constant_found, ahead, ahead_of, typed_value, left_operand, and_then, or_else, choose, choice_ahead, choice_type, type_ahead, choose_first}
 use Rattle.core_soundness.proofs.Words.Facts.{NoRegister, TakesAddress, Spoken, AllSpoken, FileFits, World, world, HeldAs, Held, StandsAs, Stands, NamesFit, InnerFits, TableFits}
@@ -18,7 +18,7 @@ use Rattle.c_decls.specs.Named as n
 use Rattle.c_decls.specs.ScopeList as scopes
 use Rattle.c_decls.specs.TypeNames as names
 use Rattle.core_soundness.proofs.Agreeing.{came, quiet_left, quiet_first, valued_agrees, found_agrees, changing_first}
-use Rattle.core_soundness.proofs.Calls.{record_lands, scalar_lands, changing_rule, changed_comes, stepped_comes, arguments_grew, AllHeld, argument_goes, CallOf, call_of, call_lands, ready_on, NamesRegister, Rests, rests, name_local, valued_operated, names_more, all_spoken_more, unused_operated, inner_kept}
+use Rattle.core_soundness.proofs.Calls.{record_lands, scalar_lands, changing_rule, changed_comes, stepped_comes, arguments_grew, AllHeld, argument_goes, CallOf, call_of, call_lands, ready_on, Rests, rests, name_local, valued_operated, names_more, all_spoken_more, unused_operated, inner_kept}
 use Rattle.core_soundness.proofs.Declaring.{tail_depth}
 use Rattle.core_soundness.proofs.Growth.{good, ok_same, never, cast_unused, valued_unused}
 use Rattle.core_soundness.proofs.Landing.{found_name, name_lands, constant_lands, string_lands, indexed_lands, dotted_lands, pointed_lands, InMemory, address_lands, applied_lands, left_goes, between_lands, cast_lands, logical_typed, and_then_goes, and_comes, or_else_gives, or_comes, choice_sides, first_goes, first_null, chosen_lands}

@@ -3,12 +3,11 @@ use Rattle.std.proofs.Common.{◌≡◌, ℕ, ℤ, pos, Bool, true, false, ◌||
 use Rattle.std.proofs.lemmas.List.Elements.{All-cons}
 use Rattle.std.specs.Option.{option_map_or}
 use Rattle.core_soundness.proofs.Words.Trees.{name_of, Tree, Trees, Leaf, At, Node, none, ◌▹◌, RecordSort}
-use Rattle.core_soundness.proofs.Words.Types.{Known, layout_of, TagTable, CompletedTag, refusal, layout_in, PlainType, PlainTypes, Void, Int, Pointer, Array, Struct, Union, Layout, TagError, TagInfo, line_of, typed, wanted, constant_from, PlainNamed, Checked, then, unless, Table, named_in, innermost, first_or, with_name, tag_name, Layer, record_type, is_union, special_type, array_length, with_layers, with_param_layers, adjusted, is_void, is_record, is_array, is_function, has_no_size, DeclaredTwice, Incomplete, LeftOut}
-use Rattle.core_soundness.proofs.Words.Core.{wrapped, I32, HasLayout}
+use Rattle.core_soundness.proofs.Words.Types.{Known, layout_of, TagTable, CompletedTag, refusal, layout_in, PlainType, PlainTypes, Void, Int, Pointer, Array, Struct, Union, Layout, TagError, TagInfo, line_of, typed, wanted, constant_from, PlainNamed, Checked, unless, named_in, innermost, with_name, tag_name, Layer, record_type, special_type, array_length, with_layers, with_param_layers, adjusted, is_void, is_record, is_array, is_function, has_no_size, DeclaredTwice, Incomplete, LeftOut}
+use Rattle.core_soundness.proofs.Words.Core.{HasLayout}
 use Rattle.core_soundness.proofs.Words.Elaborating.{Context, asked, entered, local_register, Memory, constant, with_type, maybe_name, newly_named, begun_as, completed_by, complete, ended, with_member, member, enumerator, enum_named, is_declared, param, left_params, specs, words_type, tag_type, members, member_names, enumerators, layers, suffix_layers, suffix_layer, params, is_twice, declared_as, next_is_memory, with_register, with_memory, counted, with_named, memory_param, register_param, function_param, prototype_param, is_prototype, with_param}
-use Rattle.core_soundness.proofs.Words.Facts.{Solid, Whole, AllWhole, MembersWhole, NamedWhole, TableWhole, HasParts, Written, AllWritten}
+use Rattle.core_soundness.proofs.Words.Facts.{Solid, Whole, AllWhole, MembersWhole, NamedWhole, HasParts, Written, AllWritten}
 use Rattle.c_types.specs.TagTable as tables
-use Rattle.c_types.specs.declared.types.IntType.TheVariants as i
 use Rattle.core_tree.specs.declared.statements.Atom.TheVariants as atom
 use Rattle.c_tree.specs.Forms as f
 use Rattle.c_tree.specs.Words as w
@@ -18,7 +17,7 @@ use Rattle.c_decls.specs.TypeNames as names
 use Rattle.elaboration.specs.Declarators as d
 use Rattle.elaboration.specs.Declarators.{begun}
 use Rattle.core_soundness.proofs.Agreeing.{came}
-use Rattle.core_soundness.proofs.Growth.{good, ok_same, never, Led, led_ok, led_refused, led_after, led_unless, behind_test}
+use Rattle.core_soundness.proofs.Growth.{ok_same, never, Led, led_ok, led_refused, led_after, led_unless, behind_test}
 use Rattle.core_soundness.proofs.Ranged.{wrapped_number, mems_push, K, fit_of, told_whole, layers_stay, layer_stays, laid}
 use Rattle.core_soundness.proofs.RangedFound.{Rises, rises_refl, rises_trans, told_rises, write_rises, with_code}
 use Rattle.core_soundness.proofs.TagSorts.{name_longer, SortedType, SortedName, type_longer, push_longer, new_sorted, ST, word_sorted, special_sorted, with_layers_sorted, Leads, typed_leads, wanted_leads, special_leads, new_tag_leads, MembersSorted, members_longer, bodies_longer, bodies_push, Sorts, kinds_refl, leads_kinds}

@@ -2,8 +2,8 @@
 use Rattle.std.proofs.Common.{◌≡◌, ◌≤◌, ℕ, List, [], ◌∷◌, ◌++◌, slice_get, Option, Some, None, option_map, refl, sym, ap, ◌∙◌, subst, arith, ◌<◌, ◌+◌, max, Bool, true, false, cond, Ok, pos, ◌⊎◌, inl, inr}
 use Rattle.core_soundness.proofs.Words.Trees.{Tree, BinaryOp, UnaryOp}
 use Rattle.core_soundness.proofs.Words.Types.{TagTable, PlainType, kind_of, IntType, line_of, promoted, common_type, Refusal, Checked, unless, named_in, result_type, barred, moving, immovable, beside_pointer, sum_types, difference_types, order_types, equal_types, integer_types, binary, PlainTyped, Operand, Number, PointerTo, Neither, operand, held, read, is_scalar, has_no_size, value, int, is_null_constant, TypeKind}
-use Rattle.core_soundness.proofs.Words.Core.{Sort, Integer, Pointer, sort_of, Reg as Register, Atom, CmpOp, StmKind, Set, Conv, Un, Bin, Cmp, Add, Sub, Off, Diff, Pcmp, Test, Load, Loadp, Store, Storep, Call, Printf, Return}
-use Rattle.core_soundness.proofs.Words.Elaborating.{Piece, Does, Here, Context, told, emit, here, with_labels, integer_by, pointer_by, integer_temporary, pointer_temporary, With, Found, Spot, Local, Memory, Value, Empty, read_spot, read_value, code_line, valued_from, atom_in, holds_all, convert_integer, convert_to, convert, tested, tested_value, write, unused, size_or_zero, working, Working, Calculates, Shifts, Compares, Branches, convert_both, work, on_integers, before_integer, move_pointer, between_pointers, pointer_beside, beside_integer, combine, change, changed_to, member_address, tells_equal}
+use Rattle.core_soundness.proofs.Words.Core.{Sort, Integer, Pointer, sort_of, Reg as Register, Atom, CmpOp, StmKind, Set, Un, Bin, Cmp, Add, Sub, Off, Diff, Pcmp, Test, Load, Loadp, Store, Storep, Call, Printf, Return}
+use Rattle.core_soundness.proofs.Words.Elaborating.{Piece, Does, Here, Context, told, emit, here, with_labels, integer_by, pointer_by, integer_temporary, pointer_temporary, With, Found, Spot, Local, Memory, Value, Empty, read_spot, read_value, code_line, valued_from, atom_in, convert_integer, convert_to, convert, tested, tested_value, write, unused, size_or_zero, working, Working, Calculates, Shifts, Compares, Branches, convert_both, work, on_integers, before_integer, move_pointer, between_pointers, pointer_beside, beside_integer, combine, change, changed_to, member_address, tells_equal}
 use Rattle.core_soundness.proofs.Words.Facts.{World, IsRegister, is_local, is_integer, is_pointer_temporary, IsObject, is_variable, is_literal, Holds, HoldAll, local_sort, Receives, IsPrinted, Fits, FitsAnswer, FitsIn, PiecesFit, world, HeldAs, Held, StandsAs, Stands}
 use Rattle.c_types.specs.Types as types
 use Rattle.core_tree.specs.declared.statements.Atom.TheVariants as atom

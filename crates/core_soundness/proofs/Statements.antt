@@ -1,15 +1,14 @@
 -- What statements and external declarations do to what is known.
-use Rattle.std.proofs.Common.{◌≡◌, ◌⊎◌, ◌≤◌, ◌<◌, ◌+◌, ◌-◌, ℕ, ℤ, Bool, true, false, not, length, List, [], ◌∷◌, ◌++◌, take, drop, Option, Some, None, Ok, refl, sym, ap, ◌∙◌, subst, arith, inl, inr, ⊎_elim, append_assoc, append-nil, true≢false, cond, sum_by, slice_get, slice_set, bytes_eq, codes, ltb-false}
+use Rattle.std.proofs.Common.{◌≡◌, ◌⊎◌, ◌≤◌, ◌<◌, ◌+◌, ◌-◌, ℕ, ℤ, Bool, true, false, not, length, List, [], ◌∷◌, ◌++◌, take, drop, Option, Some, None, Ok, refl, sym, ap, ◌∙◌, subst, arith, inl, inr, ⊎_elim, append_assoc, append-nil, true≢false, sum_by, slice_get, slice_set, bytes_eq, codes, ltb-false}
 use Rattle.std.proofs.lemmas.List.Sums.{sum_by-append}
 use Rattle.std.specs.Prelude.{is_some, nat_lt}
 use Rattle.core_soundness.proofs.Words.Trees.{name_of, Tree, Trees, At, Node, none, ◌▹◌}
-use Rattle.core_soundness.proofs.Words.Types.{kind_of, PlainType, IntType, built_ins, numbered_from, first_scopes, name_of as name_of_built_in, Checked, refused, then, named_in, with_layers, is_function, BuiltIn, StrayBreak, CaseTwice, LeftOut, Undeclared, DeclaredTwice, NoMain, ProgramTooLong}
+use Rattle.core_soundness.proofs.Words.Types.{kind_of, PlainType, IntType, built_ins, numbered_from, first_scopes, name_of as name_of_built_in, Checked, refused, then, named_in, with_layers, is_function, BuiltIn, StrayBreak, CaseTwice, LeftOut, DeclaredTwice, NoMain, ProgramTooLong}
 use Rattle.core_soundness.proofs.Words.Core.{wrapped, Atom, Jump, Loop, Enter, Leave, Return}
 use Rattle.core_soundness.proofs.Words.Elaborating.{addressed_in, Piece, Does, Here, Code, Context, entered, left, scoped, emit, here, new_label, with_labels, with_pieces, no_code, Declared, Walked, first_context, declaration, function_number, declared_function, constant, specs, layers, walked, begun, define, params_of, is_defined, body_begun, last_answer, piece_length, body_ended, body, defined, named_definition, definition, external, externals, calls_defined, is_main, Around, below, in_loop, in_switch, in_delay, leave_to, evaluated, maybe_evaluated, leaves_if_zero, maybe_leaves, apart, has_case, with_case, cased, defaulted, dispatch, default_or, switch_operand, no_cases, switched, looped, for_start, statement, items, around_body}
 use Rattle.c_tree.specs.Forms as f
 use Rattle.c_tree.specs.Tree as t
 use Rattle.c_decls.specs.Named as n
-use Rattle.elaboration.specs.Externals.{ended}
 use Rattle.core_soundness.proofs.Declaring.{passes_refl, constant_passes, tail_depth, declaration_declares, specs_passes, layers_pass, introduced}
 use Rattle.core_soundness.proofs.Flows.{Marks, Way, way_on, IsWay, Stands, Leads, AreEarlier, earlier_less, Fragment, anywhere, in_scope, jump_leaves, with_ways, stm_at, Targets, Placed, Flows, targets_append, targets_map, placed_left, flows_append}
 use Rattle.core_soundness.proofs.Growth.{Led, led_ok, led_refused, led_after, led_unless, Stays, Passes, stays_trans, stays_beside, Counted, passes_trans, ok_same, good, never}
@@ -648,10 +647,11 @@ pub behind_text : (unit : Trees) (c : Context) → walked unit ≡ Ok c → (ext
 behind_text unit c q =
     let x = came (externals unit first_context) q in
     let d = came (calls_defined x.value.functions x.value.calls x.value) x.last in
-    let last = passed (not (is_main d.value.functions (named_in (codes "main") d.value.scopes.file))) NoMain 1 d.value c d.last in
-    (subst (λ (y : Context). externals unit first_context ≡ Ok y) (calls_same x.value.functions x.value.calls x.value d.value d.is ∙ last) x.is,
-    subst (λ (y : Context). is_main y.functions (named_in (codes "main") y.scopes.file) ≡ true) last
-    (not_false (is_main d.value.functions (named_in (codes "main") d.value.scopes.file)) (kept_test (not (is_main d.value.functions (named_in (codes "main") d.value.scopes.file))) NoMain 1 (good d.value) c d.last)))
+    let last = passed (not (is_main d.value.functions (named_in (codes "main") d.value.scopes.file))) NoMain 1 d.value c d.last in (
+      subst (λ (y : Context). externals unit first_context ≡ Ok y) (calls_same x.value.functions x.value.calls x.value d.value d.is ∙ last) x.is,
+      subst (λ (y : Context). is_main y.functions (named_in (codes "main") y.scopes.file) ≡ true) last
+          (not_false (is_main d.value.functions (named_in (codes "main") d.value.scopes.file)) (kept_test (not (is_main d.value.functions (named_in (codes "main") d.value.scopes.file))) NoMain 1 (good d.value) c d.last)),
+    )
 
 first_safe_file : SafeTable first_scopes.file
 first_safe_file x = refl

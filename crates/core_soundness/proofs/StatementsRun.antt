@@ -1,14 +1,14 @@
 -- What statements do to what fits (C99 6.8).
 use Rattle.std.proofs.Common.{◌≡◌, ◌≤◌, ◌+◌, ◌-◌, ℕ, ℤ, zero, suc, true, false, not, is_some, map, length, List, [], ◌∷◌, ◌++◌, Option, Some, None, Ok, refl, sym, ap, ◌∙◌, subst, arith}
 use Rattle.core_soundness.proofs.Words.Trees.{shape, is_scope, Tree, Trees, At, Node, none, ◌▹◌}
-use Rattle.core_soundness.proofs.Words.Types.{PlainType, Void, kind_of, IntType, line_of, promoted, unconverted, converts, Checked, then, unless, tail, Operand, Number, PointerTo, Neither, operand, is_void, is_scalar, LeftOut, Operands, Assignment, CaseTwice, StrayBreak}
+use Rattle.core_soundness.proofs.Words.Types.{PlainType, Void, kind_of, IntType, line_of, promoted, unconverted, converts, Checked, then, unless, tail, Operand, Number, Neither, operand, is_void, is_scalar, LeftOut, Operands, Assignment, CaseTwice, StrayBreak}
 use Rattle.core_soundness.proofs.Words.Core.{wrapped, Sort, Integer, Atom, Jump, Zero, Case, Loop, Enter, Leave, Return}
 use Rattle.core_soundness.proofs.Words.Elaborating.{Taken, left_scope, taken, all_taken, Here, Context, entered, left, scoped, emit, here, new_label, with_labels, with_pieces, Found, atom_in, valued, convert, convert_integer, tested_value, unused, declaration, constant, found, opened, closed, Around, below, in_loop, in_switch, in_delay, has_case, leaves, leave_to, evaluated, maybe_evaluated, closed_atom, condition, leaves_if_zero, maybe_leaves, apart, returned, return_value, return_of, return_from, with_case, cased, defaulted, does, dispatch, switch_operand_of, switch_operand, no_cases, switched, looped, for_start, statement, items}
 use Rattle.core_soundness.proofs.Words.Facts.{Spoken, AllSpoken, Written, AllWritten, World, world, Holds, HeldAs, Held, FitsAnswer, PiecesFit, NamesFit, result_sort}
 use Rattle.c_types.specs.Types as types
 use Rattle.c_tree.specs.Forms as f
 use Rattle.elaboration.specs.Addressed.{left as left_node}
-use Rattle.core_soundness.proofs.Formed.{Formed, AllFormed, Shaped}
+use Rattle.core_soundness.proofs.Formed.{Formed, AllFormed}
 use Rattle.core_soundness.proofs.Agreeing.{came}
 use Rattle.core_soundness.proofs.Calls.{converting_of}
 use Rattle.core_soundness.proofs.DeclaredSteps.{declaration_spoken, declaration_in_step}

@@ -3,15 +3,14 @@ use Rattle.std.proofs.Common.{◌≡◌, ◌+◌, ℕ, pos, Bool, true, false, n
 use Rattle.std.proofs.lemmas.Slice.Eq.{bytes_eq-Decides}
 use Rattle.std.proofs.lemmas.Bool.{and_parts}
 use Rattle.std.specs.Option.{option_or}
-use Rattle.core_soundness.proofs.Words.Trees.{shape, rows, some, commas, behind_commas, some_commas, Place, is_scope, places, name_of, name_among, first_name, leads_to_name, Tree, Trees, At, Node, none, ◌▹◌, count, Leaf, RecordSort}
-use Rattle.core_soundness.proofs.Words.Types.{PlainType, Array, Struct, Union, line_of, PlainNamed, unconverted, refused, then, ScopeList, Table, named_in, found_from, found as declaration, innermost, first_or, with_name, with_name_in, after_declaration, is_scalar, Assignment, DeclaredTwice}
+use Rattle.core_soundness.proofs.Words.Trees.{shape, rows, some, commas, behind_commas, some_commas, Place, is_scope, places, name_of, name_among, first_name, leads_to_name, Tree, Trees, At, Node, none, ◌▹◌, count, Leaf}
+use Rattle.core_soundness.proofs.Words.Types.{PlainType, Array, Struct, Union, line_of, PlainNamed, refused, then, ScopeList, Table, named_in, found_from, found as declaration, innermost, first_or, with_name, with_name_in, after_declaration, is_scalar, Assignment, DeclaredTwice}
 use Rattle.core_soundness.proofs.Words.Core.{Atom, Off, Copy, Clear, Set}
-use Rattle.core_soundness.proofs.Words.Elaborating.{Taken, taken, number_of, Known, left_scope, left_part, all_taken, Context, emit, local_register, Found, Spot, Local, Memory, atom_in, valued, convert, write, size_or_zero, zero_of, cleared, fill_memory, fill_register, fill_at, fill_local, specs, found, Target, InRegister, InMemory, InStatic, static_scalar, member_place, store_at, fill_scalar, scalar, copy_to, fill_record, is_same_place, whole, fill_text, is_character, text, by_text, by_expression, parts_of, takes_braces, is_scalar_type, all_surplus, initialize, initialize_parts, not_whole, next_is_memory, local_in, with_local, is_same_again, is_file, is_twice_in, is_twice, declared_as, with_register, with_memory, counted, with_named, memory_param, register_param, function_param, prototype_param, is_prototype, with_param, opened, with_literal}
+use Rattle.core_soundness.proofs.Words.Elaborating.{Taken, taken, number_of, Known, left_part, all_taken, Context, emit, local_register, Found, Spot, Local, Memory, atom_in, valued, convert, write, size_or_zero, zero_of, cleared, fill_memory, fill_register, fill_at, fill_local, specs, found, Target, InRegister, InMemory, InStatic, static_scalar, member_place, store_at, fill_scalar, scalar, copy_to, fill_record, is_same_place, whole, fill_text, is_character, text, by_text, by_expression, parts_of, takes_braces, is_scalar_type, all_surplus, initialize, initialize_parts, not_whole, next_is_memory, local_in, with_local, is_same_again, is_file, is_twice_in, is_twice, declared_as, with_register, with_memory, counted, with_named, memory_param, register_param, function_param, prototype_param, is_prototype, with_param, opened, with_literal}
 use Rattle.core_soundness.proofs.Words.Facts.{Spoken, AllSpoken, is_register, Written}
 use Rattle.core_tree.specs.declared.statements.Atom.TheVariants as atom
 use Rattle.c_tree.specs.Forms as f
 use Rattle.c_tree.specs.Places as p
-use Rattle.c_tree.specs.Words as w
 use Rattle.c_decls.specs.Named as n
 use Rattle.c_decls.specs.ScopeList as scopes
 use Rattle.elaboration.specs.Addressed as walk

@@ -1,8 +1,7 @@
 -- Tags and the sorts by which types name them.
-use Rattle.std.proofs.Common.{◌≡◌, ℕ, true, false, List, [], ◌∷◌, ◌++◌, length, slice_get, Option, Some, None, refl, ◌∙◌, subst, ⊎_elim, ◌*◌, zero, Bool, cond, nat_lt, Ok, sym, ap, arith}
-use Rattle.std.specs.Option.{option_or}
+use Rattle.std.proofs.Common.{◌≡◌, ℕ, true, false, List, [], ◌∷◌, ◌++◌, length, slice_get, Option, Some, None, refl, subst, ◌*◌, zero, nat_lt, Ok, sym, arith}
 use Rattle.core_soundness.proofs.Words.Trees.{name_of, Tree, Trees, Leaf, At, Node, none, ◌▹◌, RecordSort}
-use Rattle.core_soundness.proofs.Words.Types.{TagTable, size_in, CompletedTag, PlainType, Array, Struct, Union, Void, Int, TagInfo, named, called, call, no_function, line_of, Found, answered, wanted, changing, one, two, joined, string, first_literal, callee, in_new_scope, typed, values, typename, layers, suffix_layers, suffix_layer, param_types, param_type, unused, cast_operand, PlainNamed, held_place, element, dot, arrow, stepped, size, cast, choice, assigned, changed, behind_comma, Checked, ScopeList, Table, named_in, found_from, found, innermost, with_name, with_name_in, first_or, tag_name, record_type, is_union, Context, Layer, ArrayOf, FunctionOf, has, is_void_word, word_type, same_sort, tag_named, enum_named, type_named, special_type, array_of, layered, layered_before, with_layers, specs_type, array_length, with_param_layers, adjusted, with_param, declared_param, with_new_tag, address, unary, binary, is_function, PlainTyped, read, is_void, wanted_value, LeftOut, TypeTooLarge, DeclaredTwice, Incomplete}
+use Rattle.core_soundness.proofs.Words.Types.{TagTable, size_in, CompletedTag, PlainType, Array, Struct, Union, Int, TagInfo, named, call, line_of, Found, answered, wanted, changing, one, two, joined, string, first_literal, callee, in_new_scope, typed, values, typename, layers, suffix_layers, suffix_layer, param_types, param_type, unused, cast_operand, PlainNamed, held_place, element, dot, arrow, stepped, size, cast, choice, assigned, changed, behind_comma, Checked, ScopeList, Table, found, with_name, with_name_in, tag_name, record_type, is_union, Context, Layer, ArrayOf, FunctionOf, word_type, same_sort, tag_named, enum_named, type_named, special_type, array_of, layered, layered_before, with_layers, specs_type, array_length, with_param_layers, adjusted, with_param, declared_param, with_new_tag, address, unary, binary, is_function, PlainTyped, read, LeftOut, TypeTooLarge, DeclaredTwice}
 use Rattle.core_soundness.proofs.Words.Elaborating.{Context as TextContext, asked, given_length, with_init_layers}
 use Rattle.core_soundness.proofs.Words.Facts.{TableFits, ScopesFit}
 use Rattle.c_types.specs.Types as ct
@@ -13,10 +12,9 @@ use Rattle.c_tree.specs.declared.operator.RecordSort.TheVariants as r
 use Rattle.c_tree.specs.declared.operator.UnaryOp.TheVariants as u
 use Rattle.c_decls.specs.Named as n
 use Rattle.c_decls.specs.ScopeList as scopes
-use Rattle.c_decls.specs.TypeNames as names
 use Rattle.c_decls.specs.TypeNames.{PointerTo}
 use Rattle.core_soundness.proofs.Growth.{Longer, Led, led_ok, led_refused, led_after, led_unless, ok_same, never, Reached, reached_ok, reached_refused, reached_after, reached_then, reached_unless, wanted_unused, type_cast_unused}
-use Rattle.core_soundness.proofs.Scopes.{name_fits, named_fits, entered_fit, left_fit, scopes_fit, get_left, get_last, Pushed, push_get, More, MoreAll, more_refl, more_trans, with_tag_more, left_more, HasScope, scope_more}
+use Rattle.core_soundness.proofs.Scopes.{name_fits, named_fits, entered_fit, left_fit, scopes_fit, get_left, get_last, More, more_refl, more_trans, with_tag_more, left_more, HasScope, scope_more}
 
 -- types name tags of the sort that these were made of (C99 6.7.2.3)
 

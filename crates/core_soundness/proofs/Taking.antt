@@ -3,7 +3,7 @@ use Rattle.std.proofs.Common.{◌≡◌, ℕ, Bool, true, false, ◌||◌, nat_e
 use Rattle.std.specs.List.{list_any}
 use Rattle.std.specs.Option.{option_or}
 use Rattle.core_soundness.proofs.Words.Trees.{Form, shape, rows, some, commas, behind_commas, some_commas, here_rows, Place, name_among, is_scope, places, Tree, Trees, Node, none, ◌▹◌, count, Leaf, At}
-use Rattle.core_soundness.proofs.Words.Types.{PlainNamed, Tag, ScopeList, Table, found, named_in, found_from, tail}
+use Rattle.core_soundness.proofs.Words.Types.{PlainNamed, ScopeList, Table, found, named_in, found_from, tail}
 use Rattle.core_soundness.proofs.Words.Elaborating.{Taken, number_of, plain_name, with_number, with_address, with_known, declare, left_part, taken, all_taken, left_scope, Context, left as left_context}
 use Rattle.core_soundness.proofs.Words.Facts.{is_register, World, world, FileFits, HasParts, Written, AllWritten, TableFits}
 use Rattle.c_tree.specs.Forms as f

@@ -1,12 +1,11 @@
 -- The types of expressions are whole, where those of names are.
-use Rattle.std.proofs.Common.{◌≡◌, ◌≤◌, ◌+◌, ◌*◌, ◌||◌, not, ℕ, pos, zero, suc, Bool, true, false, cond, nat_lt, bytes_eq, length, List, [], ◌∷◌, ◌++◌, reverse, slice_get, Option, Some, None, option_map, Ok, refl, sym, ap, ◌∙◌, subst, arith}
+use Rattle.std.proofs.Common.{◌≡◌, ◌≤◌, ◌+◌, ◌||◌, not, ℕ, pos, zero, suc, Bool, true, false, cond, nat_lt, bytes_eq, length, List, [], ◌∷◌, ◌++◌, reverse, slice_get, Option, Some, None, option_map, Ok, refl, sym, subst, arith}
 use Rattle.std.proofs.lemmas.Bool.{ltb-false}
 use Rattle.std.proofs.lemmas.List.{reverse-append}
 use Rattle.std.specs.List.{find}
-use Rattle.std.specs.Option.{option_or}
 use Rattle.core_soundness.proofs.Words.Trees.{name_of, Tree, Trees, Leaf, At, Node, none, ◌▹◌, AssignOp, BinaryOp, RecordSort, UnaryOp}
-use Rattle.core_soundness.proofs.Words.Types.{Known, layout_of, number_layout, TagTable, CompletedTag, PlainMember, known, layout_in, size_in, members_in, PlainType, PlainTypes, Void, Int, Pointer, Array, Struct, Union, Function, first, Layout, IntType, built_ins, constant_of, Callee, Takes, Prints, NoFunction, built_in_callee, built_in_value, built_in_named, named, no_function, function_callee, built_in_called, callee_at, called, prints, call, line_of, Found, answered, wanted, changing, one, two, joined, string, first_literal, callee, in_new_scope, out_of_scope, typed, values, typename, layers, suffix_layers, suffix_layer, param_types, param_type, unused, cast_operand, PlainNamed, cast_types, cast, chosen_pointer, choice_types, choice, size_answer, size, element_types, element, member_answer, member_among, member_of, dot, arrow_of, arrow, record_assigned, scalar_assigned, assigned, changed_types, changed, stepped, held_place, behind_comma, all_convert, converts, unconverted, is_written, Checked, unless, ScopeList, Table, found, found_from, with_name, tag_name, named_in, Context, Layer, ArrayOf, FunctionOf, word_type, record_type, with_new_tag, same_sort, tag_named, enum_named, type_named, special_type, specs_type, length_from, array_length, array_of, layered, layered_before, with_layers, with_param_layers, adjusted, with_param, declared_param, immovable, moving, beside_pointer, sum_types, difference_types, order_types, equal_types, integer_types, logical, binary, unary_of, unary_on_pointer, unary, address, PlainTyped, Operand, Number, PointerTo, Neither, operand, place, value, int, held, read, same, is_void, is_function, is_record, is_null_constant, has_no_size, has_no_value, wanted_value, BuiltIn, Constant, Operands, NotLvalue, ArgumentCount, Assignment, DeclaredTwice, Incomplete, TypeTooLarge, Format, LeftOut, Folded, Is}
-use Rattle.core_soundness.proofs.Words.Facts.{Whole, AllWhole, AreMade, NamedWhole, TableWhole, NamesWhole}
+use Rattle.core_soundness.proofs.Words.Types.{Known, number_layout, TagTable, CompletedTag, PlainMember, known, layout_in, size_in, members_in, PlainType, PlainTypes, Void, Int, Pointer, Array, Struct, Union, Function, first, Layout, built_ins, constant_of, Callee, Takes, Prints, NoFunction, built_in_callee, built_in_value, built_in_named, named, no_function, function_callee, built_in_called, callee_at, called, prints, call, line_of, Found, answered, wanted, changing, one, two, joined, string, first_literal, callee, in_new_scope, out_of_scope, typed, values, typename, layers, suffix_layers, suffix_layer, param_types, param_type, unused, cast_operand, PlainNamed, cast_types, cast, chosen_pointer, choice_types, choice, size_answer, size, element_types, element, member_answer, member_among, member_of, dot, arrow_of, arrow, record_assigned, scalar_assigned, assigned, changed_types, changed, stepped, held_place, behind_comma, all_convert, unconverted, Checked, found, tag_name, Context, Layer, ArrayOf, FunctionOf, word_type, record_type, with_new_tag, same_sort, tag_named, enum_named, type_named, special_type, specs_type, length_from, array_length, array_of, layered, layered_before, with_layers, with_param_layers, adjusted, with_param, declared_param, immovable, moving, beside_pointer, sum_types, difference_types, order_types, equal_types, integer_types, logical, binary, unary_of, unary_on_pointer, unary, address, PlainTyped, Operand, Number, PointerTo, Neither, operand, place, value, int, held, read, is_void, is_function, is_record, is_null_constant, has_no_size, wanted_value, BuiltIn, Constant, Operands, NotLvalue, ArgumentCount, DeclaredTwice, Incomplete, TypeTooLarge, Format, LeftOut, Folded, Is}
+use Rattle.core_soundness.proofs.Words.Facts.{Whole, AllWhole, AreMade, NamedWhole, NamesWhole}
 use Rattle.c_types.specs.Types as ct
 use Rattle.c_tree.specs.Forms as f
 use Rattle.c_tree.specs.Words as w
@@ -15,11 +14,10 @@ use Rattle.c_tree.specs.declared.operator.BinaryOp.TheVariants as b
 use Rattle.c_tree.specs.declared.operator.RecordSort.TheVariants as r
 use Rattle.c_tree.specs.declared.operator.UnaryOp.TheVariants as u
 use Rattle.c_decls.specs.Named as n
-use Rattle.c_decls.specs.ScopeList as scopes
 use Rattle.c_decls.specs.TypeNames as names
 use Rattle.c_decls.specs.declared.built_in.BuiltIn.TheVariants as built
 use Rattle.core_soundness.proofs.Growth.{Led, led_ok, led_refused, led_after, led_unless, led_barred, wanted_unused, type_cast_unused}
-use Rattle.core_soundness.proofs.Scopes.{name_fits, named_fits, entered_fit, left_fit, named_push}
+use Rattle.core_soundness.proofs.Scopes.{name_fits, named_fits, entered_fit, left_fit}
 use Rattle.core_soundness.proofs.WholeTypes.{nothing, member_whole}
 use Rattle.core_soundness.proofs.Choices.{some_same}
 

@@ -4,9 +4,9 @@ use Rattle.std.proofs.lemmas.List.{length-map}
 use Rattle.std.proofs.lemmas.Slice.Eq.{bytes_eq-Decides}
 use Rattle.std.proofs.lemmas.Bool.{and_parts}
 use Rattle.std.specs.List.{sum_by}
-use Rattle.std.specs.Option.{option_or, ForSome}
+use Rattle.std.specs.Option.{ForSome}
 use Rattle.core_soundness.proofs.Words.Trees.{name_of, params_of, Tree, Trees, At, Node, ◌▹◌}
-use Rattle.core_soundness.proofs.Words.Types.{TagTable, PlainType, PlainTypes, Void, Int, Function, none, built_ins, numbered_from, PlainNamed, length_of, then, unless, Table, named_in, with_name, Layer, FunctionOf, with_layers, same, is_array, is_record, is_function, BuiltIn, DeclaredTwice, ProgramTooLong, Undeclared, NoMain}
+use Rattle.core_soundness.proofs.Words.Types.{TagTable, PlainType, PlainTypes, Void, Int, Function, none, built_ins, numbered_from, PlainNamed, length_of, then, unless, Table, named_in, with_name, Layer, FunctionOf, with_layers, same, is_array, is_record, is_function, BuiltIn, DeclaredTwice, ProgramTooLong, Undeclared}
 use Rattle.core_soundness.proofs.Words.Core.{Sort, sort_of, register_sort, GivesResult, TakesCall, HasRegister, EachFunc, EachReturn, answer_sort, GivesAnswer, is_main as is_main_function, first_main, main_of, IsMain, Core, Func, Reg as Register, Atom, Stm, StmKind, Return, Call}
 use Rattle.core_soundness.proofs.Words.Elaborating.{Taken, nothing_taken, params_taken, addressed_in, no_code, Declared, Context, Walked, entered, emit, first_context, Piece, Does, Here, function_number, function_number_of, with_function, declared_function, declaration, specs, layers, suffix_layers, suffix_layer, params, left_params, walked, elaborated, piece_length, begun, is_defined, body_begun, last_answer, body_ended, body, defined, named_definition, definition, external, externals, is_main, calls_defined, is_twice_in, atoms_by, numbered, body_of, temporary, pointer_register, numbers_of, function_of, core_of, definition_of, function_by, around_body, items}
 use Rattle.core_soundness.proofs.Words.Facts.{HasTypes, IsList, HasLists, HasParameters, IsDefinition, World, world, walked_world, FitsAnswer, PiecesFit, InnerFits, FileFits, result_sort, param_sorts, IsCall, Written, AllWritten, AreWritten, TableFits, TablesFit}

@@ -1,10 +1,10 @@
 -- One walk over expressions, and one over specs, tags and declarators.
-use Rattle.std.proofs.Common.{◌≡◌, ◌≤◌, ◌+◌, ◌*◌, ℕ, zero, suc, List, [], ◌∷◌, refl, arith, Bool, true, false, cond, nat_lt, length, Option, Some, None, unwrap_or, Ok, sym, subst, ltb-false, ℤ, pos, ◌||◌, is_some, Result, Err}
+use Rattle.std.proofs.Common.{◌≡◌, ◌≤◌, ◌+◌, ◌*◌, ℕ, zero, suc, List, [], ◌∷◌, refl, arith, Bool, true, false, cond, Option, Some, None, unwrap_or, Ok, subst, ltb-false, ℤ, pos, Result, Err}
 use Rattle.std.specs.Prelude.{IfSome}
 use Rattle.core_soundness.proofs.Words.Trees.{Item, Says, Here, Part, shape, commas, behind_commas, assign_level, Place, Expression, name_of, Tree, Trees, Leaf, At, Node, none, ◌▹◌, count, BinaryOp, RecordSort}
-use Rattle.core_soundness.proofs.Words.Types.{TagTable, completion, PlainType, PlainTypes, Void, Int, Array, Struct, Union, TagError, IntType, Callee, Prints, NoFunction, named, called, call, built_in_called, callee_at, line_of, joined, string, literal, first_literal, typed, typename, wanted, constant_from, PlainNamed, held_place, Checked, then, unless, found as declaration, named_in, innermost, with_name, tag_name, after_declaration, special_type, array_length, with_new_tag, with_layers, with_param_layers, adjusted, address, PlainTyped, is_record, place, is_void, is_function, has_no_size, BuiltIn, TypeTooLarge, DeclaredTwice, Incomplete, LeftOut}
-use Rattle.core_soundness.proofs.Words.Core.{wrapped, I32, IsShort, Atom}
-use Rattle.core_soundness.proofs.Words.Elaborating.{record_assigned, scalar_assigned, old_value, Argument, types_of, first_type, rest_types, argument_from, built_in_at, Context, With, asked, told, new_label, entered, Found, valued, unused, Spot, read_spot, convert_integer, convert, tested, write, constant, with_type, maybe_name, begun_as, completed_by, complete, ended, with_member, member, enumerator, enum_named, is_declared, param, left_params, specs, words_type, tag_type, members, member_names, enumerators, layers, suffix_layers, suffix_layer, params, name_answer, literal_answer, unevaluated, address_answer, changing, callee_name, callee, parameters, format_argument, is_printf, call_answer, found, arguments, cast_operand, is_twice, declared_as, with_param, combined, member_address, with_literal, left_operand, and_then, or_else, choose, type_ahead, choose_first}
+use Rattle.core_soundness.proofs.Words.Types.{TagTable, completion, PlainType, PlainTypes, Void, Int, Struct, Union, TagError, IntType, Callee, Prints, NoFunction, named, called, line_of, joined, string, literal, first_literal, typed, typename, wanted, constant_from, PlainNamed, Checked, then, found as declaration, named_in, innermost, with_name, tag_name, after_declaration, special_type, array_length, with_new_tag, with_layers, with_param_layers, adjusted, address, PlainTyped, is_record, place, BuiltIn, DeclaredTwice}
+use Rattle.core_soundness.proofs.Words.Core.{IsShort, Atom}
+use Rattle.core_soundness.proofs.Words.Elaborating.{record_assigned, scalar_assigned, old_value, Argument, first_type, rest_types, argument_from, built_in_at, Context, With, asked, told, new_label, entered, Found, valued, unused, Spot, read_spot, convert_integer, convert, tested, write, constant, with_type, maybe_name, begun_as, completed_by, complete, ended, member, enumerator, enum_named, param, left_params, specs, words_type, tag_type, members, member_names, enumerators, layers, suffix_layers, suffix_layer, params, name_answer, literal_answer, unevaluated, address_answer, changing, callee_name, callee, parameters, format_argument, is_printf, call_answer, found, arguments, cast_operand, with_param, combined, member_address, with_literal, left_operand, and_then, or_else, choose, type_ahead, choose_first}
 use Rattle.core_soundness.proofs.Words.Facts.{Names, AllNames}
 use Rattle.c_types.specs.declared.types.IntType.TheVariants as i
 use Rattle.c_tree.specs.Forms as f
@@ -21,7 +21,7 @@ use Rattle.elaboration.specs.Declarators as d
 use Rattle.elaboration.specs.Declarators.{begun}
 use Rattle.core_soundness.proofs.Agreeing.{came}
 use Rattle.core_soundness.proofs.CodeWalk.{Writes, PrintsShort, and_keeps, applied_keeps, argument_keeps, between_keeps, call_keeps, cast_keeps, changed_keeps, choice_keeps, dotted_keeps, indexed_keeps, left_keeps, old_keeps, or_keeps, pointed_keeps, record_keeps, scalar_assigned_keeps, stepped_keeps, unused_keeps, valued_keeps, read_keeps, convert_integer_keeps, convert_keeps, tested_keeps, write_keeps, combined_keeps, member_keeps}
-use Rattle.core_soundness.proofs.Growth.{good, ok_same, never, Reached, reached_ok, reached_refused, reached_after, reached_then, cast_unused, reached_unless, Led, led_ok, led_refused, led_unless, Grows, grows_refl, grows_trans, grows_emit, grows_integer, grows_pointer, grows_forgotten, grows_told, Grown, grows_fork, grows_format, grows_calls, grows_free, grown_literal}
+use Rattle.core_soundness.proofs.Growth.{good, ok_same, Reached, reached_ok, reached_refused, reached_after, reached_then, cast_unused, reached_unless, Led, led_ok, led_refused, led_unless, Grows, grows_refl, grows_trans, grows_emit, grows_integer, grows_pointer, grows_forgotten, grows_told, Grown, grows_fork, grows_format, grows_calls, grows_free, grown_literal}
 use Rattle.core_soundness.proofs.Scopes.{some_short, More, with_tag_more, name_named}
 use Rattle.core_soundness.proofs.TagSorts.{typed_after, typename_after, After, wanted_after, special_after}
 

@@ -3,9 +3,9 @@ use Rattle.std.proofs.Common.{◌≡◌, ◌≤◌, ◌*◌, ◌==◌, ℕ, zero
 use Rattle.std.proofs.lemmas.List.Sums.{fold_push}
 use Rattle.std.specs.List.{find}
 use Rattle.std.specs.Option.{option_or}
-use Rattle.core_soundness.proofs.Words.Types.{Known, ArraysFit, Placed, none_placed, placed, layout_of, number_layout, pointer_layout, no_layout, members_layout, CompletedTag, TagTable, PlainMember, learn, known, tag_layout, member_layout, placed_members, members_in, PlainType, PlainTypes, Int, Pointer, Array, Struct, Union, Function, none, first, width_of, Layout, IntType, PlainNamed, ScopeList, Table}
+use Rattle.core_soundness.proofs.Words.Types.{Known, ArraysFit, Placed, none_placed, placed, layout_of, number_layout, pointer_layout, no_layout, members_layout, CompletedTag, TagTable, PlainMember, learn, known, tag_layout, members_in, PlainType, PlainTypes, Int, Pointer, Array, Struct, Union, Function, none, first, width_of, Layout, IntType, PlainNamed}
 use Rattle.core_soundness.proofs.Words.Core.{IsCompleted, AreCompleted, IsLayoutOfType}
-use Rattle.core_soundness.proofs.Words.Facts.{IsRow, Whole, AllWhole, MembersWhole, AreMade, NamedWhole, TableWhole, NamesWhole}
+use Rattle.core_soundness.proofs.Words.Facts.{IsRow, Whole, AllWhole, MembersWhole, AreMade, NamedWhole}
 use Rattle.c_types.proofs.MemberLemmas.{Extends, some_array, layout_stays}
 use Rattle.c_types.proofs.Places.{stays_known}
 use Rattle.c_types.proofs.Sound.{rounded_le}
