@@ -1,10 +1,11 @@
 -- The parameters of a function that is defined.
-use Rattle.std.proofs.Common.{◌≡◌, ◌<◌, ◌≤◌, ℕ, List, [], ◌∷◌, Option, Some, None, Box, Vec, Global, length, get_or, refl, ap, sym, ◌∙◌, arith}
+use Rattle.std.proofs.Common.{◌≡◌, ◌<◌, ◌≤◌, ℕ, List, [], ◌∷◌, Option, Some, None, Result, Ok, Err, IfOk, Box, Vec, Global, length, get_or, refl, ap, ap₂, sym, ◌∙◌, arith}
+use Rattle.std.proofs.Math.ListN.{set}
 use Rattle.c_tree.specs.declared.tree.Declarator.{Declarator}
 use Rattle.c_tree.specs.declared.tree.Declarator.TheVariants as d
 use Rattle.c_tree.specs.declared.tree.Base.{Base}
 use Rattle.c_tree.specs.declared.tree.Base.TheVariants as b
-use Rattle.c_tree.specs.declared.tree.Suffix.{Suffix}
+use Rattle.c_tree.specs.declared.tree.Suffix.{Suffix, roll-Suffix}
 use Rattle.c_tree.specs.declared.tree.SuffixKind.{SuffixKind}
 use Rattle.c_tree.specs.declared.tree.SuffixKind.TheVariants as s
 use Rattle.c_tree.specs.declared.tree.Param.{Param}
@@ -18,7 +19,9 @@ use Rattle.c_tree.specs.ViewEquations.{direct_tree, params_tree}
 use Rattle.c_units.specs.Names.{Names, all_behind}
 use Rattle.c_units.specs.Externals.{with_params}
 use Rattle.c_units.specs.Turns.{in_turn, kind_params}
+use Rattle.std.specs.Vec.{with_items}
 use Rattle.c_units.proofs.ListTurns.{params_turn}
+use Rattle.c_units.proofs.WalkSteps.{if_by, held, items_in}
 
 list_none : (list : Option Trees) → first_list list None ≡ list
 list_none None = refl
@@ -78,6 +81,30 @@ pub none_is : (xs : List Suffix) → length xs ≤ 0 → suffix_params (Node f.S
 unfolding suffix_params
 none_is [] h = refl
 none_is (x ∷ xs) h = absurd (omega (arith, h))
+
+set_first : (xs : List Suffix) (r : Suffix) → 0 < length xs → (d : Suffix) → suffix_view r ≡ suffix_view (get_or xs 0 d) →
+    trees suffix_view (set xs 0 r) ≡ trees suffix_view xs
+set_first [] r h d e = absurd (omega (arith, h))
+set_first (y ∷ ys) r h d e = ap (λ (t : Tree). t ▹ trees suffix_view ys) e
+
+-- the first of some suffixes is changed to one of the same tree
+pub first_same : {T E : Type 0} (r : Result T E) (xs : List Suffix) (d : Suffix) (kind : SuffixKind) → 0 < length xs →
+    ((line : ℕ) → IfOk r (λ _. suffix_tree kind line ≡ suffix_tree (get_or xs 0 d).kind line)) →
+    IfOk r (λ _. trees suffix_view (set xs 0 (roll-Suffix (record { line = (get_or xs 0 d).line; kind = kind }))) ≡ trees suffix_view xs)
+first_same r xs d kind h e = if_by r (set_first xs (record { line = (get_or xs 0 d).line; kind = kind }) h d) (e (get_or xs 0 d).line)
+
+-- a declarator keeps its tree where its parts do
+pub direct_same : {T E : Type 0} (r : Result T E) (old : Declarator) (b base base' : Base) (v suffixes : Vec Suffix Global) (list news : List Suffix) →
+    old ≡ d.Direct base suffixes → b ≡ base → v ≡ suffixes → list ≡ v.items → length news ≡ length list →
+    IfOk r (λ _. base_tree base' ≡ base_tree b) → IfOk r (λ _. trees suffix_view news ≡ trees suffix_view list) →
+    IfOk r (λ _. declarator_tree (d.Direct base' (with_items v news)) ≡ declarator_tree old)
+direct_same (Ok x) old b base base' v suffixes list news is same all rest long one more =
+    direct_tree base' (with_items v news)
+    ∙ ap (λ (l : List Suffix). Node f.Direct (base_tree base' ▹ Node f.Suffixes (trees suffix_view l) ▹ none)) (held v list news rest long)
+    ∙ ap₂ (λ (t : Tree) (l : Trees). Node f.Direct (t ▹ Node f.Suffixes l ▹ none)) (one ∙ ap (λ (o : Base). base_tree o) same)
+    (more ∙ ap (λ (l : List Suffix). trees suffix_view l) (items_in v suffixes list all rest))
+    ∙ sym (ap (λ (o : Declarator). declarator_tree o) is ∙ direct_tree base suffixes)
+direct_same (Err x) old b base base' v suffixes list news is same all rest long one more = tt
 
 module _ (x : Names) where
   pub array_params : (kind : SuffixKind) (length : Option (Box Expr Global)) → kind ≡ s.Array length → with_params (kind_params kind) x ≡ x

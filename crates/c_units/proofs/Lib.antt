@@ -28,11 +28,11 @@ pub mod UsedNames
 pub mod FileBindings
 pub mod WordTexts
 pub mod WordSorts
-pub mod SharedTrees
-pub mod SharedTurns
 pub mod SoundTrees
 pub mod SpecSorts
 pub mod DeclaredSorts
 pub mod ReadTrees
 pub mod HeldNames
 pub mod FileDeclared
+pub mod KeptParams
+pub mod FunctionSteps

@@ -1,5 +1,5 @@
 -- External declarations that are gone through in turn.
-use Rattle.std.proofs.Common.{◌≡◌, ◌<◌, ◌≤◌, ◌+◌, ℕ, Bool, true, false, List, [], ◌∷◌, ◌++◌, drop, length, get_or, map, option_to_list, Option, Some, None, is_some, append_assoc, append-nil, refl, ap, ap₂, sym, ◌∙◌}
+use Rattle.std.proofs.Common.{◌≡◌, ◌<◌, ◌≤◌, ◌+◌, ℕ, zero, suc, arith, Bool, true, false, List, [], ◌∷◌, ◌++◌, take, drop, length, get_or, map, option_to_list, Option, Some, None, is_some, refl, ap, ap₂, sym, ◌∙◌}
 use Rattle.std.proofs.lemmas.List.{map-append}
 use Rattle.c_tree.specs.declared.tree.Declarator.{Declarator}
 use Rattle.c_tree.specs.declared.statement.Init.{Init}
@@ -10,13 +10,13 @@ use Rattle.c_tree.specs.StatementView.{trees, maybe, init_view, entry_view, decl
 use Rattle.c_tree.specs.View.{declarator_tree}
 use Rattle.c_units.specs.declared.said.Said.{Said as Kept}
 use Rattle.c_units.specs.Names.{Names, behind, renamed}
-use Rattle.c_units.specs.Mentions.{Mention}
 use Rattle.c_units.specs.Externals.{Said, role_of, behind_declarator, renamed_declarator, behind_entries, renamed_entries, behind_external, renamed_external, each_said}
 use Rattle.c_units.specs.Merge.{are_plain}
 use Rattle.c_units.specs.Kept.{said_view}
 use Rattle.c_units.specs.Turns.{joined, inits_of}
+use Rattle.std.proofs.Math.ListN.{set}
 use Rattle.c_units.proofs.Steps.{drop_next, drop_end}
-use Rattle.c_units.proofs.ItemTurns.{joined_more, joined_none}
+use Rattle.c_units.proofs.ItemTurns.{AreLeft, left_next}
 
 abbrev Entry : Type 0
 Entry = Declarator × Option Init
@@ -81,34 +81,64 @@ module _ (line : ℕ) (typedef : Bool) where
       ∙ ap (λ (x : Tree). x ▹ renamed_entries line typedef rest (behind_entries line typedef (entry_view entry ▹ none) s))
       (sym (same_first (entry_view r) _ (h ∙ entry_made entry s)))
 
-  -- the names in turn
-  pub entries_known : (xs : List Entry) (i : ℕ) (x : Entry) (s d : Names) → i < length xs → x ≡ get_or xs i x →
-      d ≡ behind_entries line typedef (entry_view x ▹ none) s →
-      behind_entries line typedef (trees entry_view (drop (i + 1) xs)) d ≡ behind_entries line typedef (trees entry_view (drop i xs)) s
-  entries_known xs i x s d h is known =
-      ap (λ (u : Names). behind_entries line typedef (trees entry_view (drop (i + 1) xs)) u) known
-      ∙ sym (first_known x (trees entry_view (drop (i + 1) xs)) s)
-      ∙ sym (ap (λ (l : List Entry). behind_entries line typedef (trees entry_view l) s) (drop_next xs i x h is))
+  -- the names that are left come behind those that are made, and what is known so far
+  abbrev pub Leads : List Entry → List Entry → ℕ → Names → Names → Type 0
+  Leads xs ys i s first =
+      (joined (trees entry_view (take i ys)) (renamed_entries line typedef (trees entry_view (drop i ys)) s) ≡ renamed_entries line typedef (trees entry_view xs) first)
+      × (behind_entries line typedef (trees entry_view (drop i ys)) s ≡ behind_entries line typedef (trees entry_view xs) first)
 
-  pub entries_made : (xs : List Entry) (i : ℕ) (x r : Entry) (done : List Entry) (s d : Names) → i < length xs → x ≡ get_or xs i x →
-      entry_view r ▹ none ≡ renamed_entries line typedef (entry_view x ▹ none) s → d ≡ behind_entries line typedef (entry_view x ▹ none) s →
-      joined (trees entry_view (done ++ r ∷ [])) (renamed_entries line typedef (trees entry_view (drop (i + 1) xs)) d) ≡
-      joined (trees entry_view done) (renamed_entries line typedef (trees entry_view (drop i xs)) s)
-  entries_made xs i x r done s d h is made known =
-      let rest : Trees = trees entry_view (drop (i + 1) xs) in
-      joined_more entry_view done r (renamed_entries line typedef rest d)
-      ∙ ap (λ (u : Names). joined (trees entry_view done) (entry_view r ▹ renamed_entries line typedef rest u)) known
-      ∙ ap (λ (ts : Trees). joined (trees entry_view done) ts) (sym (first_made x r rest s made))
-      ∙ sym (ap (λ (l : List Entry). joined (trees entry_view done) (renamed_entries line typedef (trees entry_view l) s)) (drop_next xs i x h is))
+  made_here : (ys : List Entry) (i : ℕ) (x r : Entry) (s d : Names) → i < length ys →
+      entry_view r ▹ none ≡ renamed_entries line typedef (entry_view (get_or ys i x) ▹ none) s → d ≡ behind_entries line typedef (entry_view (get_or ys i x) ▹ none) s →
+      joined (trees entry_view (take (suc i) (set ys i r))) (renamed_entries line typedef (trees entry_view (drop (suc i) (set ys i r))) d) ≡
+      joined (trees entry_view (take i ys)) (renamed_entries line typedef (trees entry_view (drop i ys)) s)
+  made_here [] i x r s d h made known = absurd (omega (arith, h))
+  made_here (y ∷ ys) zero x r s d h made known =
+      ap (λ (u : Names). entry_view r ▹ renamed_entries line typedef (trees entry_view ys) u) known
+      ∙ sym (first_made y r (trees entry_view ys) s made)
+  made_here (y ∷ ys) (suc i) x r s d h made known =
+      ap (λ (t : Trees). entry_view y ▹ t) (made_here ys i x r s d (omega (arith, h)) made known)
 
-  pub entries_known_end : (xs : List Entry) (i : ℕ) (s : Names) → length xs ≤ i → behind_entries line typedef (trees entry_view (drop i xs)) s ≡ s
-  entries_known_end xs i s h = ap (λ (l : List Entry). behind_entries line typedef (trees entry_view l) s) (drop_end xs i h) ∙ none_known s
+  known_here : (ys : List Entry) (i : ℕ) (x r : Entry) (s d : Names) → i < length ys → d ≡ behind_entries line typedef (entry_view (get_or ys i x) ▹ none) s →
+      behind_entries line typedef (trees entry_view (drop (suc i) (set ys i r))) d ≡ behind_entries line typedef (trees entry_view (drop i ys)) s
+  known_here [] i x r s d h known = absurd (omega (arith, h))
+  known_here (y ∷ ys) zero x r s d h known =
+      ap (λ (u : Names). behind_entries line typedef (trees entry_view ys) u) known ∙ sym (first_known y (trees entry_view ys) s)
+  known_here (y ∷ ys) (suc i) x r s d h known = known_here ys i x r s d (omega (arith, h)) known
 
-  pub entries_made_end : (xs : List Entry) (i : ℕ) (done : List Entry) (s : Names) → length xs ≤ i →
-      joined (trees entry_view done) (renamed_entries line typedef (trees entry_view (drop i xs)) s) ≡ trees entry_view done
-  entries_made_end xs i done s h =
-      ap (λ (l : List Entry). joined (trees entry_view done) (renamed_entries line typedef (trees entry_view l) s)) (drop_end xs i h)
-      ∙ ap (λ (ts : Trees). joined (trees entry_view done) ts) (none_made s) ∙ joined_none (trees entry_view done)
+  pub entries_next : (xs ys : List Entry) (i : ℕ) (x r : Entry) (s d first : Names) → i < length xs → AreLeft xs ys i → Leads xs ys i s first →
+      entry_view r ▹ none ≡ renamed_entries line typedef (entry_view (get_or ys i x) ▹ none) s → d ≡ behind_entries line typedef (entry_view (get_or ys i x) ▹ none) s →
+      AreLeft xs (set ys i r) (i + 1) × Leads xs (set ys i r) (i + 1) d first
+  entries_next xs ys i x r s d first h left leads made known =
+      let within : i < length ys = omega (arith, h, left.0) in
+      let next : i + 1 ≡ suc i = omega arith in (
+        left_next xs ys i r left,
+        (
+          ap (λ (n : ℕ). joined (trees entry_view (take n (set ys i r))) (renamed_entries line typedef (trees entry_view (drop n (set ys i r))) d)) next
+              ∙ made_here ys i x r s d within made known ∙ leads.0,
+          ap (λ (n : ℕ). behind_entries line typedef (trees entry_view (drop n (set ys i r))) d) next ∙ known_here ys i x r s d within known ∙ leads.1,
+        ),
+      )
+
+  made_end : (ys : List Entry) (i : ℕ) (s : Names) → length ys ≤ i →
+      joined (trees entry_view (take i ys)) (renamed_entries line typedef (trees entry_view (drop i ys)) s) ≡ trees entry_view ys
+  made_end [] zero s h = none_made s
+  made_end [] (suc i) s h = none_made s
+  made_end (y ∷ ys) zero s h = absurd (omega (arith, h))
+  made_end (y ∷ ys) (suc i) s h = ap (λ (t : Trees). entry_view y ▹ t) (made_end ys i s (omega (arith, h)))
+
+  known_end : (ys : List Entry) (i : ℕ) (s : Names) → length ys ≤ i → behind_entries line typedef (trees entry_view (drop i ys)) s ≡ s
+  known_end [] zero s h = none_known s
+  known_end [] (suc i) s h = none_known s
+  known_end (y ∷ ys) zero s h = absurd (omega (arith, h))
+  known_end (y ∷ ys) (suc i) s h = known_end ys i s (omega (arith, h))
+
+  pub entries_made : (xs ys : List Entry) (i : ℕ) (s first : Names) → length xs ≤ i → AreLeft xs ys i → Leads xs ys i s first →
+      trees entry_view ys ≡ renamed_entries line typedef (trees entry_view xs) first
+  entries_made xs ys i s first h left leads = sym (made_end ys i s (omega (arith, h, left.0))) ∙ leads.0
+
+  pub entries_known : (xs ys : List Entry) (i : ℕ) (s first : Names) → length xs ≤ i → AreLeft xs ys i → Leads xs ys i s first →
+      s ≡ behind_entries line typedef (trees entry_view xs) first
+  entries_known xs ys i s first h left leads = sym (known_end ys i s (omega (arith, h, left.0))) ∙ leads.1
 
 -- whether names have no initializers
 plain_by : (declarator : Declarator) (init : Option Init) (rest : Trees) → is_some init ≡ false → are_plain (entry_view (declarator, init) ▹ rest) ≡ are_plain rest
@@ -149,28 +179,41 @@ said_first : (tree : Tree) (rest : Trees) (s : Names) →
 unfolding each_said
 said_first tree rest s = refl
 
-pub said_next : (xs : List Decl) (i : ℕ) (x : Decl) (done : List Kept) (one : Kept) (s d : Names) → i < length xs → x ≡ get_or xs i x →
-    decl_view one.decl ≡ renamed_external (decl_view x) (record s { mentions = [] }) →
-    one.mentions.items ≡ (behind_external (decl_view x) (record s { mentions = [] })).mentions →
-    d ≡ record (behind_external (decl_view x) (record s { mentions = [] })) { mentions = [] } →
-    map said_view (done ++ one ∷ []) ++ each_said (trees decl_view (drop (i + 1) xs)) d ≡
-    map said_view done ++ each_said (trees decl_view (drop i xs)) s
-said_next xs i x done one s d h is made told known =
-    let rest : Trees = trees decl_view (drop (i + 1) xs) in
-    let next : Names = behind_external (decl_view x) (cleared_of s) in
-    let more : each_said rest d ≡ each_said rest next = ap (λ (u : Names). each_said rest u) known ∙ cleared rest next in
-    let first : Said = record { tree = renamed_external (decl_view x) (cleared_of s); mentions = next.mentions } in
-    let same : said_view one ≡ first = ap₂ (λ (t : Tree) (ms : List Mention). record { tree = t; mentions = ms }) made told in
-    ap (λ (l : List Said). l ++ each_said rest d) (map-append said_view done (one ∷ []))
-    ∙ append_assoc (map said_view done) (said_view one ∷ []) (each_said rest d)
-    ∙ ap₂ (λ (y : Said) (l : List Said). map said_view done ++ y ∷ l) same more
-    ∙ sym (ap (λ (l : List Said). map said_view done ++ l) (ap (λ (l : List Decl). each_said (trees decl_view l) s) (drop_next xs i x h is) ∙ said_first (decl_view x) rest s))
-
-pub said_end : (xs : List Decl) (i : ℕ) (done : List Kept) (s : Names) → length xs ≤ i →
-    map said_view done ++ each_said (trees decl_view (drop i xs)) s ≡ map said_view done
+pub said_none : (s : Names) → each_said none s ≡ []
 unfolding each_said
-said_end xs i done s h =
-    ap (λ (l : List Decl). map said_view done ++ each_said (trees decl_view l) s) (drop_end xs i h) ∙ append-nil (map said_view done)
+said_none s = refl
+
+-- what is known behind some, where nothing was said yet
+abbrev pub behind_all : Trees → Names → Names
+behind_all none s = cleared_of s
+behind_all (tree ▹ rest) s = behind_all rest (behind_external tree (cleared_of s))
+
+all_next : (done : List Decl) (x : Decl) (s : Names) →
+    behind_all (trees decl_view (done ++ x ∷ [])) s ≡ cleared_of (behind_external (decl_view x) (behind_all (trees decl_view done) s))
+all_next [] x s = refl
+all_next (y ∷ done) x s = all_next done x (behind_external (decl_view y) (cleared_of s))
+
+each_next : (done : List Decl) (x : Decl) (s : Names) →
+    each_said (trees decl_view (done ++ x ∷ [])) s ≡
+    each_said (trees decl_view done) s ++ record { tree = renamed_external (decl_view x) (behind_all (trees decl_view done) s); mentions = (behind_external (decl_view x) (behind_all (trees decl_view done) s)).mentions } ∷ []
+unfolding each_said
+each_next [] x s = refl
+each_next (y ∷ done) x s =
+    ap (λ (l : List Said). record { tree = renamed_external (decl_view y) (cleared_of s); mentions = (behind_external (decl_view y) (cleared_of s)).mentions } ∷ l)
+    (each_next done x (behind_external (decl_view y) (cleared_of s)))
+
+-- one declaration more
+pub said_next : (done : List Decl) (x : Decl) (all : List Kept) (one : Kept) (s now after : Names) →
+    map said_view all ≡ each_said (trees decl_view done) s → cleared_of now ≡ behind_all (trees decl_view done) s →
+    said_view one ≡ record { tree = renamed_external (decl_view x) (cleared_of now); mentions = (behind_external (decl_view x) (cleared_of now)).mentions } →
+    after ≡ cleared_of (behind_external (decl_view x) (cleared_of now)) →
+    (map said_view (all ++ one ∷ []) ≡ each_said (trees decl_view (done ++ x ∷ [])) s) × (cleared_of after ≡ behind_all (trees decl_view (done ++ x ∷ [])) s)
+said_next done x all one s now after h g is new = (
+  map-append said_view all (one ∷ [])
+      ∙ ap₂ (λ (l : List Said) (y : Said). l ++ y ∷ []) h (is ∙ ap (λ (u : Names). record { tree = renamed_external (decl_view x) u; mentions = (behind_external (decl_view x) u).mentions }) g)
+      ∙ sym (each_next done x s),
+  ap cleared_of new ∙ ap (λ (u : Names). cleared_of (behind_external (decl_view x) u)) g ∙ sym (all_next done x s),
+)
 
 -- a declaration that is alone in a list leaves it
 pub alone_leaves : (list rest : List Decl) (one : Decl) (popped : Option Decl) → list ≡ [] ++ one ∷ [] → list ≡ rest ++ option_to_list popped →

@@ -1,6 +1,5 @@
 -- How the code keeps names: the entries of its logs and tables as the declarations and names of the definitions.
 use Rattle.std.specs.Prelude.{◌≡◌, ◌-◌, ℕ, bytes_eq, drop, length, map, unwrap_or, List, [], ◌∷◌, Vec}
-use Rattle.std.specs.Borrow.{Bor}
 use Rattle.std.specs.HashMap.{HashMap, get_by}
 use Rattle.c_units.specs.declared.names.Binding.{Binding}
 use Rattle.c_units.specs.declared.names.Binding.TheVariants.{Shared}
@@ -13,7 +12,7 @@ abbrev pub texts_of : {G : Type 0} → List (Vec ℕ G) → List (List ℕ)
 texts_of keys = map (λ key. key.items) keys
 
 abbrev pub entry_known : Entry → Known
-entry_known entry = record { name = entry.name.now; binding = entry.binding }
+entry_known entry = record { name = entry.name.items; binding = entry.binding }
 
 -- the declarations of some entries, in their order
 abbrev pub entries_known : List Entry → List Known
@@ -22,15 +21,15 @@ entries_known entries = map entry_known entries
 -- each entry, the latest first, tells what its name was bound to before it
 abbrev pub TellBefore : List Entry → Type 0
 TellBefore [] = Unit {0}
-TellBefore (entry ∷ rest) = (entry.before ≡ binding_of (entries_known rest) entry.name.now) × TellBefore rest
+TellBefore (entry ∷ rest) = (entry.before ≡ binding_of (entries_known rest) entry.name.items) × TellBefore rest
 
 -- what a table binds a name to
-abbrev pub bound_in : {S : Type 0} → HashMap (Bor (List ℕ)) Binding S → Bor (List ℕ) → Binding
-bound_in table name = unwrap_or (get_by (λ other. bytes_eq name.now other.now) table) Shared
+abbrev pub bound_in : {G S : Type 0} → HashMap (Vec ℕ G) Binding S → List ℕ → Binding
+bound_in table name = unwrap_or (get_by (λ key. bytes_eq name key.items) table) Shared
 
 -- a table binds names as declarations do
-abbrev pub AreBound : {S : Type 0} → HashMap (Bor (List ℕ)) Binding S → List Known → Type 0
-AreBound table known = (name : Bor (List ℕ)) → bound_in table name ≡ binding_of known name.now
+abbrev pub AreBound : {G S : Type 0} → HashMap (Vec ℕ G) Binding S → List Known → Type 0
+AreBound table known = (name : List ℕ) → bound_in table name ≡ binding_of known name
 
 -- without the latest declaration
 abbrev pub without_latest : List Known → List Known

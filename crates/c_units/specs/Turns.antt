@@ -1,7 +1,9 @@
 -- Trees that are gone through in turn, none of which is a scope.
-use Rattle.std.specs.Prelude.{Bool, true, false, cond, Option, Some, None}
+use Rattle.std.specs.Prelude.{ℕ, Bool, true, false, cond, List, Option, Some, None}
 use Rattle.c_tree.specs.declared.statement.StmtKind.{StmtKind}
 use Rattle.c_tree.specs.declared.statement.StmtKind.TheVariants as k
+use Rattle.c_tree.specs.declared.tree.TagKind.{TagKind}
+use Rattle.c_tree.specs.declared.tree.TagKind.TheVariants as t
 use Rattle.c_tree.specs.declared.tree.SuffixKind.{SuffixKind}
 use Rattle.c_tree.specs.declared.statement.Init.{Init}
 use Rattle.c_tree.specs.StatementView.{init_view}
@@ -12,7 +14,7 @@ use Rattle.c_tree.specs.Grammar.{shape}
 use Rattle.c_tree.specs.Scopes.{places, suffix_params}
 use Rattle.c_tree.specs.View.{suffix_tree}
 use Rattle.c_units.specs.declared.walk.Outer.{Outer}
-use Rattle.c_units.specs.Names.{Names, behind, all_behind, renamed, entered}
+use Rattle.c_units.specs.Names.{Names, behind, all_behind, renamed, entered, left_scope}
 use Rattle.c_units.specs.Sets.{back_to}
 
 -- what is known behind some trees
@@ -45,6 +47,11 @@ abbrev pub renamed_maybe : Form → Option Tree → Names → Tree
 renamed_maybe form None s = Node form none
 renamed_maybe form (Some tree) s = Node form (renamed tree s ▹ none)
 
+-- what is known behind a branch that may be left out, which is a scope of its own
+abbrev pub behind_branch : Option Tree → Names → Names
+behind_branch None s = s
+behind_branch (Some tree) s = left_scope s (behind tree s)
+
 -- where a scope ends, if it is one
 abbrev pub back_if : Bool → Outer → Names → Names
 back_if scope outer s = cond scope (back_to outer s) s
@@ -59,6 +66,12 @@ is_scope_kind (k.Do' p at kind e) = true
 is_scope_kind (k.For' start test step p at kind) = true
 is_scope_kind (k.Switch' e p at kind) = true
 is_scope_kind kind = false
+
+-- the name of a tag with braces
+abbrev pub braced_name : TagKind → Option (List ℕ)
+braced_name (t.RecordBody' sort name shape members) = name
+braced_name (t.EnumBody' name shape enumerators trailing) = name
+braced_name kind = None
 
 -- the parameters of a suffix, if it has some
 abbrev pub kind_params : SuffixKind → Option Trees

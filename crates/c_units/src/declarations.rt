@@ -1,13 +1,12 @@
 //! Declarators by their names, and the parameters of functions that are defined.
 
-ghost use Rattle.std.specs.Prelude.{◌≡◌, IfOk, option_copied};
+ghost use Rattle.std.specs.Prelude.{◌≡◌, ℕ, [], IfOk, option_copied};
 ghost use Rattle.c_tree.specs.Forms as form;
 ghost use Rattle.c_tree.specs.Scopes.{name_of, params_of, suffix_params};
 ghost use Rattle.c_tree.specs.StatementView.{trees, suffix_view};
 ghost use Rattle.c_tree.specs.Tree.{Node, none, ◌▹◌};
-ghost use Rattle.c_tree.specs.View.{declarator_tree, base_tree};
+ghost use Rattle.c_tree.specs.View.{declarator_tree, base_tree, suffix_tree};
 ghost use Rattle.c_units.specs.Externals.{with_name, with_params};
-ghost use Rattle.c_units.specs.Names.{behind, renamed};
 ghost use Rattle.c_units.specs.Turns.{kind_params};
 
 use crate::walk::Walk;
@@ -39,13 +38,17 @@ fn base_name(base: &Base) -> Option<&Items<u8>>
     }
 }
 
-impl<'a> Walk<'a> {
-    /// Declares the parameters of a function that is defined: those of the layer next to its name.
+impl Walk {
+    /// Declares the parameters of a function that is defined: those of the layer next to its name. Without a suffix this renames
+    /// nothing.
     #[cycle(parameters)]
-    #[tactic(auto, using(crate::proofs::DefinedParams::pointer_params, crate::proofs::DefinedParams::direct_params))]
-    pub(crate) fn defined_params(&mut self, declarator: &'a Declarator) -> Result<(), NoMemory>
-        ensures { IfOk result (λ _.
-            self.new ≡ with_params (params_of (declarator_tree declarator.now)) self.old) }
+    #[tactic(auto, unfolding(c_tree::specs::View::declarator_tree), using(crate::proofs::DefinedParams::pointer_params, crate::proofs::DefinedParams::direct_params))]
+    pub(crate) fn defined_params(&mut self, declarator: &mut Declarator) -> Result<(), NoMemory>
+        requires { self.old.suffix ≡ [] }
+        ensures same { IfOk result (λ _.
+            declarator_tree declarator.new ≡ declarator_tree declarator.old) }
+        ensures names { IfOk result (λ _.
+            self.new ≡ with_params (params_of (declarator_tree declarator.old)) self.old) }
     {
         match declarator {
             Declarator::Pointer(_, _, target) => self.defined_params(target),
@@ -55,11 +58,14 @@ impl<'a> Walk<'a> {
 
     /// The same of what suffixes stand behind, and these suffixes.
     #[cycle(parameters)]
-    #[tactic(auto, using(crate::proofs::DefinedParams::nothing_params, crate::proofs::DefinedParams::name_params, crate::proofs::DefinedParams::parens_params))]
-    fn base_params(&mut self, base: &'a Base, list: &'a [Suffix]) -> Result<(), NoMemory>
-        ensures { IfOk result (λ _.
-            let suffixes = Node form.Suffixes (trees suffix_view list.now) in
-            self.new ≡ with_params (params_of (Node form.Direct (base_tree base.now ▹ suffixes ▹ none))) self.old) }
+    #[tactic(auto, unfolding(c_tree::specs::View::base_tree), using(crate::proofs::DefinedParams::nothing_params, crate::proofs::DefinedParams::name_params, crate::proofs::DefinedParams::parens_params))]
+    fn base_params(&mut self, base: &mut Base, list: &mut [Suffix]) -> Result<(), NoMemory>
+        requires { self.old.suffix ≡ [] }
+        ensures base { IfOk result (λ _. base_tree base.new ≡ base_tree base.old) }
+        ensures list { IfOk result (λ _. trees suffix_view list.new ≡ trees suffix_view list.old) }
+        ensures names { IfOk result (λ _.
+            let suffixes = Node form.Suffixes (trees suffix_view list.old) in
+            self.new ≡ with_params (params_of (Node form.Direct (base_tree base.old ▹ suffixes ▹ none))) self.old) }
     {
         match base {
             Base::Nothing => Ok(()),
@@ -69,70 +75,56 @@ impl<'a> Walk<'a> {
     }
 
     /// The parameters of the first of some suffixes.
-    #[tactic(auto, using(crate::proofs::DefinedParams::first_is, crate::proofs::DefinedParams::none_is))]
-    fn first_params(&mut self, list: &'a [Suffix]) -> Result<(), NoMemory>
-        ensures { IfOk result (λ _.
-            let suffixes = Node form.Suffixes (trees suffix_view list.now) in
+    #[tactic(auto, using(crate::proofs::DefinedParams::first_is, crate::proofs::DefinedParams::first_same, crate::proofs::DefinedParams::none_is))]
+    fn first_params(&mut self, list: &mut [Suffix]) -> Result<(), NoMemory>
+        requires { self.old.suffix ≡ [] }
+        ensures same { IfOk result (λ _. trees suffix_view list.new ≡ trees suffix_view list.old) }
+        ensures names { IfOk result (λ _.
+            let suffixes = Node form.Suffixes (trees suffix_view list.old) in
             self.new ≡ with_params (suffix_params (suffixes ▹ none)) self.old) }
     {
         if list.len() > 0 {
-            return self.kind_params(&list[0].kind);
+            return self.kind_params(&mut list[0].kind);
         }
         Ok(())
     }
 
     /// The parameters of a suffix of that kind, if it has some.
     #[tactic(auto, using(crate::proofs::DefinedParams::array_params, crate::proofs::DefinedParams::void_params, crate::proofs::DefinedParams::list_params))]
-    fn kind_params(&mut self, kind: &'a SuffixKind) -> Result<(), NoMemory>
-        ensures { IfOk result (λ _. self.new ≡ with_params (kind_params kind.now) self.old) }
+    fn kind_params(&mut self, kind: &mut SuffixKind) -> Result<(), NoMemory>
+        requires { self.old.suffix ≡ [] }
+        ensures same { (line : ℕ) → IfOk result (λ _.
+            suffix_tree kind.new line ≡ suffix_tree kind.old line) }
+        ensures names { IfOk result (λ _. self.new ≡ with_params (kind_params kind.old) self.old) }
     {
         match kind {
             SuffixKind::Array(_) | SuffixKind::Void => Ok(()),
-            SuffixKind::Params(list) => self.past_params(list),
+            SuffixKind::Params(list) => self.params(list),
         }
     }
+}
 
-    /// A declarator with another name.
-    #[cycle(named)]
-    #[tactic(auto, unfolding(crate::specs::Externals::with_name, crate::specs::Externals::all_with_name, c_tree::specs::Scopes::leads_to_name), using(crate::proofs::TreeParts::pointer_known, crate::proofs::TreeParts::pointer_made, crate::proofs::TreeParts::direct_known, crate::proofs::TreeParts::direct_made))]
-    pub(crate) fn declarator_as(
-        &mut self,
-        declarator: &'a Declarator,
-        name: Items<u8>,
-    ) -> Result<Declarator, NoMemory>
-        ensures tree { IfOk result (λ r.
-            declarator_tree r ≡ with_name name (renamed (declarator_tree declarator.now) self.old)) }
-        ensures names { IfOk result (λ _.
-            self.new ≡ behind (declarator_tree declarator.now) self.old) }
-    {
-        match declarator {
-            Declarator::Pointer(line, consts, target) => {
-                let target = self.declarator_as(target, name)?;
-                Declarator::pointer(self.alloc, *line, *consts, target)
-            }
-            Declarator::Direct(base, suffixes) => {
-                let base = self.base_as(base, name)?;
-                let suffixes = self.suffixes(suffixes)?;
-                Ok(Declarator::direct(base, suffixes))
-            }
-        }
+/// Gives a declarator another name.
+#[cycle(named)]
+#[tactic(auto, unfolding(c_tree::specs::View::declarator_tree, crate::specs::Externals::with_name, crate::specs::Externals::all_with_name, c_tree::specs::Scopes::leads_to_name))]
+pub(crate) fn set_name(declarator: &mut Declarator, name: Items<u8>)
+    ensures { declarator_tree declarator.new ≡ with_name name (declarator_tree declarator.old) }
+{
+    match declarator {
+        Declarator::Pointer(_, _, target) => set_name(target, name),
+        Declarator::Direct(base, _) => set_base_name(base, name),
     }
+}
 
-    /// What suffixes stand behind, with another name.
-    #[cycle(named)]
-    #[tactic(auto, unfolding(c_tree::specs::View::base_tree, crate::specs::Externals::with_name, crate::specs::Externals::all_with_name, crate::specs::Names::behind, crate::specs::Names::all_behind, crate::specs::Names::renamed, crate::specs::Names::all_renamed, crate::specs::Names::left, crate::specs::Names::entered, crate::specs::Names::made, c_tree::specs::Grammar::shape, c_tree::specs::Scopes::is_scope, c_tree::specs::Scopes::leads_to_name))]
-    fn base_as(&mut self, base: &'a Base, name: Items<u8>) -> Result<Base, NoMemory>
-        ensures tree { IfOk result (λ r.
-            base_tree r ≡ with_name name (renamed (base_tree base.now) self.old)) }
-        ensures names { IfOk result (λ _. self.new ≡ behind (base_tree base.now) self.old) }
-    {
-        match base {
-            Base::Nothing => Ok(Base::nothing()),
-            Base::Name(_) => Ok(Base::name(name)),
-            Base::Parens(line, inner) => {
-                let inner = self.declarator_as(inner, name)?;
-                Base::parens(self.alloc, *line, inner)
-            }
-        }
+/// Gives what suffixes stand behind another name.
+#[cycle(named)]
+#[tactic(auto, unfolding(c_tree::specs::View::base_tree, crate::specs::Externals::with_name, crate::specs::Externals::all_with_name, c_tree::specs::Scopes::leads_to_name))]
+fn set_base_name(base: &mut Base, name: Items<u8>)
+    ensures { base_tree base.new ≡ with_name name (base_tree base.old) }
+{
+    match base {
+        Base::Nothing => {}
+        Base::Name(old) => *old = name,
+        Base::Parens(_, inner) => set_name(inner, name),
     }
 }

@@ -23,8 +23,6 @@ mod laws;
 mod mention;
 mod name_set;
 mod names;
-mod past_expressions;
-mod past_statements;
 mod program;
 mod said;
 mod spec_words;

@@ -1,6 +1,6 @@
 //! Names without repeats, of which it is known in near constant time whether they have one.
 
-ghost use Rattle.std.specs.Prelude.{◌≡◌, [], IfOk, IsTrue, ◌↔◌};
+ghost use Rattle.std.specs.Prelude.{◌≡◌, [], IfOk};
 ghost use Rattle.c_units.specs.Mentions.{all_noted, is_among, noted};
 
 use hs_base::{Items, NoMemory};
@@ -31,13 +31,6 @@ impl NameSet {
         NameSet {
             names: IndexSet::new(alloc),
         }
-    }
-
-    /// Whether there is none.
-    pub(crate) fn is_empty(&self) -> bool
-        ensures { IsTrue result ↔ (self.now ≡ []) }
-    {
-        self.names.is_empty()
     }
 
     /// Whether a name is among them.

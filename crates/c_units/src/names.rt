@@ -1,7 +1,6 @@
 //! The declarations that hold at a place of a unit.
 
-ghost use Rattle.std.specs.Prelude.{◌≡◌, ◌∷◌, ◌<◌, [], ◌-◌, length, slice_get, IfOk, OnOk, OnErr, if◌then◌else◌, bytes_eq, List, ℕ};
-ghost use Rattle.std.specs.Borrow.{Bor};
+ghost use Rattle.std.specs.Prelude.{◌≡◌, ◌∷◌, [], length, IfOk, OnOk, OnErr, if◌then◌else◌, bytes_eq, List, ℕ};
 ghost use Rattle.c_units.specs.Names.{binding_of};
 ghost use Rattle.c_units.specs.Sets.{bound_in, oldest, without_latest};
 
@@ -22,23 +21,24 @@ pub(crate) enum Binding {
 }
 
 /// A declaration, and what its name was bound to before it.
-#[derive(Clone, Copy, Debug, Drop)]
-pub(crate) struct Entry<'a> {
-    name: &'a [u8],
+#[derive(Debug, Drop)]
+pub(crate) struct Entry {
+    name: Vec<u8>,
     binding: Binding,
     before: Binding,
 }
 
 /// The declarations that hold at a place.
 #[derive(Drop)]
-pub(crate) struct Scope<'a> {
+pub(crate) struct Scope {
+    alloc: Global,
     /// The declarations, the latest last.
-    log: Vec<Entry<'a>>,
+    log: Vec<Entry>,
     /// What each name is bound to that was declared.
-    bindings: HashMap<&'a [u8], Binding>,
+    bindings: HashMap<Vec<u8>, Binding>,
 }
 
-impl<'a> Model for Scope<'a> {
+impl Model for Scope {
     ghost use Rattle.std.specs.Prelude.{List, reverse};
     ghost use Rattle.c_units.specs.Names.{Known};
     ghost use Rattle.c_units.specs.Sets.{TellBefore, AreBound, entries_known};
@@ -50,12 +50,13 @@ impl<'a> Model for Scope<'a> {
     ghost invariant = { λ s. TellBefore (reverse s.log.items) × AreBound s.bindings (entries_known (reverse s.log.items)) };
 }
 
-impl<'a> Scope<'a> {
+impl Scope {
     /// No declarations.
-    pub(crate) fn new(alloc: Global) -> Scope<'a>
+    pub(crate) fn new(alloc: Global) -> Scope
         ensures { result ≡ [] }
     {
         Scope {
+            alloc,
             log: Vec::new(alloc),
             bindings: HashMap::new(alloc),
         }
@@ -79,17 +80,18 @@ impl<'a> Scope<'a> {
     }
 
     /// Declares a name.
-    pub(crate) fn declare(&mut self, name: &'a [u8], binding: Binding) -> Result<(), NoMemory>
+    pub(crate) fn declare(&mut self, name: &[u8], binding: Binding) -> Result<(), NoMemory>
         ensures { IfOk result (λ _.
-            self.new ≡ record { name = name.entry.now; binding = binding } ∷ self.old) }
+            self.new ≡ record { name = name.now; binding = binding } ∷ self.old) }
     {
-        let before = self.binding(name);
-        self.log.push(Entry {
-            name,
+        let key = Vec::from_slice(self.alloc, name)?;
+        let entry = Entry {
+            name: Vec::from_slice(self.alloc, name)?,
             binding,
-            before,
-        })?;
-        if let Err(error) = bind(&mut self.bindings, name, binding) {
+            before: self.binding(name),
+        };
+        self.log.push(entry)?;
+        if let Err(error) = bind(&mut self.bindings, key, binding) {
             let _ = self.log.pop();
             return Err(error);
         }
@@ -100,8 +102,10 @@ impl<'a> Scope<'a> {
     fn undo(&mut self) -> Result<(), NoMemory>
         ensures { IfOk result (λ _. self.new ≡ without_latest self.old) }
     {
-        if let Some(entry) = last(self.log.as_slice()) {
-            bind(&mut self.bindings, entry.name, entry.before)?;
+        if let Some(entry) = self.log.last() {
+            let key = Vec::from_slice(self.alloc, entry.name.as_slice())?;
+            let before = entry.before;
+            bind(&mut self.bindings, key, before)?;
             let _ = self.log.pop();
         }
         Ok(())
@@ -118,22 +122,15 @@ impl<'a> Scope<'a> {
     }
 }
 
-/// The latest entry.
-fn last<'a>(log: &[Entry<'a>]) -> Option<Entry<'a>>
-    ensures { result ≡ slice_get log.now (length log.now - 1) }
-{
-    log.last().copied()
-}
-
 /// Says what a name is bound to. An error changes nothing.
-fn bind<'a>(
-    bindings: &mut HashMap<&'a [u8], Binding>,
-    name: &'a [u8],
+fn bind(
+    bindings: &mut HashMap<Vec<u8>, Binding>,
+    name: Vec<u8>,
     binding: Binding,
 ) -> Result<(), NoMemory>
-    ensures ok { OnOk result ((other : Bor (List ℕ)) →
+    ensures ok { OnOk result ((other : List ℕ) →
         bound_in bindings.new other ≡
-        (if bytes_eq name.entry.now other.now then binding else bound_in bindings.old other)) }
+        (if bytes_eq name.items other then binding else bound_in bindings.old other)) }
     ensures err { OnErr result (bindings.new.entries ≡ bindings.old.entries) }
 {
     bindings.insert(name, binding)?;

@@ -1,13 +1,12 @@
 //! The external declarations of a unit as they stand in the program.
 
-ghost use Rattle.std.specs.Prelude.{◌≡◌, [], IfOk, false, length, map};
+ghost use Rattle.std.specs.Prelude.{◌≡◌, [], IfOk, map};
 ghost use Rattle.c_tree.specs.StatementView.{trees, decl_view, entry_view, unit_view};
-ghost use Rattle.c_units.specs.Externals.{each_said, suffix_of, unit_said};
-ghost use Rattle.c_units.specs.Kept.{decls_of, mentions_in, mentions_said, said_view, told_of};
+ghost use Rattle.c_units.specs.Externals.{behind_external, each_said, renamed_external, suffix_of, unit_said};
+ghost use Rattle.c_units.specs.Kept.{said_view};
 ghost use Rattle.c_units.specs.Merge.{are_plain, is_plain, spelling};
 
 use crate::mention::Mention;
-use crate::name_set::NameSet;
 use crate::statics::own_names;
 use crate::walk::Walk;
 use c_tree::{Decl, Declarator, Init, Unit, write_unit};
@@ -23,20 +22,32 @@ pub(crate) struct Said {
 }
 
 /// The external declarations of a unit in turn.
-#[tactic(auto, using(crate::proofs::SaidTurns::said_next, crate::proofs::SaidTurns::said_end))]
-fn each_said<'a>(walk: &mut Walk<'a>, unit: &'a Unit) -> Result<Vec<Said>, NoMemory>
+#[tactic(auto, using(crate::proofs::SaidTurns::said_next))]
+fn each_said(walk: &mut Walk, decls: Vec<Decl>) -> Result<Vec<Said>, NoMemory>
     ensures { IfOk result (λ all.
-        map said_view all.items ≡ each_said (unit_view unit.now) walk.old) }
+        map said_view all.items ≡ each_said (trees decl_view decls.items) walk.old) }
 {
     let mut all = Vec::new(walk.alloc);
-    let decls = unit.decls.as_slice();
     for decl in decls {
-        let _ = walk.take_mentions();
-        let decl = walk.external(decl)?;
-        let mentions = walk.take_mentions();
-        all.push(Said { decl, mentions })?;
+        all.push(one_said(walk, decl)?)?;
     }
     Ok(all)
+}
+
+/// An external declaration as it stands in the program, with what it says.
+fn one_said(walk: &mut Walk, mut decl: Decl) -> Result<Said, NoMemory>
+    ensures said { IfOk result (λ one.
+        let before = record walk.old { mentions = [] } in
+        let after = behind_external (decl_view decl) before in
+        said_view one ≡ record { tree = renamed_external (decl_view decl) before; mentions = after.mentions }) }
+    ensures names { IfOk result (λ _.
+        let after = behind_external (decl_view decl) (record walk.old { mentions = [] }) in
+        walk.new ≡ record after { mentions = [] }) }
+{
+    let _ = walk.take_mentions();
+    walk.external(&mut decl)?;
+    let mentions = walk.take_mentions();
+    Ok(Said { decl, mentions })
 }
 
 /// The suffix of the unit of this number: a dot, which no name of a text has, and the number.
@@ -49,88 +60,15 @@ fn suffix_of(alloc: Global, number: usize) -> Result<Items<u8>, NoMemory>
     Ok(Items::from(suffix))
 }
 
-/// What each external declaration of a unit says of the names that units share, in turn.
-#[tactic(auto, using(crate::proofs::SharedTurns::told_next, crate::proofs::SharedTurns::told_end))]
-fn each_told<'a>(walk: &mut Walk<'a>, unit: &'a Unit) -> Result<Vec<Vec<Mention>>, NoMemory>
-    ensures { IfOk result (λ told.
-        mentions_in told.items ≡ mentions_said (each_said (unit_view unit.now) walk.old)) }
-{
-    let mut told = Vec::new(walk.alloc);
-    let decls = unit.decls.as_slice();
-    for decl in decls {
-        let _ = walk.take_mentions();
-        walk.past_external(decl)?;
-        told.push(walk.take_mentions())?;
-    }
-    Ok(told)
-}
-
-/// The same, of the unit that has these names for itself.
-fn told(
-    alloc: Global,
-    own: NameSet,
-    suffix: Items<u8>,
-    unit: &Unit,
-) -> Result<Vec<Vec<Mention>>, NoMemory>
-    ensures { IfOk result (λ told.
-        mentions_in told.items ≡
-        mentions_said (each_said (unit_view unit.now) (record { own = own; suffix = suffix; known = []; inside = false; mentions = [] }))) }
-{
-    let mut walk = Walk::new(alloc, own, suffix);
-    each_told(&mut walk, unit)
-}
-
-/// The external declarations of a unit that has nothing for itself: they stand in the program as they are.
-#[tactic(auto, using(crate::proofs::SharedTurns::all_shared, crate::proofs::SharedTurns::none_free))]
-fn shared_said(
-    alloc: Global,
-    own: NameSet,
-    suffix: Items<u8>,
-    unit: Unit,
-) -> Result<Vec<Said>, NoMemory>
-    requires { own ≡ [] }
-    ensures { IfOk result (λ all.
-        map said_view all.items ≡
-        each_said (unit_view unit) (record { own = own; suffix = suffix; known = []; inside = false; mentions = [] })) }
-{
-    let told = told(alloc, own, suffix, &unit)?;
-    let Unit { decls } = unit;
-    paired(alloc, decls.into_vec(), told)
-}
-
-/// External declarations, each with what it says.
-#[tactic(auto, using(crate::proofs::SharedTurns::pair_next, crate::proofs::SharedTurns::pair_end))]
-fn paired(
-    alloc: Global,
-    decls: Vec<Decl>,
-    mut told: Vec<Vec<Mention>>,
-) -> Result<Vec<Said>, NoMemory>
-    ensures decls { IfOk result (λ all. decls_of all.items ≡ decls.items) }
-    ensures told { IfOk result (λ all.
-        length told.items ≡ length decls.items → told_of all.items ≡ mentions_in told.items) }
-{
-    let mut all = Vec::new(alloc);
-    told.reverse();
-    for decl in decls {
-        let Some(mentions) = told.pop() else {
-            return Err(NoMemory);
-        };
-        all.push(Said { decl, mentions })?;
-    }
-    Ok(all)
-}
-
 /// The external declarations of the unit of this number among several.
 pub(crate) fn unit_said(alloc: Global, number: usize, unit: Unit) -> Result<Vec<Said>, NoMemory>
     ensures { IfOk result (λ all. map said_view all.items ≡ unit_said number (unit_view unit)) }
 {
     let own = own_names(alloc, &unit)?;
     let suffix = suffix_of(alloc, number)?;
-    if own.is_empty() {
-        return shared_said(alloc, own, suffix, unit);
-    }
     let mut walk = Walk::new(alloc, own, suffix);
-    each_said(&mut walk, &unit)
+    let Unit { decls } = unit;
+    each_said(&mut walk, decls.into_vec())
 }
 
 /// Whether no name of a declaration has an initializer.

@@ -16,14 +16,14 @@ use std::mem;
 
 /// What is known at a place of a unit.
 #[derive(Drop)]
-pub(crate) struct Walk<'a> {
+pub(crate) struct Walk {
     pub(crate) alloc: Global,
     /// The objects and functions that the unit has for itself.
     own: NameSet,
     /// What is added to their names.
     suffix: Items<u8>,
     /// The declarations that hold.
-    scope: Scope<'a>,
+    scope: Scope,
     /// Whether an inner scope is open.
     inside: bool,
     /// What was said so far of the names that all units share.
@@ -37,7 +37,7 @@ pub(crate) struct Outer {
     inside: bool,
 }
 
-impl<'a> Model for Walk<'a> {
+impl Model for Walk {
     ghost use Rattle.c_units.specs.Names.{Names};
 
     ghost Value = { Names };
@@ -45,9 +45,9 @@ impl<'a> Model for Walk<'a> {
     ghost view = { λ w. record { own = w.own; suffix = w.suffix; known = w.scope; inside = w.inside; mentions = w.mentions.items } };
 }
 
-impl<'a> Walk<'a> {
+impl Walk {
     /// Before the first external declaration of a unit.
-    pub(crate) fn new(alloc: Global, own: NameSet, suffix: Items<u8>) -> Walk<'a>
+    pub(crate) fn new(alloc: Global, own: NameSet, suffix: Items<u8>) -> Walk
         ensures { result ≡
             record { own = own; suffix = suffix; known = []; inside = false; mentions = [] } }
     {
@@ -76,25 +76,40 @@ impl<'a> Walk<'a> {
         self.mentions = mentions;
     }
 
-    /// A copy of a spelling.
-    pub(crate) fn copy(&self, bytes: &[u8]) -> Result<Items<u8>, NoMemory>
-        ensures { IfOk result (λ copy. copy ≡ bytes.now) }
+    /// Takes the suffix away, so that nothing is renamed.
+    pub(crate) fn take_suffix(&mut self) -> Items<u8>
+        ensures result { result ≡ self.old.suffix }
+        ensures rest { self.new ≡ record self.old { suffix = [] } }
     {
-        Ok(Items::from(Vec::from_slice(self.alloc, bytes)?))
+        mem::replace(&mut self.suffix, Items::new(self.alloc))
+    }
+
+    /// This is the suffix again.
+    pub(crate) fn put_suffix(&mut self, suffix: Items<u8>)
+        ensures { self.new ≡ record self.old { suffix = suffix } }
+    {
+        self.suffix = suffix;
     }
 
     /// A name that is bound so, as it stands in the program.
     pub(crate) fn name_by(&self, binding: Binding, name: &[u8]) -> Result<Items<u8>, NoMemory>
         ensures { IfOk result (λ new. new ≡ name_by binding self.now.suffix name.now) }
     {
-        let Binding::Own = binding else {
-            return self.copy(name);
-        };
-        let suffix = self.suffix.as_slice();
-        let mut bytes = Vec::with_capacity(self.alloc, name.len().saturating_add(suffix.len()))?;
-        bytes.extend_from_slice(name)?;
-        bytes.extend_from_slice(suffix)?;
-        Ok(Items::from(bytes))
+        let mut new = Items::from(Vec::from_slice(self.alloc, name)?);
+        self.rename(binding, &mut new)?;
+        Ok(new)
+    }
+
+    /// Gives a name that is bound so the form that it has in the program.
+    pub(crate) fn rename(&self, binding: Binding, name: &mut Items<u8>) -> Result<(), NoMemory>
+        ensures { IfOk result (λ _. name.new ≡ name_by binding self.now.suffix name.old) }
+    {
+        if let Binding::Own = binding {
+            let mut bytes = mem::replace(name, Items::new(self.alloc)).into_vec();
+            bytes.extend_from_slice(self.suffix.as_slice())?;
+            *name = Items::from(bytes);
+        }
+        Ok(())
     }
 
     /// What a name is bound to.
@@ -142,7 +157,7 @@ impl<'a> Walk<'a> {
         ensures { IfOk result (λ _. self.new ≡ mention binding role name.now line self.old) }
     {
         if let Binding::Shared = binding {
-            let name = self.copy(name)?;
+            let name = Items::from(Vec::from_slice(self.alloc, name)?);
             self.mentions.push(Mention { role, name, line })?;
         }
         Ok(())
@@ -151,7 +166,7 @@ impl<'a> Walk<'a> {
     /// Declares a name, where there is one.
     pub(crate) fn declare(
         &mut self,
-        name: Option<&'a Items<u8>>,
+        name: Option<&Items<u8>>,
         binding: Binding,
     ) -> Result<(), NoMemory>
         ensures { IfOk result (λ _.

@@ -1,8 +1,8 @@
-use Rattle.std.proofs.Common.{◌+◌, ◌*◌, max}
+use Rattle.std.proofs.Common.{◌+◌, ◌*◌}
 use Rattle.c_tree.specs.declared.statement.Stmt.{size-Stmt}
 use Rattle.c_tree.specs.declared.statement.StmtKind.{size-StmtKind}
 use Rattle.c_tree.specs.StatementView.{stmt_view}
-use Rattle.c_units.proofs.ItemTurns.{Leads}
+use Rattle.c_units.proofs.ItemTurns.{AreLeft, Leads}
 use Rattle.c_units.proofs.walk.Walk.+statements.Given as goal
 
 abbrev pub decreases-stmt_of : goal.decreases-stmt_of
@@ -17,11 +17,11 @@ decreases-branch l = 8 * size-Stmt l.stmt.now + 2
 abbrev pub decreases-guarded : goal.decreases-guarded
 decreases-guarded l = 8 * size-Stmt l.body.now + 3
 
-abbrev pub decreases-choice : goal.decreases-choice
-decreases-choice l = 8 * max (goal.size-choice l) (size-Stmt l.body.now) + 4
+abbrev pub decreases-maybe_branch : goal.decreases-maybe_branch
+decreases-maybe_branch l = 8 * goal.size-maybe_branch l + 3
 
 abbrev pub decreases-items : goal.decreases-items
 decreases-items l = 8 * goal.size-items l + 2
 
 abbrev pub invariant-items-loop-one : goal.invariant-items-loop-one
-invariant-items-loop-one l = Leads stmt_view l.list l.one-index l.all.items l.self l.initial.self
+invariant-items-loop-one l = AreLeft l.initial.list l.list l.one-index × Leads stmt_view l.initial.list l.list l.one-index l.self l.initial.self
