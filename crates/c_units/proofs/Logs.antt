@@ -69,19 +69,19 @@ module _ {G S : Type 0} where
       )
 
 -- a table in which a key was bound
-module _ {G S : Type 0} (old new : HashMap (Vec ℕ G) Binding S) (key : Vec ℕ G) (binding : Binding)
-    (h : UpdatesBy (λ (x y : Vec ℕ G). bytes_eq x.items y.items) (λ (y : Vec ℕ G). bytes_eq key.items y.items) old new (Some binding)) where
-  bound_by : (same : Bool) (name : List ℕ) → bytes_eq key.items name ≡ same → bound_in new name ≡ (if same then binding else bound_in old name)
+module _ {G S : Type 0} (old new : HashMap (Vec ℕ G) Binding S) (key : List ℕ) (binding : Binding)
+    (h : UpdatesBy (λ (x y : Vec ℕ G). bytes_eq x.items y.items) (λ (y : Vec ℕ G). bytes_eq key y.items) old new (Some binding)) where
+  bound_by : (same : Bool) (name : List ℕ) → bytes_eq key name ≡ same → bound_in new name ≡ (if same then binding else bound_in old name)
   unfolding KeepsOthers
   bound_by true name is =
-      let e = (bytes_eq-Decides key.items name).0 is in
+      let e = (bytes_eq-Decides key name).0 is in
       ap (λ (l : List ℕ). bound_in new l) (sym e) ∙ ap (λ (o : Option Binding). unwrap_or o Shared) h.1
   bound_by false name is =
       ap (λ (o : Option Binding). unwrap_or o Shared)
-      (h.3 (λ (k : Vec ℕ G). bytes_eq name k.items) (λ x y e. same_test name x.items y.items e) (λ k e. apart key.items name k.items is e))
+      (h.3 (λ (k : Vec ℕ G). bytes_eq name k.items) (λ x y e. same_test name x.items y.items e) (λ k e. apart key name k.items is e))
 
-  pub bound_now : (name : List ℕ) → bound_in new name ≡ (if bytes_eq key.items name then binding else bound_in old name)
-  bound_now name = bound_by (bytes_eq key.items name) name refl
+  pub bound_now : (name : List ℕ) → bound_in new name ≡ (if bytes_eq key name then binding else bound_in old name)
+  bound_now name = bound_by (bytes_eq key name) name refl
 
 -- the last entry is the one that leaves
 pub last_leaves : (log rest : List Entry) (popped : Option Entry) (entry : Entry) (n : ℕ) → n ≡ length log → log ≡ rest ++ option_to_list popped → slice_get log (length log - 1) ≡ Some entry →

@@ -84,29 +84,30 @@ impl Scope {
         ensures { IfOk result (λ _.
             self.new ≡ record { name = name.now; binding = binding } ∷ self.old) }
     {
-        let key = Vec::from_slice(self.alloc, name)?;
         let entry = Entry {
             name: Vec::from_slice(self.alloc, name)?,
             binding,
             before: self.binding(name),
         };
         self.log.push(entry)?;
-        if let Err(error) = bind(&mut self.bindings, key, binding) {
+        if let Err(error) = bind(self.alloc, &mut self.bindings, name, binding) {
             let _ = self.log.pop();
             return Err(error);
         }
         Ok(())
     }
 
-    /// Takes the latest declaration back.
+    /// Takes the latest declaration back. Want of memory leaves none.
     fn undo(&mut self) -> Result<(), NoMemory>
         ensures { IfOk result (λ _. self.new ≡ without_latest self.old) }
     {
-        if let Some(entry) = self.log.last() {
-            let key = Vec::from_slice(self.alloc, entry.name.as_slice())?;
-            let before = entry.before;
-            bind(&mut self.bindings, key, before)?;
-            let _ = self.log.pop();
+        if let Some(entry) = self.log.pop() {
+            let name = entry.name.as_slice();
+            if let Err(error) = bind(self.alloc, &mut self.bindings, name, entry.before) {
+                self.log.clear();
+                self.bindings.clear();
+                return Err(error);
+            }
         }
         Ok(())
     }
@@ -124,15 +125,20 @@ impl Scope {
 
 /// Says what a name is bound to. An error changes nothing.
 fn bind(
+    alloc: Global,
     bindings: &mut HashMap<Vec<u8>, Binding>,
-    name: Vec<u8>,
+    name: &[u8],
     binding: Binding,
 ) -> Result<(), NoMemory>
     ensures ok { OnOk result ((other : List ℕ) →
         bound_in bindings.new other ≡
-        (if bytes_eq name.items other then binding else bound_in bindings.old other)) }
+        (if bytes_eq name.now other then binding else bound_in bindings.old other)) }
     ensures err { OnErr result (bindings.new.entries ≡ bindings.old.entries) }
 {
-    bindings.insert(name, binding)?;
+    if let Some(bound) = bindings.get_mut(name) {
+        *bound = binding;
+        return Ok(());
+    }
+    bindings.insert(Vec::from_slice(alloc, name)?, binding)?;
     Ok(())
 }

@@ -73,7 +73,7 @@ impl Program {
             left.spellings.items ≡ spellings_of (map said_view all.items)) }
     {
         let mut left = Left {
-            said: Vec::new(self.alloc),
+            said: Vec::with_capacity(self.alloc, all.len())?,
             spellings: Vec::new(self.alloc),
         };
         for one in all {

@@ -27,7 +27,7 @@ fn each_said(walk: &mut Walk, decls: Vec<Decl>) -> Result<Vec<Said>, NoMemory>
     ensures { IfOk result (λ all.
         map said_view all.items ≡ each_said (trees decl_view decls.items) walk.old) }
 {
-    let mut all = Vec::new(walk.alloc);
+    let mut all = Vec::with_capacity(walk.alloc, decls.len())?;
     for decl in decls {
         all.push(one_said(walk, decl)?)?;
     }

@@ -95,7 +95,10 @@ impl Walk {
     pub(crate) fn name_by(&self, binding: Binding, name: &[u8]) -> Result<Items<u8>, NoMemory>
         ensures { IfOk result (λ new. new ≡ name_by binding self.now.suffix name.now) }
     {
-        let mut new = Items::from(Vec::from_slice(self.alloc, name)?);
+        let room = name.len().saturating_add(self.suffix.len());
+        let mut bytes = Vec::with_capacity(self.alloc, room)?;
+        bytes.extend_from_slice(name)?;
+        let mut new = Items::from(bytes);
         self.rename(binding, &mut new)?;
         Ok(new)
     }

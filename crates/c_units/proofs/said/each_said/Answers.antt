@@ -4,7 +4,7 @@ use Rattle.c_units.proofs.SaidTurns.{said_none, said_next}
 use Rattle.c_units.proofs.said.each_said.Goals as goal
 
 pub loop-decl-init : goal.loop-decl-init
-loop-decl-init c = (ap (map said_view) c.new-all.ensures.items ∙ sym (said_none c.args.walk.now), refl)
+loop-decl-init c = (ap (map said_view) c.in_ok-all.ensures.items ∙ sym (said_none c.args.walk.now), refl)
 
 pub loop-decl-preserved : goal.loop-decl-preserved
 loop-decl-preserved c =

@@ -10,4 +10,4 @@ invariant_of-self-in_default c =
     c.in_ok-push.ensures.items c.self.invariant
     (c.binding.ensures ∙ ap (λ (known : List Known). binding_of known c.args.name.now) (sym c.self.view_is) ∙ ap (binding_of _) (sym c.in_ok-from_slice.ensures.items))
     (λ name. c.in_default.ensures.ok name
-    ∙ ap (λ (l : List ℕ). if bytes_eq l name then c.args.binding else bound_in c.self.inside.bindings name) (c.in_ok-key.ensures.items ∙ sym c.in_ok-from_slice.ensures.items))
+    ∙ ap (λ (l : List ℕ). if bytes_eq l name then c.args.binding else bound_in c.self.inside.bindings name) (sym c.in_ok-from_slice.ensures.items))
