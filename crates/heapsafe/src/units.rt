@@ -4,7 +4,6 @@ ghost use Rattle.std.specs.Prelude.{◌≡◌, ℕ, ◌+◌, ◌<◌, ◌≤◌,
 ghost use Rattle.core_soundness.specs.Texts.{IsOfTexts};
 ghost use Rattle.c_pre.specs.Texts.{preprocessed_behind};
 ghost use Rattle.c_tree.specs.StatementView.{unit_view};
-ghost use Rattle.c_units.specs.Merge.{Merges};
 ghost use Rattle.heapsafe.specs.Reads.{CountsText, FailsIn, Finishes, IsOfFiles, ReadsAs, TakesFile, TakesUnit, reading_view};
 ghost use Rattle.heapsafe.specs.Units.{nothing_read};
 
@@ -77,15 +76,6 @@ impl From<PreError> for ProgramError {
     }
 }
 
-/// The merge of units.
-fn merged(alloc: Global, units: Items<Unit>) -> Result<Unit, MergeError>
-    requires some { 0 < length units }
-    requires few { length units ≤ 64 }
-    ensures { Merges (map unit_view units) result }
-{
-    merge(alloc, units)
-}
-
 impl Reading {
     /// Nothing.
     fn new(alloc: Global) -> Reading
@@ -150,7 +140,7 @@ impl Reading {
         names_stay_short();
         let Reading { sources, units } = self;
         let Sources { texts, .. } = sources;
-        match merged(alloc, units) {
+        match merge(alloc, units) {
             Ok(unit) => Ok(Program { texts, unit }),
             Err(MergeError::Conflict { name, line }) => {
                 Err(ProgramError::Conflict { texts, name, line })

@@ -9,4 +9,4 @@ pub returns-in-Ok-clause-texts : goal.returns-in-Ok-clause-texts
 returns-in-Ok-clause-texts c =
     merge_of_texts (reading_view c.args.self) (unit_view c.in-Ok.unit) c.requires.within
     (subst (λ (n : ℕ). n ≤ 64) (sym (length-map c.args.self.units unit_view)) c.requires.few)
-    (c.merges_rename.ensures c.args.self.units (unit_view c.in-Ok.unit) c.requires.few c.in-Ok.ensures) c.names_stay_short.ensures
+    (c.merges_rename.ensures c.args.self.units (unit_view c.in-Ok.unit) c.requires.few c.in-Ok.ensures.merged) c.names_stay_short.ensures
