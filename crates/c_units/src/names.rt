@@ -5,6 +5,7 @@ ghost use Rattle.c_units.specs.Names.{binding_of};
 ghost use Rattle.c_units.specs.Sets.{bound_in, oldest, without_latest};
 
 use hs_base::NoMemory;
+use smallvec::SmallVec;
 use std::alloc::Global;
 use std::collections::HashMap;
 use std::marker::Model;
@@ -21,9 +22,10 @@ pub(crate) enum Binding {
 }
 
 /// A declaration, and what its name was bound to before it.
-#[derive(Debug, Drop)]
+#[derive(Drop)]
 pub(crate) struct Entry {
-    name: Vec<u8>,
+    /// Most names are short: they take no memory of their own.
+    name: SmallVec<u8, 24>,
     binding: Binding,
     before: Binding,
 }
@@ -85,7 +87,7 @@ impl Scope {
             self.new ≡ record { name = name.now; binding = binding } ∷ self.old) }
     {
         let entry = Entry {
-            name: Vec::from_slice(self.alloc, name)?,
+            name: SmallVec::from_slice(self.alloc, name)?,
             binding,
             before: self.binding(name),
         };

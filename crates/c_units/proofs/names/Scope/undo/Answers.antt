@@ -7,4 +7,4 @@ pub invariant_of-self-in_default-bind : goal.invariant_of-self-in_default-bind
 invariant_of-self-in_default-bind c =
     one_back c.self.inside.log.items c.pop.new.self.items c.in-Some.entry c.self.inside.bindings c.bind.new.bindings c.in-Some.ensures.items c.self.invariant
     (λ name. c.in_default-bind.ensures.ok name
-    ∙ ap (λ (l : List ℕ). if bytes_eq l name then c.in-Some.entry.before else bound_in c.self.inside.bindings name) c.as_slice-name.ensures.value)
+    ∙ ap (λ (l : List ℕ). if bytes_eq l name then c.in-Some.entry.before else bound_in c.self.inside.bindings name) c.as_slice-name.ensures)
