@@ -1,10 +1,14 @@
 -- A declarator at file scope, with or without a name.
-use Rattle.std.proofs.Common.{◌≡◌, ℕ, List, Option, Some, None, ap}
+use Rattle.std.proofs.Common.{◌≡◌, ℕ, List, Option, Some, None, refl, ap}
 use Rattle.c_tree.specs.Tree.{Tree}
-use Rattle.c_tree.specs.Scopes.{name_of}
+use Rattle.c_tree.specs.Scopes.{name_of, first_name}
 use Rattle.c_units.specs.declared.mention.Role.{Role}
 use Rattle.c_units.specs.Names.{Names, name_by, declare, mention, behind, renamed}
 use Rattle.c_units.specs.Externals.{with_name, binding_as, before_declarator, declared_as, behind_declarator, named_as, renamed_declarator}
+
+pub first_alone : (name : Option (List ℕ)) → first_name name None ≡ name
+first_alone None = refl
+first_alone (Some name) = refl
 
 module _ (role : Role) (line : ℕ) (tree : Tree) (s : Names) where
   pub nameless_made : name_of tree ≡ None → renamed_declarator role line tree s ≡ renamed tree s

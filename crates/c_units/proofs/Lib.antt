@@ -36,3 +36,4 @@ pub mod HeldNames
 pub mod FileDeclared
 pub mod KeptParams
 pub mod FunctionSteps
+pub mod NamedSteps

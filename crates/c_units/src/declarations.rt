@@ -1,6 +1,7 @@
 //! Declarators by their names, and the parameters of functions that are defined.
 
-ghost use Rattle.std.specs.Prelude.{◌≡◌, ℕ, [], IfOk, option_copied};
+ghost use Rattle.std.specs.Prelude.{◌≡◌, ℕ, List, [], IfOk, option_copied};
+ghost use Rattle.c_units.specs.Names.{name_by};
 ghost use Rattle.c_tree.specs.Forms as form;
 ghost use Rattle.c_tree.specs.Scopes.{name_of, params_of, suffix_params};
 ghost use Rattle.c_tree.specs.StatementView.{trees, suffix_view};
@@ -9,6 +10,7 @@ ghost use Rattle.c_tree.specs.View.{declarator_tree, base_tree, suffix_tree};
 ghost use Rattle.c_units.specs.Externals.{with_name, with_params};
 ghost use Rattle.c_units.specs.Turns.{kind_params};
 
+use crate::names::Binding;
 use crate::walk::Walk;
 use c_tree::{Base, Declarator, Suffix, SuffixKind};
 use hs_base::{Items, NoMemory};
@@ -102,29 +104,37 @@ impl Walk {
             SuffixKind::Params(list) => self.params(list),
         }
     }
-}
 
-/// Gives a declarator another name.
-#[cycle(named)]
-#[tactic(auto, unfolding(c_tree::specs::View::declarator_tree, crate::specs::Externals::with_name, crate::specs::Externals::all_with_name, c_tree::specs::Scopes::leads_to_name))]
-pub(crate) fn set_name(declarator: &mut Declarator, name: Items<u8>)
-    ensures { declarator_tree declarator.new ≡ with_name name (declarator_tree declarator.old) }
-{
-    match declarator {
-        Declarator::Pointer(_, _, target) => set_name(target, name),
-        Declarator::Direct(base, _) => set_base_name(base, name),
+    /// Gives a declarator, the name of which is bound so, the name that it has in the program.
+    #[cycle(named)]
+    #[tactic(auto, unfolding(c_tree::specs::View::declarator_tree, crate::specs::Externals::with_name, crate::specs::Externals::all_with_name, c_tree::specs::Scopes::name_of, c_tree::specs::Scopes::name_among, c_tree::specs::Scopes::leads_to_name), using(crate::proofs::FileNames::first_alone))]
+    pub(crate) fn rename_declared(
+        &self,
+        binding: Binding,
+        declarator: &mut Declarator,
+    ) -> Result<(), NoMemory>
+        ensures { (name : List ℕ) → name_of (declarator_tree declarator.old) ≡ Some name → IfOk result (λ _.
+            declarator_tree declarator.new ≡
+            with_name (name_by binding self.now.suffix name) (declarator_tree declarator.old)) }
+    {
+        match declarator {
+            Declarator::Pointer(_, _, target) => self.rename_declared(binding, target),
+            Declarator::Direct(base, _) => self.rename_base(binding, base),
+        }
     }
-}
 
-/// Gives what suffixes stand behind another name.
-#[cycle(named)]
-#[tactic(auto, unfolding(c_tree::specs::View::base_tree, crate::specs::Externals::with_name, crate::specs::Externals::all_with_name, c_tree::specs::Scopes::leads_to_name))]
-fn set_base_name(base: &mut Base, name: Items<u8>)
-    ensures { base_tree base.new ≡ with_name name (base_tree base.old) }
-{
-    match base {
-        Base::Nothing => {}
-        Base::Name(old) => *old = name,
-        Base::Parens(_, inner) => set_name(inner, name),
+    /// The same of what suffixes stand behind.
+    #[cycle(named)]
+    #[tactic(auto, unfolding(c_tree::specs::View::base_tree, crate::specs::Externals::with_name, crate::specs::Externals::all_with_name, c_tree::specs::Scopes::name_of, c_tree::specs::Scopes::name_among, c_tree::specs::Scopes::leads_to_name), using(crate::proofs::FileNames::first_alone))]
+    fn rename_base(&self, binding: Binding, base: &mut Base) -> Result<(), NoMemory>
+        ensures { (name : List ℕ) → name_of (base_tree base.old) ≡ Some name → IfOk result (λ _.
+            base_tree base.new ≡
+            with_name (name_by binding self.now.suffix name) (base_tree base.old)) }
+    {
+        match base {
+            Base::Nothing => Ok(()),
+            Base::Name(name) => self.rename(binding, name),
+            Base::Parens(_, inner) => self.rename_declared(binding, inner),
+        }
     }
 }

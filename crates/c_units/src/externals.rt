@@ -9,7 +9,7 @@ ghost use Rattle.c_units.specs.Externals.{behind_declarator, behind_entries, beh
 ghost use Rattle.c_units.specs.Names.{behind, left_scope, renamed};
 ghost use Rattle.c_units.specs.Turns.{inits_of};
 
-use crate::declarations::{declared_name, set_name};
+use crate::declarations::declared_name;
 use crate::mention::Role;
 use crate::spec_words::has_typedef;
 use crate::walk::Walk;
@@ -50,11 +50,9 @@ impl Walk {
         };
         let binding = self.binding_as(role, name.as_slice());
         self.mention(binding, role, name.as_slice(), line)?;
-        let new = self.name_by(binding, name.as_slice())?;
         self.declarator(declarator)?;
         self.declare(declared_name(declarator), binding)?;
-        set_name(declarator, new);
-        Ok(())
+        self.rename_declared(binding, declarator)
     }
 
     /// A name of a declaration at file scope, which holds before its initializer (C99 6.2.1).

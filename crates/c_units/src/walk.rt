@@ -91,18 +91,6 @@ impl Walk {
         self.suffix = suffix;
     }
 
-    /// A name that is bound so, as it stands in the program.
-    pub(crate) fn name_by(&self, binding: Binding, name: &[u8]) -> Result<Items<u8>, NoMemory>
-        ensures { IfOk result (λ new. new ≡ name_by binding self.now.suffix name.now) }
-    {
-        let room = name.len().saturating_add(self.suffix.len());
-        let mut bytes = Vec::with_capacity(self.alloc, room)?;
-        bytes.extend_from_slice(name)?;
-        let mut new = Items::from(bytes);
-        self.rename(binding, &mut new)?;
-        Ok(new)
-    }
-
     /// Gives a name that is bound so the form that it has in the program.
     pub(crate) fn rename(&self, binding: Binding, name: &mut Items<u8>) -> Result<(), NoMemory>
         ensures { IfOk result (λ _. name.new ≡ name_by binding self.now.suffix name.old) }
