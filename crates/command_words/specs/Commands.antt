@@ -15,12 +15,13 @@ use Rattle.command_words.specs.declared.error.WordsError.{WordsError}
 use Rattle.command_words.specs.declared.error.WordsError.TheVariants.{Usage, NoMemory}
 
 -- what is done with a text: it is run on a heap and a stack of so many bytes with at most so many steps, with or without a
--- list of the blocks that are left, or its meaning is evaluated in such a heap with so many steps; or its canonical spelling is
+-- list of the blocks that are left, or its meaning is evaluated in such a heap with so many steps, and its end is explained or
+-- not; or its canonical spelling is
 -- written, the layouts of its structs and unions, its core, the registers that are live after each point of it, or the code file
 -- of its core
 pub data Task : Type 0 where
-  Run : (heap stack steps : ℕ) → (leaks : Bool) → Task
-  Mean : (heap steps : ℕ) → Task
+  Run : (heap stack steps : ℕ) → (leaks explain : Bool) → Task
+  Mean : (heap steps : ℕ) → (explain : Bool) → Task
   Print : Task
   Layout : Task
   List : Task
@@ -31,7 +32,7 @@ pub data Task : Type 0 where
 -- or a text is made with so many functions and run
 pub data Command : Type 0 where
   OnFiles : (files : Listed Text) → (task : Task) → Command
-  Execute : (file : Listed ℕ) → (heap stack steps : ℕ) → (leaks : Bool) → Command
+  Execute : (file : Listed ℕ) → (heap stack steps : ℕ) → (leaks explain : Bool) → Command
   Generated : (number : ℕ) → Command
 
 -- the value of an option, within its limits, or its default
@@ -80,20 +81,20 @@ files_in task rows = option_and_then (λ files. with_files files task) (all_of (
 -- what a command says of a run, by the values of its arguments
 abbrev pub options_in : Listed Row → Option Options
 options_in rows =
-    option_and_then (λ heap. option_and_then (λ stack. option_map (λ steps. let o : Options = record { heap = heap; stack = stack; steps = steps; leaks = flag_in (codes "leaks") rows } in o) (steps_in (first_of (codes "steps") rows))) (stack_in (first_of (codes "stack") rows))) (heap_in (first_of (codes "heap") rows))
+    option_and_then (λ heap. option_and_then (λ stack. option_map (λ steps. let o : Options = record { heap = heap; stack = stack; steps = steps; leaks = flag_in (codes "leaks") rows; explain = flag_in (codes "explain") rows } in o) (steps_in (first_of (codes "steps") rows))) (stack_in (first_of (codes "stack") rows))) (heap_in (first_of (codes "heap") rows))
 
 -- what a command asks for, by the values of its arguments
 abbrev pub run_in : Listed Row → Option Command
 run_in rows =
-    option_and_then (λ (o : Options). files_in (Run o.heap o.stack o.steps o.leaks) rows) (options_in rows)
+    option_and_then (λ (o : Options). files_in (Run o.heap o.stack o.steps o.leaks o.explain) rows) (options_in rows)
 
 abbrev pub exec_in : Listed Row → Option Command
 exec_in rows =
-    option_and_then (λ file. option_and_then (λ (o : Options). cond (is_file file) (Some (Execute file o.heap o.stack o.steps o.leaks)) None) (options_in rows)) (first_of (codes "FILE") rows)
+    option_and_then (λ file. option_and_then (λ (o : Options). cond (is_file file) (Some (Execute file o.heap o.stack o.steps o.leaks o.explain)) None) (options_in rows)) (first_of (codes "FILE") rows)
 
 abbrev pub mean_in : Listed Row → Option Command
 mean_in rows =
-    option_and_then (λ heap. option_and_then (λ steps. files_in (Mean heap steps) rows) (steps_in (first_of (codes "steps") rows))) (heap_in (first_of (codes "heap") rows))
+    option_and_then (λ heap. option_and_then (λ steps. files_in (Mean heap steps (flag_in (codes "explain") rows)) rows) (steps_in (first_of (codes "steps") rows))) (heap_in (first_of (codes "heap") rows))
 
 abbrev pub self_in : Listed Row → Option Command
 self_in rows =
@@ -115,8 +116,8 @@ command_of words =
 
 -- the code's command as the definition has it
 abbrev pub task_shown : code_task.Task → Task
-task_shown (tasks.Run heap stack steps leaks) = Run heap stack steps leaks
-task_shown (tasks.Mean heap steps) = Mean heap steps
+task_shown (tasks.Run heap stack steps leaks explain) = Run heap stack steps leaks explain
+task_shown (tasks.Mean heap steps explain) = Mean heap steps explain
 task_shown tasks.Print = Print
 task_shown tasks.Layout = Layout
 task_shown tasks.List = List
@@ -125,7 +126,7 @@ task_shown tasks.Compile = Compile
 
 abbrev pub command_shown : code.Command → Command
 command_shown (commands.OnFiles files task) = OnFiles (map (λ w. w.now) files) (task_shown task)
-command_shown (commands.Execute file heap stack steps leaks) = Execute file.now heap stack steps leaks
+command_shown (commands.Execute file heap stack steps leaks explain) = Execute file.now heap stack steps leaks explain
 command_shown (commands.Generated number) = Generated number
 
 -- the words ask for this, or are not taken; of want of memory nothing is said
@@ -136,12 +137,12 @@ IsRead wanted (Err NoMemory) = ⊤
 
 -- the numbers of a task are at most the most that an option may give
 abbrev pub IsLimited : Task → Type 0
-IsLimited (Run heap stack steps leaks) = (heap ≤ 268435456) × (stack ≤ 67108864) × (steps ≤ 1000000000)
-IsLimited (Mean heap steps) = (heap ≤ 268435456) × (steps ≤ 1000000000)
+IsLimited (Run heap stack steps leaks explain) = (heap ≤ 268435456) × (stack ≤ 67108864) × (steps ≤ 1000000000)
+IsLimited (Mean heap steps explain) = (heap ≤ 268435456) × (steps ≤ 1000000000)
 IsLimited _ = ⊤
 
 -- the numbers of a command are within their limits, and so is how many files it has
 abbrev pub HasLimits : Command → Type 0
 HasLimits (OnFiles files task) = (1 ≤ length files) × (length files ≤ most_files task) × IsLimited task
-HasLimits (Execute file heap stack steps leaks) = IsLimited (Run heap stack steps leaks)
+HasLimits (Execute file heap stack steps leaks explain) = IsLimited (Run heap stack steps leaks explain)
 HasLimits (Generated number) = (1 ≤ number) × (number ≤ 2000)

@@ -32,6 +32,7 @@ pub enum Command<'a> {
         stack: u32,
         steps: u64,
         leaks: bool,
+        explain: bool,
     },
     /// A text is made with so many functions, and run.
     Generated {
@@ -43,17 +44,19 @@ pub enum Command<'a> {
 #[derive(Clone, Copy)]
 pub enum Task {
     /// It is run on a heap and a stack of so many bytes, with at most so many steps, and perhaps with a list of the blocks
-    /// that are left at its end.
+    /// that are left at its end, or with lines that explain its end.
     Run {
         heap: u32,
         stack: u32,
         steps: u64,
         leaks: bool,
+        explain: bool,
     },
-    /// Its meaning is evaluated in a heap of so many bytes, with at most so many steps.
+    /// Its meaning is evaluated in a heap of so many bytes, with at most so many steps, and its end is perhaps explained.
     Mean {
         heap: u32,
         steps: u64,
+        explain: bool,
     },
     /// Its canonical spelling is written.
     Print,
@@ -74,6 +77,7 @@ struct Options {
     stack: u32,
     steps: u64,
     leaks: bool,
+    explain: bool,
 }
 
 /// How many files a task takes at most.
@@ -144,17 +148,19 @@ fn flag(found: &ArgMatches, id: &str) -> bool
 /// What is said of a run, by the values of a command's arguments.
 fn run_options(found: &ArgMatches) -> Option<Options>
     ensures value { result ≡ options_in (rows_of (found_of found.now)) }
-    ensures bounds { IfSome result (λ o. IsLimited (Run o.heap o.stack o.steps o.leaks)) }
+    ensures bounds { IfSome result (λ o. IsLimited (Run o.heap o.stack o.steps o.leaks o.explain)) }
 {
     let heap = heap(value_of(found, "heap"))?;
     let stack = stack(value_of(found, "stack"))?;
     let steps = steps(value_of(found, "steps"))?;
     let leaks = flag(found, "leaks");
+    let explain = flag(found, "explain");
     Some(Options {
         heap,
         stack,
         steps,
         leaks,
+        explain,
     })
 }
 
@@ -186,6 +192,7 @@ fn run<'a>(alloc: Global, found: &ArgMatches<'a>) -> Result<Command<'a>, WordsEr
         stack: options.stack,
         steps: options.steps,
         leaks: options.leaks,
+        explain: options.explain,
     };
     on_files(alloc, task, found)
 }
@@ -210,6 +217,7 @@ fn execute<'a>(found: &ArgMatches<'a>) -> Result<Command<'a>, WordsError>
         stack: options.stack,
         steps: options.steps,
         leaks: options.leaks,
+        explain: options.explain,
     })
 }
 
@@ -221,10 +229,16 @@ fn mean<'a>(alloc: Global, found: &ArgMatches<'a>) -> Result<Command<'a>, WordsE
     let Some(heap) = heap(value_of(found, "heap")) else {
         return Err(WordsError::Usage);
     };
-    match steps(value_of(found, "steps")) {
-        Some(steps) => on_files(alloc, Task::Mean { heap, steps }, found),
-        None => Err(WordsError::Usage),
-    }
+    let Some(steps) = steps(value_of(found, "steps")) else {
+        return Err(WordsError::Usage);
+    };
+    let explain = flag(found, "explain");
+    let task = Task::Mean {
+        heap,
+        steps,
+        explain,
+    };
+    on_files(alloc, task, found)
 }
 
 /// The task of a command with files alone.

@@ -51,7 +51,8 @@ fn running<'a>(alloc: Global, name: &'a str, word: Arg<'a>) -> Result<Command<'a
         .arg(option(alloc, "heap"))?
         .arg(option(alloc, "stack"))?
         .arg(option(alloc, "steps"))?
-        .arg(flag(alloc, "leaks"))
+        .arg(flag(alloc, "leaks"))?
+        .arg(flag(alloc, "explain"))
 }
 
 /// Adds a command with its file or files and what may be said of a run.
@@ -68,14 +69,15 @@ fn add_running<'a>(
     program.subcommand(running(alloc, name, word)?)
 }
 
-/// Adds `mean FILE.. [--heap N] [--steps N]`.
+/// Adds `mean FILE.. [--heap N] [--steps N] [--explain]`.
 fn add_mean<'a>(alloc: Global, program: Command<'a>) -> Result<Command<'a>, AllocError>
     ensures { IfOk result (λ c. app_of c ≡ with_subcommand (app_of program.entry) mean.top) }
 {
     let mean = Command::new(alloc, "mean")
         .arg(files(alloc))?
         .arg(option(alloc, "heap"))?
-        .arg(option(alloc, "steps"))?;
+        .arg(option(alloc, "steps"))?
+        .arg(flag(alloc, "explain"))?;
     program.subcommand(mean)
 }
 

@@ -12,7 +12,8 @@ returns-clause-shape c =
     let with_heap = c.in_ok-arg-2.ensures.shape c.option.ensures.local ∙ ap₂ with_rule with_word c.option.ensures.rule in
     let with_stack = c.in_ok-arg-3.ensures.shape c.option-2.ensures.local ∙ ap₂ with_rule with_heap c.option-2.ensures.rule in
     let with_steps = c.in_ok-arg-4.ensures.shape c.option-3.ensures.local ∙ ap₂ with_rule with_stack c.option-3.ensures.rule in
-    IfOk-weaker c.arg-5.result _ _ (λ r h. h.shape c.flag.ensures.local ∙ ap₂ with_rule with_steps c.flag.ensures.rule) c.arg-5.ensures
+    let with_leaks = c.in_ok-arg-5.ensures.shape c.flag.ensures.local ∙ ap₂ with_rule with_steps c.flag.ensures.rule in
+    IfOk-weaker c.arg-6.result _ _ (λ r h. h.shape c.flag-2.ensures.local ∙ ap₂ with_rule with_leaks c.flag-2.ensures.rule) c.arg-6.ensures
 
 pub returns-clause-local : goal.returns-clause-local
 returns-clause-local c =
@@ -20,4 +21,5 @@ returns-clause-local c =
     let with_heap = c.in_ok-arg-2.ensures.globals ∙ ap₂ either with_word c.option.ensures.local in
     let with_stack = c.in_ok-arg-3.ensures.globals ∙ ap₂ either with_heap c.option-2.ensures.local in
     let with_steps = c.in_ok-arg-4.ensures.globals ∙ ap₂ either with_stack c.option-3.ensures.local in
-    IfOk-weaker c.arg-5.result _ _ (λ r h. h.globals ∙ ap₂ either with_steps c.flag.ensures.local) c.arg-5.ensures
+    let with_leaks = c.in_ok-arg-5.ensures.globals ∙ ap₂ either with_steps c.flag.ensures.local in
+    IfOk-weaker c.arg-6.result _ _ (λ r h. h.globals ∙ ap₂ either with_leaks c.flag-2.ensures.local) c.arg-6.ensures
