@@ -1,0 +1,72 @@
+-- The lines that explain how a run ended, behind those of its report: what to mend, and the limit that was in force.
+use Rattle.std.specs.Prelude.{List, [], ◌++◌, ℕ, Option, Some, None, codes, decimal}
+use Rattle.hs_base.specs.declared.ends.TrapKind.{TrapKind}
+use Rattle.hs_base.specs.declared.ends.TrapKind.TheVariants.{Null, Bounds, Align, Layout, Range, Objects, Divide, Shift, Abort}
+use Rattle.hs_base.specs.declared.ends.Reason.{Reason}
+use Rattle.hs_base.specs.declared.ends.Reason.TheVariants.{Held, Again, NotStart}
+use Rattle.hs_base.specs.declared.ends.Holder.{Holder}
+use Rattle.hs_base.specs.declared.ends.Holder.TheVariants.{Global, Memory, Block, Register}
+use Rattle.hs_base.specs.declared.ends.End.{End}
+use Rattle.hs_base.specs.declared.ends.End.TheVariants.{Exit, Trap, BadFree, Escape, Spent, OutOfStack, InputFault, OutputFault}
+use Rattle.bad_free_report.specs.declared.explanation.InForce.{InForce}
+
+-- the line that says what to mend
+abbrev pub help_line : List ℕ → List ℕ
+help_line words = codes "    help: " ++ (words ++ codes "\n")
+
+-- the line that says a limit, and what raises it
+abbrev pub limit_line : ℕ → List ℕ → List ℕ
+limit_line n words = codes "    limit: " ++ (decimal n ++ (words ++ codes "\n"))
+
+-- what to mend where an object is held, by where the first pointer to it stands
+abbrev pub holder_help : Option Holder → List ℕ
+holder_help None = codes "clear the pointer that is left before the free"
+holder_help (Some (Global index offset)) =
+    codes "clear the pointer in this variable before the free, or free and clear it in one __delay_frees block"
+holder_help (Some (Memory func index offset)) =
+    codes "clear the pointer in this local before the free, or free and clear it in one __delay_frees block"
+holder_help (Some (Block line offset)) =
+    codes "free both objects in one __delay_frees block, or clear the pointer in the other object first"
+holder_help (Some (Register func index)) =
+    codes "it is read again behind the free: read what is wanted before it, in a statement of its own"
+
+-- what to mend at a bad free
+abbrev pub free_help : Reason → Option Holder → List ℕ
+free_help Held holder = holder_help holder
+free_help Again holder = codes "free the object once: it is freed already in this __delay_frees block"
+free_help NotStart holder = codes "free the pointer that malloc, calloc or realloc gave, and no other"
+
+-- what to mend at a trap
+abbrev pub trap_help : TrapKind → List ℕ
+trap_help Null = codes "make the pointer point to an object, or test it for NULL first; malloc gives NULL where the heap is full"
+trap_help Bounds = codes "stay inside the object: the indices of n elements are 0 to n - 1"
+trap_help Align = codes "move the pointer by whole elements, or copy the bytes by memcpy"
+trap_help Layout = codes "read and write the object by the type that it was made for: pointers as pointers, integers as integers"
+trap_help Range = codes "keep the pointer inside its object or just behind its end: count by an index"
+trap_help Objects = codes "compare by < and subtract only pointers into one object"
+trap_help Divide = codes "test the divisor for 0 first"
+trap_help Shift = codes "keep the count at 0 or more, and below the number of bits"
+trap_help Abort = codes "the program stopped itself: look for what led to this call of abort"
+
+-- the lines for each kind of end; none of an exit, and none where the input or the output failed, since nothing of the program is
+-- to be mended
+abbrev pub explained : InForce → End → List ℕ
+explained limits (Exit code) = []
+explained limits (Trap kind line) = help_line (trap_help kind)
+explained limits (BadFree free holder) = help_line (free_help free.reason holder)
+explained limits (Escape f index line) =
+    help_line (codes "the local ends here: take the object from malloc, let the caller pass it in, or make it a variable at file scope")
+explained limits Spent =
+    help_line (codes "look for a loop or a recursion that does not end, or allow more steps") ++ limit_line limits.steps (codes " steps, raised by --steps")
+explained limits (OutOfStack line) =
+    help_line (codes "look for a recursion that does not end, take large arrays from malloc, or allow more stack") ++ limit_line limits.stack (codes " bytes of stack, raised by --stack")
+explained limits InputFault = []
+explained limits OutputFault = []
+
+-- the lines, where they are asked for
+abbrev pub explanation : End → Option InForce → List ℕ
+explanation (Exit code) asked = []
+explanation InputFault asked = []
+explanation OutputFault asked = []
+explanation e None = []
+explanation e (Some limits) = explained limits e

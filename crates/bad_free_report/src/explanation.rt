@@ -1,0 +1,140 @@
+//! What explains how a run ended.
+
+ghost use Rattle.std.specs.Prelude.{◌≡◌, ◌++◌, ◌+◌, ◌<◌, ◌^◌, option_copied};
+ghost use Rattle.hs_base.specs.Outside.{CountsFaults};
+ghost use Rattle.hs_base.specs.PutAll.{PutsAll};
+ghost use Rattle.bad_free_report.specs.Explanation.{explained, explanation, free_help, help_line, holder_help, limit_line, trap_help};
+
+use crate::parts::put_parts;
+use hs_base::{End, Failed, Holder, Reason, Sink, TrapKind};
+use itoa::Buffer;
+
+/// The limits that a run was under: how many steps it was allowed, and the bytes of its stack.
+#[derive(Clone, Copy)]
+pub struct InForce {
+    pub steps: u64,
+    pub stack: u32,
+}
+
+/// What to mend where an object is held.
+fn holder_help(holder: Option<Holder>) -> &'static [u8]
+    ensures { result.now ≡ holder_help holder }
+{
+    match holder {
+        None => b"clear the pointer that is left before the free",
+        Some(Holder::Global { .. }) =>
+            b"clear the pointer in this variable before the free, or free and clear it in one __delay_frees block",
+        Some(Holder::Memory { .. }) =>
+            b"clear the pointer in this local before the free, or free and clear it in one __delay_frees block",
+        Some(Holder::Block { .. }) =>
+            b"free both objects in one __delay_frees block, or clear the pointer in the other object first",
+        Some(Holder::Register { .. }) =>
+            b"it is read again behind the free: read what is wanted before it, in a statement of its own",
+    }
+}
+
+/// What to mend at a bad free.
+fn free_help(reason: Reason, holder: Option<Holder>) -> &'static [u8]
+    ensures { result.now ≡ free_help reason holder }
+{
+    match reason {
+        Reason::Held => holder_help(holder),
+        Reason::Again => b"free the object once: it is freed already in this __delay_frees block",
+        Reason::NotStart => b"free the pointer that malloc, calloc or realloc gave, and no other",
+    }
+}
+
+/// What to mend at a trap.
+fn trap_help(kind: TrapKind) -> &'static [u8]
+    ensures { result.now ≡ trap_help kind }
+{
+    match kind {
+        TrapKind::Null =>
+            b"make the pointer point to an object, or test it for NULL first; malloc gives NULL where the heap is full",
+        TrapKind::Bounds => b"stay inside the object: the indices of n elements are 0 to n - 1",
+        TrapKind::Align => b"move the pointer by whole elements, or copy the bytes by memcpy",
+        TrapKind::Layout =>
+            b"read and write the object by the type that it was made for: pointers as pointers, integers as integers",
+        TrapKind::Range =>
+            b"keep the pointer inside its object or just behind its end: count by an index",
+        TrapKind::Objects => b"compare by < and subtract only pointers into one object",
+        TrapKind::Divide => b"test the divisor for 0 first",
+        TrapKind::Shift => b"keep the count at 0 or more, and below the number of bits",
+        TrapKind::Abort => b"the program stopped itself: look for what led to this call of abort",
+    }
+}
+
+/// Writes the line that says what to mend.
+fn put_help<E: Sink>(err: &mut E, words: &[u8]) -> Result<(), Failed>
+    requires { E.faults err.old + 1 < 2 ^ 64 }
+    ensures bytes { PutsAll (E.taken err.old) (E.taken err.new) (help_line words.now) result }
+    ensures cause { CountsFaults (E.faults err.old) (E.faults err.new) result }
+{
+    put_parts(err, &[b"    help: ", words, b"\n"])
+}
+
+/// Writes the line that says a limit, and what raises it.
+fn put_limit<E: Sink>(err: &mut E, limit: u64, words: &[u8]) -> Result<(), Failed>
+    requires { E.faults err.old + 1 < 2 ^ 64 }
+    ensures bytes { PutsAll (E.taken err.old) (E.taken err.new) (limit_line limit words.now) result }
+    ensures cause { CountsFaults (E.faults err.old) (E.faults err.new) result }
+{
+    let mut digits = Buffer::new();
+    let limit = digits.format(limit).as_bytes();
+    put_parts(err, &[b"    limit: ", limit, words, b"\n"])
+}
+
+/// Writes what to mend where a run made all of its steps.
+fn put_spent<E: Sink>(err: &mut E, limits: InForce) -> Result<(), Failed>
+    requires { E.faults err.old + 1 < 2 ^ 64 }
+    ensures bytes { PutsAll (E.taken err.old) (E.taken err.new) (explained limits End.Spent) result }
+    ensures cause { CountsFaults (E.faults err.old) (E.faults err.new) result }
+{
+    put_help(
+        err,
+        b"look for a loop or a recursion that does not end, or allow more steps",
+    )?;
+    put_limit(err, limits.steps, b" steps, raised by --steps")
+}
+
+/// Writes what to mend where the stack had no room for a call.
+fn put_out_of_stack<E: Sink>(err: &mut E, limits: InForce) -> Result<(), Failed>
+    requires { E.faults err.old + 1 < 2 ^ 64 }
+    ensures bytes { PutsAll (E.taken err.old) (E.taken err.new) (explained limits (End.OutOfStack 0)) result }
+    ensures cause { CountsFaults (E.faults err.old) (E.faults err.new) result }
+{
+    put_help(
+        err,
+        b"look for a recursion that does not end, take large arrays from malloc, or allow more stack",
+    )?;
+    put_limit(
+        err,
+        u64::from(limits.stack),
+        b" bytes of stack, raised by --stack",
+    )
+}
+
+/// Writes the lines that explain how a run ended, where its limits are given, since they are asked for; each begins with four
+/// spaces. One says what to mend, and behind a want of stack and the end of the steps another the limit that was in force and
+/// the option that raises it. Of an exit nothing is written, nor where the input or the output failed. After a failure, which is
+/// the last call on the sink, a prefix was taken.
+pub fn explain<E: Sink>(end: &End, asked: Option<InForce>, err: &mut E) -> Result<(), Failed>
+    requires { E.faults err.old + 1 < 2 ^ 64 }
+    ensures bytes { PutsAll (E.taken err.old) (E.taken err.new) (explanation end.now asked) result }
+    ensures cause { CountsFaults (E.faults err.old) (E.faults err.new) result }
+{
+    let Some(limits) = asked else {
+        return Ok(());
+    };
+    match *end {
+        End::Trap(kind, _) => put_help(err, trap_help(kind)),
+        End::BadFree(free, holder) => put_help(err, free_help(free.reason, holder)),
+        End::Escape { .. } => put_help(
+            err,
+            b"the local ends here: take the object from malloc, let the caller pass it in, or make it a variable at file scope",
+        ),
+        End::Spent => put_spent(err, limits),
+        End::OutOfStack(_) => put_out_of_stack(err, limits),
+        End::Exit(_) | End::InputFault | End::OutputFault => Ok(()),
+    }
+}
