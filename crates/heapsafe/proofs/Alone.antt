@@ -1,5 +1,5 @@
 -- How a run without input went.
-use Rattle.std.proofs.Common.{◌≡◌, ℕ, List, [], length, Option, Some, refl, sym, ap, ◌∙◌, subst, arith, false}
+use Rattle.std.proofs.Common.{◌≡◌, ℕ, List, [], length, Option, None, Some, refl, sym, ap, ◌∙◌, subst, arith, false}
 use Rattle.hs_base.specs.declared.ends.End.{End}
 use Rattle.hs_base.specs.declared.ends.End.TheVariants as end
 use Rattle.hs_base.specs.declared.ends.Limits.{Limits}
@@ -28,11 +28,11 @@ one_end x y e = cc
 
 module _ (core : Core) (limits : Limits) (steps : ℕ) (left : Option (List ℕ)) (kept : List ℕ) (ran : Ran) (output : ran.output ≡ length kept) (text : List ℕ) where
   abbrev Answered : Type 0
-  Answered = Went (AnswersWay [] (alone [] text) core no_input (Run limits steps false)) ran
+  Answered = Went (AnswersWay [] (alone [] text) core no_input (Run limits steps false false)) ran
 
   whole : (x : End) → Whole core [] steps limits [] x left (Some kept) → ran.status ≡ status_of x → Answered
   whole x w status = record {
-    shown = ended [] (alone [] text) core (run_within limits core [] steps false).events x [];
+    shown = ended [] (alone [] text) core None (run_within limits core [] steps false).events x [];
     is = record { how = x; leaks = []; ends = w.end; told = refl; is = refl };
     output = output ∙ ap length (kept_is kept (bytes_out (run_within limits core [] steps false).events) w.is_taken);
     status = status;
@@ -41,7 +41,7 @@ module _ (core : Core) (limits : Limits) (steps : ℕ) (left : Option (List ℕ)
     events : List Event
     events = (run_within limits core [] steps false).events
 
-    one_answer : (other : Shown) → Ended [] (alone [] text) core (run_within limits core [] steps false) other → (length other.out ≡ ran.output) × (other.status ≡ ran.status)
+    one_answer : (other : Shown) → Ended [] (alone [] text) core None (run_within limits core [] steps false) other → (length other.out ≡ ran.output) × (other.status ≡ ran.status)
     one_answer other e =
         let same : x ≡ e.how = one_end x e.how (sym w.end ∙ e.ends) in (
           ap (λ (s : Shown). length s.out) e.is ∙ sym (output ∙ ap length (kept_is kept (bytes_out events) w.is_taken)),
@@ -72,10 +72,10 @@ made core room steps end.OutputFault i i' o o' steps_made h counts same fine = a
 
 module _ (text : List ℕ) (limits : Limits) (steps : ℕ) where
   abbrev Filed : Ran → Type 0
-  Filed ran = Went (AnswersText [] text no_input (Runs limits.heap limits.stack steps false)) ran
+  Filed ran = Went (AnswersText [] text no_input (Runs limits.heap limits.stack steps false false)) ran
 
   -- a text with a core alone goes as that does
-  pub core_went : (core : Core) (ran : Ran) → HasOnly text core → Went (AnswersWay [] (alone [] text) core no_input (Run limits steps false)) ran → Filed ran
+  pub core_went : (core : Core) (ran : Ran) → HasOnly text core → Went (AnswersWay [] (alone [] text) core no_input (Run limits steps false false)) ran → Filed ran
   core_went core ran has w = record {
     shown = w.shown;
     is = has.answers [] no_input limits.heap limits.stack steps w.shown w.is;
@@ -122,7 +122,7 @@ abbrev default_room : Limits
 default_room = record { heap = 16777216; stack = 1048576 }
 
 abbrev AsRun : List ℕ → Shown → Type 0
-AsRun text a = AnswersText [] text no_input (Runs 16777216 1048576 100000000 false) a
+AsRun text a = AnswersText [] text no_input (Runs 16777216 1048576 100000000 false false) a
 
 -- the summary of a run
 pub sums_up : (number : ℕ) (text : List ℕ) (ran : Ran) → text ≡ generated number → Went (AsRun text) ran → MakesOnly text default_room 100000000 ran.steps → SumsUp number (record { number = number; text = length text; output = ran.output; steps = ran.steps; status = ran.status })

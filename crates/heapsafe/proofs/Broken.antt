@@ -9,16 +9,16 @@ use Rattle.hs_base.specs.declared.ends.Leak.{Leak}
 use Rattle.hs_base.specs.declared.ends.Limits.{Limits}
 use Rattle.hs_base.specs.Object.{Object}
 use Rattle.hs_base.specs.Trace.{Event, In, Out, New, Gone, Enter, Leave, bytes_in, bytes_out}
-use Rattle.heapsafe.specs.Places.{told_leaks, told_report}
+use Rattle.heapsafe.specs.Places.{told_leaks, told_end_of}
 use Rattle.c_pre.specs.declared.answer.Opened.{Opened}
 use Rattle.core_tree.specs.declared.program.Core.{Core}
+use Rattle.bad_free_report.specs.declared.explanation.InForce.{InForce}
 use Rattle.meaning_run.specs.Meant.{StopsAtIn, Stopped, MeanAnswers, MeanCounts}
 use Rattle.meaning_run.specs.Meant as meant_specs
 use Rattle.flat_codegen.specs.Lasting.{cut_run}
 use Rattle.flat_codegen.specs.Running.{RunAnswers}
 use Rattle.flat_machine.specs.Running.{RunCounts}
 use Rattle.flat_codegen.specs.Running as run_specs
-use Rattle.heapsafe.specs.declared.program.Way.TheVariants.{Run, Mean}
 use Rattle.c_decls.specs.Refusals.{Checked, Meets}
 use Rattle.c_decls.specs.declared.refusal.TypeError.{TypeError}
 use Rattle.c_decls.specs.declared.refusal.TypeError.TheVariants as type
@@ -30,7 +30,7 @@ use Rattle.heapsafe.specs.Reads.{FailsIn, ReadsAs}
 use Rattle.heapsafe.specs.declared.units.ProgramError.{ProgramError}
 use Rattle.heapsafe.specs.declared.units.ProgramError.TheVariants.{Text}
 use Rattle.heapsafe.specs.Shown.{Shown, written, no_memory, output_fault}
-use Rattle.heapsafe.specs.Program.{Done, Ended, Input, AnswersWay, AreTold, TellsNone, ended, meant, run_within, status_of, steady}
+use Rattle.heapsafe.specs.Program.{Done, Ended, Input, AnswersMeant, AreTold, TellsNone, ended, meant, run_within, status_of}
 use Rattle.heapsafe.specs.Saying.{Breaks, IsSaid, Says, SaysLeaks, SaysMore, TakesAll, TakesFront, unmade, unread_files, untyped}
 use Rattle.heapsafe.proofs.Told.{Cause, Refusal, Memory, Fault}
 use Rattle.heapsafe.proofs.Ended.{IsNoExit, same_some, tells_none}
@@ -113,7 +113,7 @@ unmade_said error files told input task a t t' i p reads below (Fault name is ri
 pub unread_none : (asked : Option Command) (t t' : ℕ) → t' ≡ t → unread_files asked t t' ≡ None
 unread_none None t t' same = refl
 unread_none (Some (Generated number)) t t' same = refl
-unread_none (Some (Execute file heap stack steps leaks)) t t' same = ap (λ b. cond b (Some (file ∷ [])) None) (le-ltb t t' (omega (arith, same)))
+unread_none (Some (Execute file heap stack steps leaks explain)) t t' same = ap (λ b. cond b (Some (file ∷ [])) None) (le-ltb t t' (omega (arith, same)))
 unread_none (Some (OnFiles files task)) t t' same = ap (λ b. cond b (Some files) None) (le-ltb t t' (omega (arith, same)))
 
 pub broken_read : (asked : Option Command) (a : Shown) (left : List ℕ) (left' o o' err err' : Option (List ℕ)) (t t' i i' p p' f f' : ℕ) → t' ≡ t → Breaks None a left left' o o' err err' i i' p p' f f' → Breaks (unread_files asked t t') a left left' o o' err err' i i' p p' f f'
@@ -170,13 +170,13 @@ in_of_parts (Gone birth ∷ a) b = in_of_parts a b
 in_of_parts (Enter cost line ∷ a) b = in_of_parts a b
 in_of_parts (Leave ∷ a) b = in_of_parts a b
 
-module _ (file : List ℕ) (opened : List Opened) (core : Core) (left put : List ℕ) (left' out out' err err' : Option (List ℕ)) (i i' p p' f f' result : ℕ) (took : TakesAll out out' put) where
+module _ (file : List ℕ) (opened : List Opened) (core : Core) (asked : Option InForce) (left put : List ℕ) (left' out out' err err' : Option (List ℕ)) (i i' p p' f f' result : ℕ) (took : TakesAll out out' put) where
   -- the output took a front of these bytes
   took_front : (bytes whole more : List ℕ) → bytes ++ more ≡ whole → Some put ≡ Some bytes → TakesFront out out' whole
   took_front bytes whole more is written = λ t h. (bytes, more, is, took t h ∙ ap (λ (b : List ℕ). Some (t ++ b)) (same_some put bytes written))
 
   -- the events before some others were made
-  pub parted : (done : Done) (a : Shown) (before rest : List Event) (kept : List ℕ) (how : End) (leaks : List Leak) → done.events ≡ before ++ rest → a ≡ ended file opened core done.events how leaks → left' ≡ Some kept → bytes_in before ++ kept ≡ left → Some put ≡ Some (bytes_out before) → (line : List ℕ) → IsSaid None a i i' p p' line → Fronts err err' f f' line → p' ≤ p + 1 → Breaks None a left left' out out' err err' i i' p p' f f'
+  pub parted : (done : Done) (a : Shown) (before rest : List Event) (kept : List ℕ) (how : End) (leaks : List Leak) → done.events ≡ before ++ rest → a ≡ ended file opened core asked done.events how leaks → left' ≡ Some kept → bytes_in before ++ kept ≡ left → Some put ≡ Some (bytes_out before) → (line : List ℕ) → IsSaid None a i i' p p' line → Fronts err err' f f' line → p' ≤ p + 1 → Breaks None a left left' out out' err err' i i' p p' f f'
   parted done a before rest kept how leaks split is is_left is_lost written line said front stops = record {
     lost = bytes_in before;
     kept = kept;
@@ -194,28 +194,28 @@ module _ (file : List ℕ) (opened : List Opened) (core : Core) (left put : List
 
   -- the report of an end
   abbrev pub Plain : End → Type 0
-  Plain x = Says err err' f f' (told_report core file opened x) (status_of x) result
+  Plain x = Says err err' f f' (told_end_of core file opened asked x) (status_of x) result
 
-  pub plain_front : (x : End) → Plain x → Fronts err err' f f' (told_report core file opened x)
-  plain_front x said = says_front err err' f f' (status_of x) result (told_report core file opened x) said
+  pub plain_front : (x : End) → Plain x → Fronts err err' f f' (told_end_of core file opened asked x)
+  plain_front x said = says_front err err' f f' (status_of x) result (told_end_of core file opened asked x) said
 
   -- neither the input nor the output failed
   abbrev pub Steady : Type 0
   Steady = (i' ≡ i) × (p' ≡ p)
 
   -- the whole run was made, and its report was not said whole
-  pub whole : (done : Done) (a : Shown) (kept : List ℕ) (e : Ended file opened core done a) → Steady → left' ≡ Some kept → bytes_in done.events ++ kept ≡ left → Some put ≡ Some (bytes_out done.events) → Fronts err err' f f' (told_report core file opened e.how ++ told_leaks opened e.leaks) → Breaks None a left left' out out' err err' i i' p p' f f'
+  pub whole : (done : Done) (a : Shown) (kept : List ℕ) (e : Ended file opened core asked done a) → Steady → left' ≡ Some kept → bytes_in done.events ++ kept ≡ left → Some put ≡ Some (bytes_out done.events) → Fronts err err' f f' (told_end_of core file opened asked e.how ++ told_leaks opened e.leaks) → Breaks None a left left' out out' err err' i i' p p' f f'
   whole done a kept e steady is_left is_lost written front =
       parted done a done.events [] kept e.how e.leaks (sym (append-nil done.events)) e.is is_left is_lost written
-      (told_report core file opened e.how ++ told_leaks opened e.leaks) (inr (inr (steady.0, steady.1, inl (sym (ap (λ (s : Shown). s.err) e.is))))) front (omega (arith, steady.1))
+      (told_end_of core file opened asked e.how ++ told_leaks opened e.leaks) (inr (inr (steady.0, steady.1, inl (sym (ap (λ (s : Shown). s.err) e.is))))) front (omega (arith, steady.1))
 
   -- the input failed, or the output did, or memory was wanted
-  pub starved : (done : Done) (a : Shown) (e : Ended file opened core done a) → (i' ≡ i + 1) × (p' ≡ p) → StopsAtIn done.events left [] left' (Some put) → Plain end.InputFault → Breaks None a left left' out out' err err' i i' p p' f f'
+  pub starved : (done : Done) (a : Shown) (e : Ended file opened core asked done a) → (i' ≡ i + 1) × (p' ≡ p) → StopsAtIn done.events left [] left' (Some put) → Plain end.InputFault → Breaks None a left left' out out' err err' i i' p p' f f'
   starved done a e counts s said =
       parted done a s.before (In s.byte ∷ s.rest) s.left e.how e.leaks s.is e.is s.is_left s.is_read s.is_taken
-      (told_report core file opened end.InputFault) (inl (omega (arith, counts.0), refl)) (plain_front end.InputFault said) (omega (arith, counts.1))
+      (told_end_of core file opened asked end.InputFault) (inl (omega (arith, counts.0), refl)) (plain_front end.InputFault said) (omega (arith, counts.1))
 
-  pub stopped : (done : Done) (a : Shown) (e : Ended file opened core done a) (line : List ℕ) → Stopped done.events left [] left' (Some put) → IsSaid None a i i' p p' line → Fronts err err' f f' line → p' ≤ p + 1 → Breaks None a left left' out out' err err' i i' p p' f f'
+  pub stopped : (done : Done) (a : Shown) (e : Ended file opened core asked done a) (line : List ℕ) → Stopped done.events left [] left' (Some put) → IsSaid None a i i' p p' line → Fronts err err' f f' line → p' ≤ p + 1 → Breaks None a left left' out out' err err' i i' p p' f f'
   stopped done a e line s is front stops =
       parted done a s.before s.rest s.left e.how e.leaks s.is e.is s.is_left s.is_read s.is_taken line is front stops
 
@@ -235,18 +235,18 @@ module _ (file : List ℕ) (opened : List Opened) (core : Core) (left put : List
   told_none (Some objects) end.OutputFault leaks unlike told = told
 
   -- what was said is a front of the report of the same end, with no leaks
-  pub plain_told : (x how : End) (leaks : List Leak) → x ≡ how → leaks ≡ [] → Plain x → Fronts err err' f f' (told_report core file opened how ++ told_leaks opened leaks)
+  pub plain_told : (x how : End) (leaks : List Leak) → x ≡ how → leaks ≡ [] → Plain x → Fronts err err' f f' (told_end_of core file opened asked how ++ told_leaks opened leaks)
   plain_told x how leaks same none said =
-      subst (λ (ls : List Leak). Fronts err err' f f' (told_report core file opened how ++ told_leaks opened ls)) (sym none)
-      (subst (λ (bytes : List ℕ). Fronts err err' f f' bytes) (sym (append-nil (told_report core file opened how)))
-      (subst (λ (y : End). Fronts err err' f f' (told_report core file opened y)) same (plain_front x said)))
+      subst (λ (ls : List Leak). Fronts err err' f f' (told_end_of core file opened asked how ++ told_leaks opened ls)) (sym none)
+      (subst (λ (bytes : List ℕ). Fronts err err' f f' bytes) (sym (append-nil (told_end_of core file opened asked how)))
+      (subst (λ (y : End). Fronts err err' f f' (told_end_of core file opened asked y)) same (plain_front x said)))
 
   -- what is told of a run, whatever failed: nothing behind its report, or behind an exit its leaks
   pub record Tells (limits : Limits) (steps : ℕ) (leaks : Bool) (x : End) : Type 0 where
     pub none : TellsNone leaks x → Plain x
     pub some : (code : ℕ) → IsTrue leaks → x ≡ end.Exit code → SaysLeaks opened (cut_run core left steps limits).state.objects err err' f f' code result
 
-  module _ (limits : Limits) (steps : ℕ) (leaks : Bool) (a : Shown) (e : Ended file opened core (run_within limits core left steps leaks) a) where
+  module _ (limits : Limits) (steps : ℕ) (leaks : Bool) (a : Shown) (e : Ended file opened core asked (run_within limits core left steps leaks) a) where
     abbrev done : Done
     done = run_within limits core left steps leaks
 
@@ -262,7 +262,7 @@ module _ (file : List ℕ) (opened : List Opened) (core : Core) (left put : List
         let none = told_none done.left e.how e.leaks (subst IsNoExit same unlike) e.told in
         whole done a w.left e counts w.is_left w.is_read w.is_taken (plain_told x e.how e.leaks same none (t.none (tells_none leaks x unlike)))
 
-  exit : (limits : Limits) (steps : ℕ) (leaks : Bool) (a : Shown) (e : Ended file opened core (run_within limits core left steps leaks) a) (code : ℕ) → Steady → run_specs.Whole core left steps limits [] (end.Exit code) left' (Some put) → Tells limits steps leaks (end.Exit code) → Breaks None a left left' out out' err err' i i' p p' f f'
+  exit : (limits : Limits) (steps : ℕ) (leaks : Bool) (a : Shown) (e : Ended file opened core asked (run_within limits core left steps leaks) a) (code : ℕ) → Steady → run_specs.Whole core left steps limits [] (end.Exit code) left' (Some put) → Tells limits steps leaks (end.Exit code) → Breaks None a left left' out out' err err' i i' p p' f f'
   exit limits steps false a e code counts w t =
       let same = same_how limits steps false a e (end.Exit code) w.end in
       whole (run_within limits core left steps false) a w.left e counts w.is_left w.is_read w.is_taken
@@ -272,10 +272,10 @@ module _ (file : List ℕ) (opened : List Opened) (core : Core) (left put : List
       let said = t.some code refl refl in
       let told = subst (λ (y : End). AreTold (run_within limits core left steps true).left y e.leaks) (sym same) e.told in
       whole (run_within limits core left steps true) a w.left e counts w.is_left w.is_read w.is_taken
-      (subst (λ (y : End). Fronts err err' f f' (told_report core file opened y ++ told_leaks opened e.leaks)) same
+      (subst (λ (y : End). Fronts err err' f f' (told_end_of core file opened asked y ++ told_leaks opened e.leaks)) same
       (says_front err err' f f' code result (told_leaks opened e.leaks) (said.says e.leaks told)))
 
-  pub broken_run : (limits : Limits) (steps : ℕ) (leaks : Bool) (a : Shown) (x : End) → AnswersWay file opened core (steady left) (Run limits steps leaks) a → RunCounts x i i' p p' → RunAnswers core left steps limits [] x left' (Some put) → Tells limits steps leaks x → Breaks None a left left' out out' err err' i i' p p' f f'
+  pub broken_run : (limits : Limits) (steps : ℕ) (leaks : Bool) (a : Shown) (x : End) → Ended file opened core asked (run_within limits core left steps leaks) a → RunCounts x i i' p p' → RunAnswers core left steps limits [] x left' (Some put) → Tells limits steps leaks x → Breaks None a left left' out out' err err' i i' p p' f f'
   broken_run limits steps leaks a (end.Exit code) e counts w t = exit limits steps leaks a e code counts w t
   broken_run limits steps leaks a (end.Trap kind line) e counts w t = other limits steps leaks a e (end.Trap kind line) tt counts w t
   broken_run limits steps leaks a (end.BadFree why holder) e counts w t = other limits steps leaks a e (end.BadFree why holder) tt counts w t
@@ -285,19 +285,19 @@ module _ (file : List ℕ) (opened : List Opened) (core : Core) (left put : List
   broken_run limits steps leaks a end.InputFault e counts s t =
       starved (run_within limits core left steps leaks) a e counts s (t.none (tells_none leaks end.InputFault tt))
   broken_run limits steps leaks a end.OutputFault e counts s t =
-      stopped (run_within limits core left steps leaks) a e (told_report core file opened end.OutputFault) s (inr (inl (omega (arith, counts.1), refl))) (plain_front end.OutputFault (t.none (tells_none leaks end.OutputFault tt))) (omega (arith, counts.1))
+      stopped (run_within limits core left steps leaks) a e (told_end_of core file opened asked end.OutputFault) s (inr (inl (omega (arith, counts.1), refl))) (plain_front end.OutputFault (t.none (tells_none leaks end.OutputFault tt))) (omega (arith, counts.1))
 
   -- an answer of `mean` that is more than the line of want of memory
-  meant_whole : (steps heap : ℕ) (a : Shown) → SaysMore a → AnswersWay file opened core (steady left) (Mean heap steps) a → Ended file opened core (meant core left steps heap) a
+  meant_whole : (steps heap : ℕ) (a : Shown) → SaysMore a → AnswersMeant file opened core asked false (meant core left steps heap) a → Ended file opened core asked (meant core left steps heap) a
   meant_whole steps heap a more is =
       ⊎_elim (λ h. h) (λ h. absurd (more (ap (λ (s : Shown). s.err) h.3))) is
 
-  whole_mean : (steps heap : ℕ) (a : Shown) (x : End) → Steady → Ended file opened core (meant core left steps heap) a → meant_specs.Whole core left steps heap [] x left' (Some put) → Plain x → Breaks None a left left' out out' err err' i i' p p' f f'
+  whole_mean : (steps heap : ℕ) (a : Shown) (x : End) → Steady → Ended file opened core asked (meant core left steps heap) a → meant_specs.Whole core left steps heap [] x left' (Some put) → Plain x → Breaks None a left left' out out' err err' i i' p p' f f'
   whole_mean steps heap a x counts e w said =
       let same = same_end x e.how (sym w.end ∙ e.ends) in
       whole (meant core left steps heap) a w.left e counts w.is_left w.is_read w.is_taken (plain_told x e.how e.leaks same e.told said)
 
-  broken_meant : (steps heap : ℕ) (a : Shown) (x : End) → MeanCounts (Ok x) i i' p p' → Ended file opened core (meant core left steps heap) a → MeanAnswers core left steps heap [] (Ok x) left' (Some put) → Plain x → Breaks None a left left' out out' err err' i i' p p' f f'
+  broken_meant : (steps heap : ℕ) (a : Shown) (x : End) → MeanCounts (Ok x) i i' p p' → Ended file opened core asked (meant core left steps heap) a → MeanAnswers core left steps heap [] (Ok x) left' (Some put) → Plain x → Breaks None a left left' out out' err err' i i' p p' f f'
   broken_meant steps heap a (end.Exit code) counts e w said = whole_mean steps heap a (end.Exit code) counts e w said
   broken_meant steps heap a (end.Trap kind line) counts e w said = whole_mean steps heap a (end.Trap kind line) counts e w said
   broken_meant steps heap a (end.BadFree why holder) counts e w said = whole_mean steps heap a (end.BadFree why holder) counts e w said
@@ -306,12 +306,12 @@ module _ (file : List ℕ) (opened : List Opened) (core : Core) (left put : List
   broken_meant steps heap a (end.OutOfStack line) counts e w said = whole_mean steps heap a (end.OutOfStack line) counts e w said
   broken_meant steps heap a end.InputFault counts e s said = starved (meant core left steps heap) a e counts s said
   broken_meant steps heap a end.OutputFault counts e s said =
-      stopped (meant core left steps heap) a e (told_report core file opened end.OutputFault) s (inr (inl (omega (arith, counts.1), refl))) (plain_front end.OutputFault said) (omega (arith, counts.1))
+      stopped (meant core left steps heap) a e (told_end_of core file opened asked end.OutputFault) s (inr (inl (omega (arith, counts.1), refl))) (plain_front end.OutputFault said) (omega (arith, counts.1))
 
-  pub broken_mean : (steps heap : ℕ) (a : Shown) (x : End) → SaysMore a → AnswersWay file opened core (steady left) (Mean heap steps) a → MeanCounts (Ok x) i i' p p' → MeanAnswers core left steps heap [] (Ok x) left' (Some put) → Plain x → Breaks None a left left' out out' err err' i i' p p' f f'
+  pub broken_mean : (steps heap : ℕ) (a : Shown) (x : End) → SaysMore a → AnswersMeant file opened core asked false (meant core left steps heap) a → MeanCounts (Ok x) i i' p p' → MeanAnswers core left steps heap [] (Ok x) left' (Some put) → Plain x → Breaks None a left left' out out' err err' i i' p p' f f'
   broken_mean steps heap a x more is counts w said = broken_meant steps heap a x counts (meant_whole steps heap a more is) w said
 
   -- memory was wanted
-  pub broken_unfinished : (steps heap : ℕ) (a : Shown) → SaysMore a → AnswersWay file opened core (steady left) (Mean heap steps) a → Steady → Stopped (meant core left steps heap).events left [] left' (Some put) → Says err err' f f' no_memory.err 134 result → Breaks None a left left' out out' err err' i i' p p' f f'
+  pub broken_unfinished : (steps heap : ℕ) (a : Shown) → SaysMore a → AnswersMeant file opened core asked false (meant core left steps heap) a → Steady → Stopped (meant core left steps heap).events left [] left' (Some put) → Says err err' f f' no_memory.err 134 result → Breaks None a left left' out out' err err' i i' p p' f f'
   broken_unfinished steps heap a more is counts s said =
       stopped (meant core left steps heap) a (meant_whole steps heap a more is) no_memory.err s (inr (inr (counts.0, counts.1, inr refl))) (says_front err err' f f' 134 result no_memory.err said) (omega (arith, counts.1))

@@ -76,7 +76,7 @@ own_text name = inl (0, omega arith, refl)
 
 -- its line, where the error stream failed
 pub unread_off : (error : ReadError) (name bytes : List ℕ) (input : Input) (asked : Asked) (a : Shown) (t t' i p : ℕ) → Reads bytes most_bytes (Err error) → ReadCounts {T = List ℕ} t t' (Err error) → AnswersExecution name bytes input asked a →
-    IsSaid (unread_files (Some (Execute name asked.limits.heap asked.limits.stack asked.steps asked.leaks)) t t') a i i p p (unread error name).err
+    IsSaid (unread_files (Some (Execute name asked.limits.heap asked.limits.stack asked.steps asked.leaks asked.explain)) t t') a i i p p (unread error name).err
 unread_off Fault name bytes input asked a t t' i p reads counts is =
     subst (λ b. IsSaid (cond b (Some (name ∷ [])) None) a i i p p (text_fault name).err) (sym (lt-ltb t t' (omega (arith, counts)))) (name, own_text name, refl)
 unread_off error name bytes input asked a t t' i p reads counts is =

@@ -9,18 +9,18 @@ use Rattle.hs_base.specs.declared.ends.Leak.{Leak}
 use Rattle.hs_base.specs.declared.ends.Limits.{Limits}
 use Rattle.hs_base.specs.Object.{Object}
 use Rattle.hs_base.specs.Trace.{Event, In, bytes_in, bytes_out}
-use Rattle.heapsafe.specs.Places.{told_leaks, told_report}
+use Rattle.heapsafe.specs.Places.{told_leaks, told_end_of}
 use Rattle.c_pre.specs.declared.answer.Opened.{Opened}
 use Rattle.core_tree.specs.declared.program.Core.{Core}
+use Rattle.bad_free_report.specs.declared.explanation.InForce.{InForce}
 use Rattle.meaning_run.specs.Meant.{StopsAtIn, Stopped, MeanAnswers, MeanCounts}
 use Rattle.meaning_run.specs.Meant as meant_specs
 use Rattle.flat_codegen.specs.Lasting.{cut_run}
 use Rattle.flat_codegen.specs.Running.{RunAnswers}
 use Rattle.flat_codegen.specs.Running as run_specs
 use Rattle.flat_machine.specs.Running.{RunCounts}
-use Rattle.heapsafe.specs.declared.program.Way.TheVariants.{Run, Mean}
 use Rattle.heapsafe.specs.Shown.{input_fault, no_memory, output_fault}
-use Rattle.heapsafe.specs.Program.{Done, AnswersProgram, AnswersWay, AreTold, TellsNone, ended, input_of, meant, run_within, status_of, unfinished}
+use Rattle.heapsafe.specs.Program.{Done, AnswersMeant, AnswersProgram, AreTold, TellsNone, ended, meant, run_within, status_of, unfinished}
 use Rattle.heapsafe.specs.Saying.{Faults, Gives, Says, SaysCounts, SaysLeaks, TakesAll}
 use Rattle.heapsafe.proofs.Told.{gives, said_faults}
 
@@ -29,16 +29,16 @@ pub same_some : (a b : List ℕ) → Some a ≡ Some b → a ≡ b
 same_some a b e = cc
 
 -- a program that ended, where the input did not fail
-whole_is : (file : List ℕ) (opened : List Opened) (core : Core) (done : Done) (x : End) (leaks : List Leak) (i i' : ℕ) → i' ≡ i → done.ends ≡ Some x → AreTold done.left x leaks → AnswersProgram file opened core (nat_lt i i') done (ended file opened core done.events x leaks)
-whole_is file opened core done x leaks i i' same is told =
-    let s = ended file opened core done.events x leaks in
-    subst (λ b. AnswersProgram file opened core b done s) (sym (le-ltb i i' (omega arith))) (record { how = x; leaks = leaks; ends = is; told = told; is = refl })
+whole_is : (file : List ℕ) (opened : List Opened) (core : Core) (asked : Option InForce) (done : Done) (x : End) (leaks : List Leak) (i i' : ℕ) → i' ≡ i → done.ends ≡ Some x → AreTold done.left x leaks → AnswersProgram file opened core asked (nat_lt i i') done (ended file opened core asked done.events x leaks)
+whole_is file opened core asked done x leaks i i' same is told =
+    let s = ended file opened core asked done.events x leaks in
+    subst (λ b. AnswersProgram file opened core asked b done s) (sym (le-ltb i i' (omega arith))) (record { how = x; leaks = leaks; ends = is; told = told; is = refl })
 
 -- a program that stopped where the input failed
-stopped_is : (file : List ℕ) (opened : List Opened) (core : Core) (done : Done) (before : List Event) (byte : Option ℕ) (rest : List Event) (i i' : ℕ) → i' ≡ i + 1 → done.events ≡ before ++ In byte ∷ rest → AnswersProgram file opened core (nat_lt i i') done (ended file opened core before end.InputFault [])
-stopped_is file opened core done before byte rest i i' more is =
-    let s = ended file opened core before end.InputFault [] in
-    subst (λ b. AnswersProgram file opened core b done s) (sym (lt-ltb i i' (omega arith))) (record { before = before; byte = byte; rest = rest; stops = is; is = refl })
+stopped_is : (file : List ℕ) (opened : List Opened) (core : Core) (asked : Option InForce) (done : Done) (before : List Event) (byte : Option ℕ) (rest : List Event) (i i' : ℕ) → i' ≡ i + 1 → done.events ≡ before ++ In byte ∷ rest → AnswersProgram file opened core asked (nat_lt i i') done (ended file opened core asked before end.InputFault [])
+stopped_is file opened core asked done before byte rest i i' more is =
+    let s = ended file opened core asked before end.InputFault [] in
+    subst (λ b. AnswersProgram file opened core asked b done s) (sym (lt-ltb i i' (omega arith))) (record { before = before; byte = byte; rest = rest; stops = is; is = refl })
 
 -- an end that is no exit
 abbrev pub IsNoExit : End → Type 0
@@ -83,32 +83,32 @@ counts_said f f' status result counts =
       untold : Option (List ℕ)
       untold = None
 
-module _ (file : List ℕ) (opened : List Opened) (core : Core) (left put : List ℕ) (left' o o' err err' : Option (List ℕ)) (i i' p p' f f' result : ℕ) (took : TakesAll o o' put) (same : f' ≡ f) where
+module _ (file : List ℕ) (opened : List Opened) (core : Core) (asked : Option InForce) (left put : List ℕ) (left' o o' err err' : Option (List ℕ)) (i i' p p' f f' result : ℕ) (took : TakesAll o o' put) (same : f' ≡ f) where
   -- the output took what a run wrote
   wrote : (bytes : List ℕ) → Some put ≡ Some bytes → TakesAll o o' bytes
   wrote bytes is = λ t h. took t h ∙ ap (λ (b : List ℕ). Some (t ++ b)) (same_some put bytes is)
 
   -- the report of an end was said, and then some leaks
   abbrev pub Reported : End → List Leak → Type 0
-  Reported x leaks = Says err err' f f' (told_report core file opened x ++ told_leaks opened leaks) (status_of x) result
+  Reported x leaks = Says err err' f f' (told_end_of core file opened asked x ++ told_leaks opened leaks) (status_of x) result
 
   -- the report of an end was said, and nothing else
   abbrev pub Plain : End → Type 0
-  Plain x = Says err err' f f' (told_report core file opened x) (status_of x) result
+  Plain x = Says err err' f f' (told_end_of core file opened asked x) (status_of x) result
 
   pub plain : (x : End) → Plain x → Reported x []
   plain x said =
-      subst (λ (bytes : List ℕ). Says err err' f f' bytes (status_of x) result) (sym (append-nil (told_report core file opened x))) said
+      subst (λ (bytes : List ℕ). Says err err' f f' bytes (status_of x) result) (sym (append-nil (told_end_of core file opened asked x))) said
 
-  pub whole : (done : Done) (x : End) (leaks : List Leak) (rest : List ℕ) → i' ≡ i → done.ends ≡ Some x → AreTold done.left x leaks → Some put ≡ Some (bytes_out done.events) → left' ≡ Some rest → bytes_in done.events ++ rest ≡ left → Reported x leaks → Gives (AnswersProgram file opened core (nat_lt i i') done) left left' o o' err err' result
+  pub whole : (done : Done) (x : End) (leaks : List Leak) (rest : List ℕ) → i' ≡ i → done.ends ≡ Some x → AreTold done.left x leaks → Some put ≡ Some (bytes_out done.events) → left' ≡ Some rest → bytes_in done.events ++ rest ≡ left → Reported x leaks → Gives (AnswersProgram file opened core asked (nat_lt i i') done) left left' o o' err err' result
   whole done x leaks rest stays is are written is_left is_read said =
-      gives (AnswersProgram file opened core (nat_lt i i') done) (ended file opened core done.events x leaks) left rest left' o o' err err' f f' result
-      (inl (whole_is file opened core done x leaks i i' stays is are)) is_left is_read (wrote (bytes_out done.events) written) same said
+      gives (AnswersProgram file opened core asked (nat_lt i i') done) (ended file opened core asked done.events x leaks) left rest left' o o' err err' f f' result
+      (inl (whole_is file opened core asked done x leaks i i' stays is are)) is_left is_read (wrote (bytes_out done.events) written) same said
 
-  pub stopped : (done : Done) → i' ≡ i + 1 → StopsAtIn done.events left [] left' (Some put) → Plain end.InputFault → Gives (AnswersProgram file opened core (nat_lt i i') done) left left' o o' err err' result
+  pub stopped : (done : Done) → i' ≡ i + 1 → StopsAtIn done.events left [] left' (Some put) → Plain end.InputFault → Gives (AnswersProgram file opened core asked (nat_lt i i') done) left left' o o' err err' result
   stopped done more s said =
-      gives (AnswersProgram file opened core (nat_lt i i') done) (ended file opened core s.before end.InputFault []) left s.left left' o o' err err' f f' result
-      (inl (stopped_is file opened core done s.before s.byte s.rest i i' more s.is)) s.is_left s.is_read (wrote (bytes_out s.before) s.is_taken) same (plain end.InputFault said)
+      gives (AnswersProgram file opened core asked (nat_lt i i') done) (ended file opened core asked s.before end.InputFault []) left s.left left' o o' err err' f f' result
+      (inl (stopped_is file opened core asked done s.before s.byte s.rest i i' more s.is)) s.is_left s.is_read (wrote (bytes_out s.before) s.is_taken) same (plain end.InputFault said)
 
   -- what is told of a run: nothing behind its report, or behind an exit its leaks
   pub record Telling (limits : Limits) (steps : ℕ) (leaks : Bool) (x : End) : Type 0 where
@@ -117,7 +117,7 @@ module _ (file : List ℕ) (opened : List Opened) (core : Core) (left put : List
 
   module _ (limits : Limits) (steps : ℕ) (leaks : Bool) where
     abbrev Runs : Type 0
-    Runs = Gives (AnswersWay file opened core (input_of left i i') (Run limits steps leaks)) left left' o o' err err' result
+    Runs = Gives (AnswersProgram file opened core asked (nat_lt i i') (run_within limits core left steps leaks)) left left' o o' err err' result
 
     whole_run : (x : End) (told : List Leak) → run_specs.Whole core left steps limits [] x left' (Some put) → i' ≡ i → AreTold (run_within limits core left steps leaks).left x told → Reported x told → Runs
     whole_run x told w stays are said =
@@ -148,9 +148,9 @@ module _ (file : List ℕ) (opened : List Opened) (core : Core) (left put : List
 
   -- the evaluator's answers are among those that are allowed to `mean`
   abbrev Means : (steps heap : ℕ) → Type 0
-  Means steps heap = Gives (AnswersWay file opened core (input_of left i i') (Mean heap steps)) left left' o o' err err' result
+  Means steps heap = Gives (AnswersMeant file opened core asked (nat_lt i i') (meant core left steps heap)) left left' o o' err err' result
 
-  meaning : (steps heap : ℕ) → Gives (AnswersProgram file opened core (nat_lt i i') (meant core left steps heap)) left left' o o' err err' result → Means steps heap
+  meaning : (steps heap : ℕ) → Gives (AnswersProgram file opened core asked (nat_lt i i') (meant core left steps heap)) left left' o o' err err' result → Means steps heap
   meaning steps heap g =
       record { shown = g.shown; is = ⊎_elim (λ h. inl (inl h)) (λ h. inr h) g.is; rest = g.rest; is_left = g.is_left; is_read = g.is_read; out_took = g.out_took; err_took = g.err_took; status = g.status }
 
@@ -171,7 +171,7 @@ module _ (file : List ℕ) (opened : List Opened) (core : Core) (left put : List
   -- memory was wanted after a first part of the events
   pub gives_unfinished : (steps heap : ℕ) → Stopped (meant core left steps heap).events left [] left' (Some put) → Says err err' f f' no_memory.err 134 result → Means steps heap
   gives_unfinished steps heap s said =
-      gives (AnswersWay file opened core (input_of left i i') (Mean heap steps)) (unfinished s.before) left s.left left' o o' err err' f f' result
+      gives (AnswersMeant file opened core asked (nat_lt i i') (meant core left steps heap)) (unfinished s.before) left s.left left' o o' err err' f f' result
       (inl (inr (s.before, s.rest, s.is, refl))) s.is_left s.is_read (wrote (bytes_out s.before) s.is_taken) same said
 
 -- faults of a program's run
@@ -204,22 +204,22 @@ mean_counts end.InputFault i i' o o' h = h
 mean_counts end.OutputFault i i' o o' h = h
 
 -- what is said where the input or the output failed
-pub input_said : (leaks : Bool) (x : End) (file : List ℕ) (opened : List Opened) (core : Core) (i i' o o' f f' result : ℕ) (err err' : Option (List ℕ)) → RunCounts x i i' o o' → i < i' → (TellsNone leaks x → Says err err' f f' (told_report core file opened x) (status_of x) result) → Says err err' f f' input_fault.err 132 result
-input_said leaks (end.Exit code) file opened core i i' o o' f f' result err err' counts more said = absurd (omega (arith, counts.0, more))
-input_said leaks (end.Trap kind line) file opened core i i' o o' f f' result err err' counts more said = absurd (omega (arith, counts.0, more))
-input_said leaks (end.BadFree why holder) file opened core i i' o o' f f' result err err' counts more said = absurd (omega (arith, counts.0, more))
-input_said leaks (end.Escape func local line) file opened core i i' o o' f f' result err err' counts more said = absurd (omega (arith, counts.0, more))
-input_said leaks end.Spent file opened core i i' o o' f f' result err err' counts more said = absurd (omega (arith, counts.0, more))
-input_said leaks (end.OutOfStack line) file opened core i i' o o' f f' result err err' counts more said = absurd (omega (arith, counts.0, more))
-input_said leaks end.InputFault file opened core i i' o o' f f' result err err' counts more said = said (tells_none leaks end.InputFault tt)
-input_said leaks end.OutputFault file opened core i i' o o' f f' result err err' counts more said = absurd (omega (arith, counts.0, more))
+pub input_said : (leaks : Bool) (x : End) (file : List ℕ) (opened : List Opened) (core : Core) (asked : Option InForce) (i i' o o' f f' result : ℕ) (err err' : Option (List ℕ)) → RunCounts x i i' o o' → i < i' → (TellsNone leaks x → Says err err' f f' (told_end_of core file opened asked x) (status_of x) result) → Says err err' f f' input_fault.err 132 result
+input_said leaks (end.Exit code) file opened core asked i i' o o' f f' result err err' counts more said = absurd (omega (arith, counts.0, more))
+input_said leaks (end.Trap kind line) file opened core asked i i' o o' f f' result err err' counts more said = absurd (omega (arith, counts.0, more))
+input_said leaks (end.BadFree why holder) file opened core asked i i' o o' f f' result err err' counts more said = absurd (omega (arith, counts.0, more))
+input_said leaks (end.Escape func local line) file opened core asked i i' o o' f f' result err err' counts more said = absurd (omega (arith, counts.0, more))
+input_said leaks end.Spent file opened core asked i i' o o' f f' result err err' counts more said = absurd (omega (arith, counts.0, more))
+input_said leaks (end.OutOfStack line) file opened core asked i i' o o' f f' result err err' counts more said = absurd (omega (arith, counts.0, more))
+input_said leaks end.InputFault file opened core asked i i' o o' f f' result err err' counts more said = said (tells_none leaks end.InputFault tt)
+input_said leaks end.OutputFault file opened core asked i i' o o' f f' result err err' counts more said = absurd (omega (arith, counts.0, more))
 
-pub output_said : (leaks : Bool) (x : End) (file : List ℕ) (opened : List Opened) (core : Core) (i i' o o' f f' result : ℕ) (err err' : Option (List ℕ)) → RunCounts x i i' o o' → o < o' → (TellsNone leaks x → Says err err' f f' (told_report core file opened x) (status_of x) result) → Says err err' f f' output_fault.err 133 result
-output_said leaks (end.Exit code) file opened core i i' o o' f f' result err err' counts more said = absurd (omega (arith, counts.1, more))
-output_said leaks (end.Trap kind line) file opened core i i' o o' f f' result err err' counts more said = absurd (omega (arith, counts.1, more))
-output_said leaks (end.BadFree why holder) file opened core i i' o o' f f' result err err' counts more said = absurd (omega (arith, counts.1, more))
-output_said leaks (end.Escape func local line) file opened core i i' o o' f f' result err err' counts more said = absurd (omega (arith, counts.1, more))
-output_said leaks end.Spent file opened core i i' o o' f f' result err err' counts more said = absurd (omega (arith, counts.1, more))
-output_said leaks (end.OutOfStack line) file opened core i i' o o' f f' result err err' counts more said = absurd (omega (arith, counts.1, more))
-output_said leaks end.InputFault file opened core i i' o o' f f' result err err' counts more said = absurd (omega (arith, counts.1, more))
-output_said leaks end.OutputFault file opened core i i' o o' f f' result err err' counts more said = said (tells_none leaks end.OutputFault tt)
+pub output_said : (leaks : Bool) (x : End) (file : List ℕ) (opened : List Opened) (core : Core) (asked : Option InForce) (i i' o o' f f' result : ℕ) (err err' : Option (List ℕ)) → RunCounts x i i' o o' → o < o' → (TellsNone leaks x → Says err err' f f' (told_end_of core file opened asked x) (status_of x) result) → Says err err' f f' output_fault.err 133 result
+output_said leaks (end.Exit code) file opened core asked i i' o o' f f' result err err' counts more said = absurd (omega (arith, counts.1, more))
+output_said leaks (end.Trap kind line) file opened core asked i i' o o' f f' result err err' counts more said = absurd (omega (arith, counts.1, more))
+output_said leaks (end.BadFree why holder) file opened core asked i i' o o' f f' result err err' counts more said = absurd (omega (arith, counts.1, more))
+output_said leaks (end.Escape func local line) file opened core asked i i' o o' f f' result err err' counts more said = absurd (omega (arith, counts.1, more))
+output_said leaks end.Spent file opened core asked i i' o o' f f' result err err' counts more said = absurd (omega (arith, counts.1, more))
+output_said leaks (end.OutOfStack line) file opened core asked i i' o o' f f' result err err' counts more said = absurd (omega (arith, counts.1, more))
+output_said leaks end.InputFault file opened core asked i i' o o' f f' result err err' counts more said = absurd (omega (arith, counts.1, more))
+output_said leaks end.OutputFault file opened core asked i i' o o' f f' result err err' counts more said = said (tells_none leaks end.OutputFault tt)

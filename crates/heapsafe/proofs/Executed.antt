@@ -10,12 +10,13 @@ use Rattle.hs_base.specs.Cut.{ending_of}
 use Rattle.hs_base.specs.Trace.{Event, Out, In, New, Gone, Enter, Leave, Ending, bytes_in, bytes_out}
 use Rattle.c_pre.specs.declared.answer.Opened.{Opened}
 use Rattle.core_tree.specs.declared.program.Core.{Core}
+use Rattle.bad_free_report.specs.declared.explanation.InForce.{InForce}
 use Rattle.flat_code.specs.declared.program.Code.{Code}
 use Rattle.object_meaning.specs.code.CodeMeaning.{meaning}
 use Rattle.meaning_run.specs.Meant.{StopsAtIn, Stopped, end_in}
 use Rattle.flat_machine.specs.Running.{RunAnswers, RunCounts, Whole, cut_of}
 use Rattle.heapsafe.specs.Shown.{Shown}
-use Rattle.heapsafe.specs.Places.{told_leaks, told_report}
+use Rattle.heapsafe.specs.Places.{told_leaks, told_end_of}
 use Rattle.heapsafe.specs.Program.{AnswersProgram, AreTold, Done, Ended, TellsNone, status_of}
 use Rattle.heapsafe.specs.Saying.{Breaks, Gives, Says, SaysLeaks, TakesAll}
 use Rattle.heapsafe.proofs.Ended as ended
@@ -72,10 +73,10 @@ exit_whole (Some (Gone birth)) stopped status h = absurd (cc)
 exit_whole (Some (Enter cost line)) stopped status h = absurd (cc)
 exit_whole (Some Leave) stopped status h = absurd (cc)
 
-module _ (file : List ℕ) (opened : List Opened) (core : Core) (left put : List ℕ) (left' o o' err err' : Option (List ℕ)) (i i' p p' f f' result : ℕ) (took : TakesAll o o' put) where
+module _ (file : List ℕ) (opened : List Opened) (core : Core) (asked : Option InForce) (left put : List ℕ) (left' o o' err err' : Option (List ℕ)) (i i' p p' f f' result : ℕ) (took : TakesAll o o' put) where
   -- the report of an end was said, and nothing else
   abbrev Plain : End → Type 0
-  Plain x = Says err err' f f' (told_report core file opened x) (status_of x) result
+  Plain x = Says err err' f f' (told_end_of core file opened asked x) (status_of x) result
 
   -- what is told of a run: nothing behind its report, or behind an exit its leaks
   pub record Telling (objects : List Object) (leaks : Bool) (x : End) : Type 0 where
@@ -85,14 +86,14 @@ module _ (file : List ℕ) (opened : List Opened) (core : Core) (left put : List
   module _ (events : List Event) (ends : Option End) (objects : List Object) where
     module _ (same : f' ≡ f) where
       abbrev Gave : Bool → Type 0
-      Gave leaks = Gives (AnswersProgram file opened core (nat_lt i i') (done_of events ends objects leaks)) left left' o o' err err' result
+      Gave leaks = Gives (AnswersProgram file opened core asked (nat_lt i i') (done_of events ends objects leaks)) left left' o o' err err' result
 
-      whole : (leaks : Bool) (x : End) (told : List Leak) → MakesAll events ends left put left' x → i' ≡ i → AreTold (done_of events ends objects leaks).left x told → Says err err' f f' (told_report core file opened x ++ told_leaks opened told) (status_of x) result → Gave leaks
+      whole : (leaks : Bool) (x : End) (told : List Leak) → MakesAll events ends left put left' x → i' ≡ i → AreTold (done_of events ends objects leaks).left x told → Says err err' f f' (told_end_of core file opened asked x ++ told_leaks opened told) (status_of x) result → Gave leaks
       whole leaks x told w stays are said =
-          ended.whole file opened core left put left' o o' err err' i i' p p' f f' result took same (done_of events ends objects leaks) x told w.rest stays w.end are w.is_taken w.is_left w.is_read said
+          ended.whole file opened core asked left put left' o o' err err' i i' p p' f f' result took same (done_of events ends objects leaks) x told w.rest stays w.end are w.is_taken w.is_left w.is_read said
 
-      plain : (x : End) → Plain x → Says err err' f f' (told_report core file opened x ++ told_leaks opened []) (status_of x) result
-      plain x said = ended.plain file opened core left put left' o o' err err' i i' p p' f f' result took same x said
+      plain : (x : End) → Plain x → Says err err' f f' (told_end_of core file opened asked x ++ told_leaks opened []) (status_of x) result
+      plain x said = ended.plain file opened core asked left put left' o o' err err' i i' p p' f f' result took same x said
 
       exit : (leaks : Bool) (code : ℕ) → MakesAll events ends left put left' (end.Exit code) → i' ≡ i → Telling objects leaks (end.Exit code) → Gave leaks
       exit false code w stays t = whole false (end.Exit code) [] w stays refl (plain (end.Exit code) (t.none tt))
@@ -113,11 +114,11 @@ module _ (file : List ℕ) (opened : List Opened) (core : Core) (left put : List
       gives_done leaks end.Spent w counts stays t = other leaks end.Spent tt w counts.0 t
       gives_done leaks (end.OutOfStack line) w counts stays t = other leaks (end.OutOfStack line) tt w counts.0 t
       gives_done leaks end.InputFault s counts stays t =
-          ended.stopped file opened core left put left' o o' err err' i i' p p' f f' result took same (done_of events ends objects leaks) counts.0 s (t.none (tells_none leaks end.InputFault tt))
+          ended.stopped file opened core asked left put left' o o' err err' i i' p p' f f' result took same (done_of events ends objects leaks) counts.0 s (t.none (tells_none leaks end.InputFault tt))
       gives_done leaks end.OutputFault s counts stays t = absurd (omega (arith, counts.1, stays))
 
     -- a write failed
-    module _ (leaks : Bool) (a : Shown) (e : Ended file opened core (done_of events ends objects leaks) a) where
+    module _ (leaks : Bool) (a : Shown) (e : Ended file opened core asked (done_of events ends objects leaks) a) where
       abbrev Broke : Type 0
       Broke = Breaks None a left left' o o' err err' i i' p p' f f'
 
@@ -125,32 +126,32 @@ module _ (file : List ℕ) (opened : List Opened) (core : Core) (left put : List
       Steady = (i' ≡ i) × (p' ≡ p)
 
       same_how : (x : End) → ends ≡ Some x → x ≡ e.how
-      same_how x is = broken.same_end file opened core left put left' o o' err err' i i' p p' f f' result took x e.how (sym is ∙ e.ends)
+      same_how x is = broken.same_end file opened core asked left put left' o o' err err' i i' p p' f f' result took x e.how (sym is ∙ e.ends)
 
-      broke_whole : (x : End) → Steady → MakesAll events ends left put left' x → broken.Fronts err err' f f' (told_report core file opened e.how ++ told_leaks opened e.leaks) → Broke
+      broke_whole : (x : End) → Steady → MakesAll events ends left put left' x → broken.Fronts err err' f f' (told_end_of core file opened asked e.how ++ told_leaks opened e.leaks) → Broke
       broke_whole x counts w front =
-          broken.whole file opened core left put left' o o' err err' i i' p p' f f' result took (done_of events ends objects leaks) a w.rest e counts w.is_left w.is_read w.is_taken front
+          broken.whole file opened core asked left put left' o o' err err' i i' p p' f f' result took (done_of events ends objects leaks) a w.rest e counts w.is_left w.is_read w.is_taken front
 
       broke_plain : (x : End) → Steady → MakesAll events ends left put left' x → e.leaks ≡ [] → Plain x → Broke
       broke_plain x counts w none said =
-          broke_whole x counts w (broken.plain_told file opened core left put left' o o' err err' i i' p p' f f' result took x e.how e.leaks (same_how x w.end) none said)
+          broke_whole x counts w (broken.plain_told file opened core asked left put left' o o' err err' i i' p p' f f' result took x e.how e.leaks (same_how x w.end) none said)
 
       broke_other : (x : End) → IsNoExit x → Steady → MakesAll events ends left put left' x → Telling objects leaks x → Broke
       broke_other x unlike counts w t =
-          let none = broken.told_none file opened core left put left' o o' err err' i i' p p' f f' result took (done_of events ends objects leaks).left e.how e.leaks (subst IsNoExit (same_how x w.end) unlike) e.told in
+          let none = broken.told_none file opened core asked left put left' o o' err err' i i' p p' f f' result took (done_of events ends objects leaks).left e.how e.leaks (subst IsNoExit (same_how x w.end) unlike) e.told in
           broke_plain x counts w none (t.none (tells_none leaks x unlike))
 
-    broke_exit : (leaks : Bool) (a : Shown) (e : Ended file opened core (done_of events ends objects leaks) a) (code : ℕ) → (i' ≡ i) × (p' ≡ p) → MakesAll events ends left put left' (end.Exit code) → Telling objects leaks (end.Exit code) → Breaks None a left left' o o' err err' i i' p p' f f'
+    broke_exit : (leaks : Bool) (a : Shown) (e : Ended file opened core asked (done_of events ends objects leaks) a) (code : ℕ) → (i' ≡ i) × (p' ≡ p) → MakesAll events ends left put left' (end.Exit code) → Telling objects leaks (end.Exit code) → Breaks None a left left' o o' err err' i i' p p' f f'
     broke_exit false a e code counts w t = broke_plain false a e (end.Exit code) counts w e.told (t.none tt)
     broke_exit true a e code counts w t =
         let same = same_how true a e (end.Exit code) w.end in
         let said = t.some code refl refl in
         let told = subst (λ (y : End). AreTold (Some objects) y e.leaks) (sym same) e.told in
         broke_whole true a e (end.Exit code) counts w
-        (subst (λ (y : End). broken.Fronts err err' f f' (told_report core file opened y ++ told_leaks opened e.leaks)) same
+        (subst (λ (y : End). broken.Fronts err err' f f' (told_end_of core file opened asked y ++ told_leaks opened e.leaks)) same
         (broken.says_front err err' f f' code result (told_leaks opened e.leaks) (said.says e.leaks told)))
 
-    pub broken_done : (leaks : Bool) (a : Shown) (x : End) → Ended file opened core (done_of events ends objects leaks) a → RunCounts x i i' p p' → Makes events ends left put left' x → Telling objects leaks x → Breaks None a left left' o o' err err' i i' p p' f f'
+    pub broken_done : (leaks : Bool) (a : Shown) (x : End) → Ended file opened core asked (done_of events ends objects leaks) a → RunCounts x i i' p p' → Makes events ends left put left' x → Telling objects leaks x → Breaks None a left left' o o' err err' i i' p p' f f'
     broken_done leaks a (end.Exit code) e counts w t = broke_exit leaks a e code counts w t
     broken_done leaks a (end.Trap kind line) e counts w t = broke_other leaks a e (end.Trap kind line) tt counts w t
     broken_done leaks a (end.BadFree why holder) e counts w t = broke_other leaks a e (end.BadFree why holder) tt counts w t
@@ -158,7 +159,7 @@ module _ (file : List ℕ) (opened : List Opened) (core : Core) (left put : List
     broken_done leaks a end.Spent e counts w t = broke_other leaks a e end.Spent tt counts w t
     broken_done leaks a (end.OutOfStack line) e counts w t = broke_other leaks a e (end.OutOfStack line) tt counts w t
     broken_done leaks a end.InputFault e counts s t =
-        broken.starved file opened core left put left' o o' err err' i i' p p' f f' result took (done_of events ends objects leaks) a e counts s (t.none (tells_none leaks end.InputFault tt))
+        broken.starved file opened core asked left put left' o o' err err' i i' p p' f f' result took (done_of events ends objects leaks) a e counts s (t.none (tells_none leaks end.InputFault tt))
     broken_done leaks a end.OutputFault e counts s t =
-        broken.stopped file opened core left put left' o o' err err' i i' p p' f f' result took (done_of events ends objects leaks) a e (told_report core file opened end.OutputFault) s
-        (inr (inl (omega (arith, counts.1), refl))) (broken.plain_front file opened core left put left' o o' err err' i i' p p' f f' result took end.OutputFault (t.none (tells_none leaks end.OutputFault tt))) (omega (arith, counts.1))
+        broken.stopped file opened core asked left put left' o o' err err' i i' p p' f f' result took (done_of events ends objects leaks) a e (told_end_of core file opened asked end.OutputFault) s
+        (inr (inl (omega (arith, counts.1), refl))) (broken.plain_front file opened core asked left put left' o o' err err' i i' p p' f f' result took end.OutputFault (t.none (tells_none leaks end.OutputFault tt))) (omega (arith, counts.1))

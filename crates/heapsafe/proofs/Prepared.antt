@@ -55,17 +55,17 @@ module _ (text : List ℕ) (tokens : List Token) (lexed : HasTokens text tokens)
 
   -- the text answers what its checked core does
   typed_answers : (externals : Trees) → IsOnlyTree tokens externals → (wanted : Checked Program) → core_in externals ≡ wanted → (file : List ℕ) (input : Input) (heap stack steps : ℕ) (a : Shown) →
-      AnswersTypes file (alone file text) wanted input (way.Run (record { heap = heap; stack = stack }) steps false) a → AnswersText file text input (Run heap stack steps false) a
+      AnswersTypes file (alone file text) wanted input (way.Run (record { heap = heap; stack = stack }) steps false false) a → AnswersText file text input (Run heap stack steps false false) a
   typed_answers externals is wanted e file input heap stack steps a h =
-      tokens_is file text tokens input (Run heap stack steps false) a only
-      (tree_is (alone file text) tokens (λ (unit : Trees) b. Does file (alone file text) unit input (Run heap stack steps false) b) externals a is
-      (subst (λ (w : Checked Program). AnswersTypes file (alone file text) w input (way.Run (record { heap = heap; stack = stack }) steps false) a) (sym e) h))
+      tokens_is file text tokens input (Run heap stack steps false false) a only
+      (tree_is (alone file text) tokens (λ (unit : Trees) b. Does file (alone file text) unit input (Run heap stack steps false false) b) externals a is
+      (subst (λ (w : Checked Program). AnswersTypes file (alone file text) w input (way.Run (record { heap = heap; stack = stack }) steps false false) a) (sym e) h))
 
   -- and does what the text answers
   typed_answered : (externals : Trees) → HasTree tokens externals → (wanted : Checked Program) → core_in externals ≡ wanted → (file : List ℕ) (input : Input) (heap stack steps : ℕ) (a : Shown) →
-      AnswersText file text input (Run heap stack steps false) a → AnswersTypes file (alone file text) wanted input (way.Run (record { heap = heap; stack = stack }) steps false) a
+      AnswersText file text input (Run heap stack steps false false) a → AnswersTypes file (alone file text) wanted input (way.Run (record { heap = heap; stack = stack }) steps false false) a
   typed_answered externals has wanted e file input heap stack steps a h =
-      subst (λ (w : Checked Program). AnswersTypes file (alone file text) w input (way.Run (record { heap = heap; stack = stack }) steps false) a) e ((h.lexed tokens lexed).parsed externals has)
+      subst (λ (w : Checked Program). AnswersTypes file (alone file text) w input (way.Run (record { heap = heap; stack = stack }) steps false false) a) e ((h.lexed tokens lexed).parsed externals has)
 
   pub tokens_prepared : (p : Prepared) → IsPreparedTokens tokens p → IsPrepared text p
   tokens_prepared (Core core) (externals, is, e, sound) = (
@@ -81,8 +81,8 @@ module _ (text : List ℕ) (tokens : List Token) (lexed : HasTokens text tokens)
     none = λ core h. never_both tokens h.externals line (own_tree core h) wrong;
     answers = λ file input heap stack steps. (
       bad_syntax (alone file text) line,
-      tokens_is file text tokens input (Run heap stack steps false) (bad_syntax (alone file text) line) only
-          (wrong_is (alone file text) tokens (λ (unit : Trees) b. Does file (alone file text) unit input (Run heap stack steps false) b) line wrong),
+      tokens_is file text tokens input (Run heap stack steps false false) (bad_syntax (alone file text) line) only
+          (wrong_is (alone file text) tokens (λ (unit : Trees) b. Does file (alone file text) unit input (Run heap stack steps false false) b) line wrong),
       refl,
       sym is_status,
     );
@@ -105,7 +105,7 @@ bad_prepared text kind line bad only = record {
   none = λ core h. no_tokens text kind line h.tokens only h.lexed;
   answers = λ file input heap stack steps. (
     bad_place kind (record { name = file; line = line; text = text }),
-    bad_place_is kind line file text input (Run heap stack steps false) only,
+    bad_place_is kind line file text input (Run heap stack steps false false) only,
     refl,
     refl,
   );

@@ -2,11 +2,12 @@
 use Rattle.std.proofs.Common.{◌≡◌, ◌⊎◌, ◌<◌, ◌≤◌, ◌∙◌, ℕ, List, [], Option, Err, inl, inr, refl, sym, subst, arith, ⊎_elim}
 use Rattle.hs_base.specs.declared.ends.End.{End}
 use Rattle.hs_base.specs.declared.ends.End.TheVariants as end
-use Rattle.heapsafe.specs.Places.{told_report}
+use Rattle.heapsafe.specs.Places.{told_end_of}
 use Rattle.c_decls.specs.declared.refusal.TypeError.{TypeError}
 use Rattle.c_decls.specs.declared.refusal.TypeError.TheVariants as type
 use Rattle.c_pre.specs.declared.answer.Opened.{Opened}
 use Rattle.core_tree.specs.declared.program.Core.{Core}
+use Rattle.bad_free_report.specs.declared.explanation.InForce.{InForce}
 use Rattle.hs_base.specs.declared.reading.ReadError.{ReadError}
 use Rattle.hs_base.specs.declared.reading.ReadError.TheVariants.{Fault, TooLong, NoMemory}
 use Rattle.hs_base.specs.ReadAll.{ReadCounts}
@@ -172,9 +173,9 @@ module _ (e e' : Option (List ℕ)) (f f' result : ℕ) where
   SaysOwn x = (code : ℕ) → x ≡ end.Exit code → f' ≡ f → TakesLeaks e e'
 
   -- so it is where its report was said, which is empty
-  pub own_of : (file : List ℕ) (opened : List Opened) (core : Core) (x : End) → Says e e' f f' (told_report core file opened x) (status_of x) result → SaysOwn x
-  own_of file opened core x said = λ code exits same.
-      let plain = subst (λ (y : End). Says e e' f f' (told_report core file opened y) (status_of y) result) exits said in
+  pub own_of : (file : List ℕ) (opened : List Opened) (core : Core) (asked : Option InForce) (x : End) → Says e e' f f' (told_end_of core file opened asked x) (status_of x) result → SaysOwn x
+  own_of file opened core asked x said = λ code exits same.
+      let plain = subst (λ (y : End). Says e e' f f' (told_end_of core file opened asked y) (status_of y) result) exits said in
       ⊎_elim (λ h. ([], h.2)) (λ h. absurd (omega (arith, h.0, same))) plain
 
   -- the status of want of memory is that of an exit

@@ -29,9 +29,10 @@ AnswersTypes file opened (Err refusal) input way a = a ≡ bad_type opened refus
 
 -- what is answered for a text with this tree
 abbrev pub Does : List ℕ → List Opened → Trees → Input → Task → Shown → Type 0
-Does file opened externals input (Run heap stack steps leaks) a =
-    AnswersTypes file opened (core_in externals) input (way.Run (record { heap = heap; stack = stack }) steps leaks) a
-Does file opened externals input (Mean heap steps) a = AnswersTypes file opened (core_in externals) input (way.Mean heap steps) a
+Does file opened externals input (Run heap stack steps leaks explain) a =
+    AnswersTypes file opened (core_in externals) input (way.Run (record { heap = heap; stack = stack }) steps leaks explain) a
+Does file opened externals input (Mean heap steps explain) a =
+    AnswersTypes file opened (core_in externals) input (way.Mean heap steps explain) a
 Does file opened externals input Print a = a ≡ printed externals
 Does file opened externals input Layout a = a ≡ layouts_shown opened (tags_of externals)
 Does file opened externals input ListCore a = a ≡ core_shown opened (core_in externals)
@@ -79,7 +80,7 @@ no_input = record { bytes = []; fails = false }
 -- how the text with so many functions, which has no directive to obey, is run by `self`: what `run` answers for it without input,
 -- with the heap, the stack and the steps that it has where no option is given, and how many steps it makes
 pub record RunsGenerated (number : ℕ) (run : Shown) (made : ℕ) : Type 0 where
-  pub is_run : AnswersText [] (generated number) no_input (Run 16777216 1048576 100000000 false) run
+  pub is_run : AnswersText [] (generated number) no_input (Run 16777216 1048576 100000000 false false) run
   pub makes : RunMakes (generated number) (record { heap = 16777216; stack = 1048576 }) 100000000 made
 
 -- `self` writes the line of that run
@@ -92,8 +93,8 @@ pub record AnswersGenerated (number : ℕ) (a : Shown) : Type 0 where
 abbrev pub AnswersCommand : Option Command → (List ℕ → List ℕ) → Input → Shown → Type 0
 AnswersCommand None texts input a = a ≡ usage
 AnswersCommand (Some (OnFiles files task)) texts input a = AnswersFiles files texts input task a
-AnswersCommand (Some (Execute file heap stack steps leaks)) texts input a =
-    AnswersExecution file (texts file) input (record { limits = record { heap = heap; stack = stack }; steps = steps; leaks = leaks }) a
+AnswersCommand (Some (Execute file heap stack steps leaks explain)) texts input a =
+    AnswersExecution file (texts file) input (record { limits = record { heap = heap; stack = stack }; steps = steps; leaks = leaks; explain = explain }) a
 AnswersCommand (Some (Generated number)) texts input a = AnswersGenerated number a
 
 -- the answer for these words, where each name has this text and the input is this one
@@ -102,19 +103,19 @@ Answers words texts input a = AnswersCommand (command_of words) texts input a
 
 -- a task that runs no program
 abbrev pub RunsNone : Task → Type 0
-RunsNone (Run heap stack steps leaks) = ⊥
-RunsNone (Mean heap steps) = ⊥
+RunsNone (Run heap stack steps leaks explain) = ⊥
+RunsNone (Mean heap steps explain) = ⊥
 RunsNone _ = ⊤
 
 -- a task that evaluates no program
 abbrev pub MeansNone : Task → Type 0
-MeansNone (Mean heap steps) = ⊥
+MeansNone (Mean heap steps explain) = ⊥
 MeansNone _ = ⊤
 
 -- words that ask for no program of a file
 abbrev pub AsksNone : Option Command → Type 0
 AsksNone (Some (OnFiles files task)) = RunsNone task
-AsksNone (Some (Execute file heap stack steps leaks)) = ⊥
+AsksNone (Some (Execute file heap stack steps leaks explain)) = ⊥
 AsksNone _ = ⊤
 
 -- words that ask for no evaluation
@@ -125,13 +126,13 @@ AsksNoMeaning _ = ⊤
 -- the files that words name
 abbrev pub files_asked : Option Command → List (List ℕ)
 files_asked (Some (OnFiles files task)) = files
-files_asked (Some (Execute file heap stack steps leaks)) = file ∷ []
+files_asked (Some (Execute file heap stack steps leaks explain)) = file ∷ []
 files_asked _ = []
 
 -- words that name no file
 abbrev pub AsksNoFile : Option Command → Type 0
 AsksNoFile (Some (OnFiles files task)) = ⊥
-AsksNoFile (Some (Execute file heap stack steps leaks)) = ⊥
+AsksNoFile (Some (Execute file heap stack steps leaks explain)) = ⊥
 AsksNoFile _ = ⊤
 
 -- a task that has one answer for each text and input; those of `compile` differ in the numbers of layouts

@@ -13,7 +13,7 @@ use Rattle.code_file.specs.CodeFile.{HasBytes}
 use Rattle.compiled_file.specs.CompiledFile.{IsFileOfCore}
 use Rattle.meaning_run.specs.Meant.{end_in}
 use Rattle.heapsafe.specs.declared.executing.Asked.{Asked}
-use Rattle.heapsafe.specs.Program.{AnswersProgram, Done, Input}
+use Rattle.heapsafe.specs.Program.{AnswersProgram, Done, Input, explains_run}
 use Rattle.heapsafe.specs.Shown.{Shown, bad_code, bad_type, text_too_long, unverified, written}
 
 -- the most bytes that a code file may have
@@ -53,7 +53,7 @@ IsWithin asked = (asked.limits.heap ≤ 268435456) × (asked.limits.stack ≤ 67
 -- code that is well formed is run, and what is said of it has the names of its file
 abbrev pub AnswersCode : List ℕ → CodeFile → Input → Asked → Shown → Type 0
 AnswersCode name file input asked a =
-    AnswersProgram name (code_text name) file.names input.fails (code_within asked.limits file.code input.bytes asked.steps asked.leaks) a
+    AnswersProgram name (code_text name) file.names (explains_run asked.explain asked.steps asked.limits) input.fails (code_within asked.limits file.code input.bytes asked.steps asked.leaks) a
 
 -- other code is not
 pub record AnswersVerified (name : List ℕ) (file : CodeFile) (input : Input) (asked : Asked) (a : Shown) : Type 0 where

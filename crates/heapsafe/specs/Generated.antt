@@ -40,19 +40,19 @@ pub record HasOnly (text : List ℕ) (core : Program) : Type 0 where
   pub has : HasCore text core
   pub only : (other : Program) → HasCore text other → other ≡ core
   pub answers : (file : List ℕ) (input : Input) (heap stack steps : ℕ) (a : Shown) →
-      AnswersWay file (alone file text) core input (way.Run (record { heap = heap; stack = stack }) steps false) a →
-      AnswersText file text input (Run heap stack steps false) a
+      AnswersWay file (alone file text) core input (way.Run (record { heap = heap; stack = stack }) steps false false) a →
+      AnswersText file text input (Run heap stack steps false false) a
   pub answered : (file : List ℕ) (input : Input) (heap stack steps : ℕ) (a : Shown) →
-      AnswersText file text input (Run heap stack steps false) a →
-      AnswersWay file (alone file text) core input (way.Run (record { heap = heap; stack = stack }) steps false) a
+      AnswersText file text input (Run heap stack steps false false) a →
+      AnswersWay file (alone file text) core input (way.Run (record { heap = heap; stack = stack }) steps false false) a
 
 -- a text has no core, and is refused with this status before it writes a byte
 pub record IsWithout (text : List ℕ) (status : ℕ) : Type 0 where
   pub none : (core : Program) → HasCore text core → ⊥
   pub answers : (file : List ℕ) (input : Input) (heap stack steps : ℕ) →
-      (a : Shown) × AnswersText file text input (Run heap stack steps false) a × (a.out ≡ []) × (a.status ≡ status)
+      (a : Shown) × AnswersText file text input (Run heap stack steps false false) a × (a.out ≡ []) × (a.status ≡ status)
   pub only : (file : List ℕ) (input : Input) (heap stack steps : ℕ) (a : Shown) →
-      AnswersText file text input (Run heap stack steps false) a → (a.out ≡ []) × (a.status ≡ status)
+      AnswersText file text input (Run heap stack steps false false) a → (a.out ≡ []) × (a.status ≡ status)
 
 abbrev pub IsPrepared : List ℕ → Prepared → Type 0
 IsPrepared text (Core core) = HasOnly text core × IsSound core

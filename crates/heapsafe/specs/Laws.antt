@@ -20,4 +20,4 @@ abbrev pub ExecutionsAreRuns : Type 0
 ExecutionsAreRuns =
     (core : Core) (bytes : List ℕ) → IsSound core → IsCompiledTo core bytes → length bytes ≤ most_bytes →
     (name file : List ℕ) (opened : List Opened) (input : List ℕ) (asked : Asked) (executed run : Shown) →
-    AnswersExecution name bytes (steady input) asked executed → AnswersWay file opened core (steady input) (Run asked.limits asked.steps asked.leaks) run → AreAlike executed run
+    AnswersExecution name bytes (steady input) asked executed → AnswersWay file opened core (steady input) (Run asked.limits asked.steps asked.leaks asked.explain) run → AreAlike executed run

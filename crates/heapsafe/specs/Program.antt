@@ -8,6 +8,7 @@ use Rattle.hs_base.specs.Object.{Object}
 use Rattle.hs_base.specs.Trace.{Event, In, bytes_in, bytes_out}
 use Rattle.hs_base.specs.Cut.{cut, ending_of}
 use Rattle.bad_free_report.specs.Report.{complaint}
+use Rattle.bad_free_report.specs.declared.explanation.InForce.{InForce}
 use Rattle.core_tree.specs.declared.program.Core.{Core}
 use Rattle.object_meaning.specs.objects.Meaning.{meaning}
 use Rattle.meaning_run.specs.Meant.{end_in}
@@ -15,7 +16,7 @@ use Rattle.flat_codegen.specs.Lasting.{cut_run}
 use Rattle.heapsafe.specs.declared.program.Way.{Way}
 use Rattle.heapsafe.specs.declared.program.Way.TheVariants.{Run, Mean}
 use Rattle.heapsafe.specs.Leaks.{AreLeaks}
-use Rattle.heapsafe.specs.Places.{told_leaks, told_report}
+use Rattle.heapsafe.specs.Places.{told_end_of, told_leaks}
 use Rattle.c_pre.specs.declared.answer.Opened.{Opened}
 use Rattle.heapsafe.specs.Shown.{Shown}
 
@@ -75,10 +76,17 @@ abbrev pub TellsNone : Bool → End → Type 0
 TellsNone true (end.Exit code) = ⊥
 TellsNone leaks e = Unit {0}
 
--- the bytes that events read and write, with the report, the leaks and the status of an end
-abbrev pub ended : List ℕ → List Opened → Core → List Event → End → List Leak → Shown
-ended file opened core events e leaks =
-    record { read = bytes_in events; out = bytes_out events; err = told_report core file opened e ++ told_leaks opened leaks; status = status_of e }
+-- the limits by which an end is explained, where that is asked for; the evaluator has no limit of stack, and no run of it ends by one
+abbrev pub explains_run : Bool → ℕ → Limits → Option InForce
+explains_run explain steps limits = cond explain (Some (record { steps = steps; stack = limits.stack })) None
+
+abbrev pub explains_mean : Bool → ℕ → Option InForce
+explains_mean explain steps = cond explain (Some (record { steps = steps; stack = 0 })) None
+
+-- the bytes that events read and write, with the report, its explanation, the leaks and the status of an end
+abbrev pub ended : List ℕ → List Opened → Core → Option InForce → List Event → End → List Leak → Shown
+ended file opened core asked events e leaks =
+    record { read = bytes_in events; out = bytes_out events; err = told_end_of core file opened asked e ++ told_leaks opened leaks; status = status_of e }
 
 -- the same for want of memory
 abbrev pub unfinished : List Event → Shown
@@ -86,40 +94,44 @@ unfinished events =
     record { read = bytes_in events; out = bytes_out events; err = complaint (codes "heapsafe") (codes "no memory"); status = 134 }
 
 -- a program made all of its events and ended
-pub record Ended (file : List ℕ) (opened : List Opened) (core : Core) (done : Done) (a : Shown) : Type 0 where
+pub record Ended (file : List ℕ) (opened : List Opened) (core : Core) (asked : Option InForce) (done : Done) (a : Shown) : Type 0 where
   pub how : End
   pub leaks : List Leak
   pub ends : done.ends ≡ Some how
   pub told : AreTold done.left how leaks
-  pub is : a ≡ ended file opened core done.events how leaks
+  pub is : a ≡ ended file opened core asked done.events how leaks
 
 -- a program made its events before one that reads, and stopped there since the input failed
-pub record Starved (file : List ℕ) (opened : List Opened) (core : Core) (done : Done) (a : Shown) : Type 0 where
+pub record Starved (file : List ℕ) (opened : List Opened) (core : Core) (asked : Option InForce) (done : Done) (a : Shown) : Type 0 where
   pub before : List Event
   pub byte : Option ℕ
   pub rest : List Event
   pub stops : done.events ≡ before ++ In byte ∷ rest
-  pub is : a ≡ ended file opened core before end.InputFault []
+  pub is : a ≡ ended file opened core asked before end.InputFault []
 
 -- which of the two it is goes by whether the input fails
-abbrev pub AnswersProgram : List ℕ → List Opened → Core → Bool → Done → Shown → Type 0
-AnswersProgram file opened core fails done a =
-    MatchBool fails (Starved file opened core done a) (Ended file opened core done a)
+abbrev pub AnswersProgram : List ℕ → List Opened → Core → Option InForce → Bool → Done → Shown → Type 0
+AnswersProgram file opened core asked fails done a =
+    MatchBool fails (Starved file opened core asked done a) (Ended file opened core asked done a)
+
+-- all of what a program does, or want of memory after a first part
+abbrev pub AnswersMeant : List ℕ → List Opened → Core → Option InForce → Bool → Done → Shown → Type 0
+AnswersMeant file opened core asked fails done a =
+    AnswersProgram file opened core asked fails done a ⊎ ((before : List Event) × (rest : List Event) × (done.events ≡ before ++ rest) × (a ≡ unfinished before))
 
 -- `run` does what the meaning does while the stack has room; `mean` does all of it, or wants memory after a first part
 abbrev pub AnswersWay : List ℕ → List Opened → Core → Input → Way → Shown → Type 0
-AnswersWay file opened core input (Run limits steps leaks) a =
-    AnswersProgram file opened core input.fails (run_within limits core input.bytes steps leaks) a
-AnswersWay file opened core input (Mean heap steps) a =
-    let done = meant core input.bytes steps heap in
-    AnswersProgram file opened core input.fails done a ⊎ ((before : List Event) × (rest : List Event) × (done.events ≡ before ++ rest) × (a ≡ unfinished before))
+AnswersWay file opened core input (Run limits steps leaks explain) a =
+    AnswersProgram file opened core (explains_run explain steps limits) input.fails (run_within limits core input.bytes steps leaks) a
+AnswersWay file opened core input (Mean heap steps explain) a =
+    AnswersMeant file opened core (explains_mean explain steps) input.fails (meant core input.bytes steps heap) a
 
 -- a program is run on a machine
 abbrev pub OnMachine : Way → Type 0
-OnMachine (Run limits steps leaks) = Unit {0}
-OnMachine (Mean heap steps) = ⊥
+OnMachine (Run limits steps leaks explain) = Unit {0}
+OnMachine (Mean heap steps explain) = ⊥
 
 -- heap, stack and steps are within the bounds that the machine and the evaluator take
 abbrev pub IsBounded : Way → Type 0
-IsBounded (Run limits steps leaks) = (limits.heap ≤ 268435456) × (limits.stack ≤ 67108864) × (steps ≤ 1000000000)
-IsBounded (Mean heap steps) = steps ≤ 1000000000
+IsBounded (Run limits steps leaks explain) = (limits.heap ≤ 268435456) × (limits.stack ≤ 67108864) × (steps ≤ 1000000000)
+IsBounded (Mean heap steps explain) = steps ≤ 1000000000

@@ -154,7 +154,7 @@ Faults t t' i i' o o' e e' result =
 -- the files of the words, where a text failed
 abbrev pub unread_files : Option Command → ℕ → ℕ → Option (List (List ℕ))
 unread_files (Some (OnFiles files task)) t t' = cond (nat_lt t t') (Some files) None
-unread_files (Some (Execute file heap stack steps leaks)) t t' = cond (nat_lt t t') (Some (file ∷ [])) None
+unread_files (Some (Execute file heap stack steps leaks explain)) t t' = cond (nat_lt t t') (Some (file ∷ [])) None
 unread_files asked t t' = None
 
 -- a text is one of these files, or one that an include can name

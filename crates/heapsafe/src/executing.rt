@@ -10,7 +10,7 @@ ghost use Rattle.heapsafe.specs.Program.{input_of, steady};
 ghost use Rattle.heapsafe.specs.Saying.{Breaks, Faults, Gives, HasCause, Refuses, Says, SaysMore, SaysUnread, Wants, WriteFails, shown_of, unread, unread_files};
 ghost use Rattle.heapsafe.specs.Shown.{Shown, input_fault, output_fault};
 
-use crate::program::finish_run;
+use crate::program::{explains_run, finish_run};
 use crate::refusal::{Refusal, refuse};
 use crate::running::run_file;
 use c_pre::Opened;
@@ -22,12 +22,14 @@ use std::alloc::Global;
 /// How many bytes a code file may have.
 const MOST_BYTES: u32 = 134_217_728;
 
-/// How code is run: within these limits, with so many steps, and perhaps with a line for each leak behind an exit.
+/// How code is run: within these limits, with so many steps, and perhaps with a line for each leak behind an exit, or with lines
+/// that explain another end.
 #[derive(Clone, Copy)]
 pub(crate) struct Asked {
     pub(crate) limits: Limits,
     pub(crate) steps: u64,
     pub(crate) leaks: bool,
+    pub(crate) explain: bool,
 }
 
 /// The refusal for a file that was not read.
@@ -103,7 +105,17 @@ fn run_verified<I: Source, O: Sink, E: Sink>(
     whole_runs_are_whole();
     match run_file(alloc, &code.code, asked.limits, asked.steps, input, out) {
         Ok((end, machine)) => {
-            finish_run(&end, &machine, asked.leaks, &code.names, file, opened, err)
+            let explains = explains_run(asked.explain, asked.steps, asked.limits);
+            finish_run(
+                &end,
+                &machine,
+                asked.leaks,
+                &code.names,
+                file,
+                opened,
+                explains,
+                err,
+            )
         }
         Err(_) => refuse(err, Refusal::NoMemory),
     }
@@ -249,7 +261,8 @@ pub(crate) fn execute_file<T: Texts, I: Source, O: Sink, E: Sink>(
         AnswersExecution file.now (told file.now) (steady left) asked a → SaysMore a →
         Breaks
         (unread_files
-        (Some (Execute file.now asked.limits.heap asked.limits.stack asked.steps asked.leaks))
+        (Some (Execute file.now asked.limits.heap asked.limits.stack asked.steps asked.leaks
+        asked.explain))
         (T.faults texts.old) (T.faults texts.new)) a left (I.left input.new) (O.taken out.old)
         (O.taken out.new) (E.taken err.old) (E.taken err.new) (I.faults input.old)
         (I.faults input.new) (O.faults out.old) (O.faults out.new) (E.faults err.old)

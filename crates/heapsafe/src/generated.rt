@@ -105,7 +105,7 @@ fn run_core(alloc: Global, core: &Core, limits: Limits, steps: u64) -> Result<Ra
     requires stack { limits.stack ≤ 67108864 }
     requires steps { steps ≤ 1000000000 }
     ensures answers { IfOk result (λ ran. (text : List ℕ) →
-        Went (AnswersWay [] (alone [] text) core.now no_input (way.Run limits steps false)) ran) }
+        Went (AnswersWay [] (alone [] text) core.now no_input (way.Run limits steps false false)) ran) }
     ensures made { IfOk result (λ ran. ran.steps ≡ steps_of core.now limits steps) }
 {
     let mut input = SureSource::new(Items::new(alloc));
@@ -130,7 +130,7 @@ fn run_text(alloc: Global, text: &[u8], limits: Limits, steps: u64) -> Result<Ra
     requires stack { limits.stack ≤ 67108864 }
     requires steps { steps ≤ 1000000000 }
     ensures answers { IfOk result
-        (Went (AnswersText [] text.now no_input (Run limits.heap limits.stack steps false))) }
+        (Went (AnswersText [] text.now no_input (Run limits.heap limits.stack steps false false))) }
     ensures makes { IfOk result (λ ran. MakesOnly text.now limits steps ran.steps) }
 {
     match prepare(alloc, text)? {

@@ -94,17 +94,27 @@ fn with_tree<I: Source, O: Sink, E: Sink>(
             stack,
             steps,
             leaks,
+            explain,
         } => {
             let limits = Limits { heap, stack };
             let way = Way::Run {
                 limits,
                 steps,
                 leaks,
+                explain,
             };
             run_program(alloc, file, opened, unit, way, input, out, err)
         }
-        Task::Mean { heap, steps } => {
-            let way = Way::Mean { heap, steps };
+        Task::Mean {
+            heap,
+            steps,
+            explain,
+        } => {
+            let way = Way::Mean {
+                heap,
+                steps,
+                explain,
+            };
             run_program(alloc, file, opened, unit, way, input, out, err)
         }
         Task::Print => print(alloc, unit, out, err),
@@ -208,6 +218,9 @@ fn with_files<T: Texts, I: Source, O: Sink, E: Sink>(
 /// `compile` writes the code file of a program's core, and `exec` does for such a file what the meaning of its code says; code that is
 /// not well formed it does not run.
 ///
+/// Where it is asked for, lines behind the report of an end say what to mend and which limit was in force. Without that, every byte
+/// is that of the report.
+///
 /// Where texts and input are told and neither texts nor streams failed, what is read and answered, and what each stream took that
 /// tells of it, is by `Answers`, or nothing but the line of want of memory. Where a write to a stream failed, the input lost a
 /// front of what the answer reads, the output took a front of what it writes, and nothing more was written to a stream that
@@ -287,12 +300,14 @@ pub fn heapsafe<T: Texts, I: Source, O: Sink, E: Sink>(
                 stack,
                 steps,
                 leaks,
+                explain,
             },
         ) => {
             let asked = Asked {
                 limits: Limits { heap, stack },
                 steps,
                 leaks,
+                explain,
             };
             execute_file(alloc, file, asked, texts, input, out, err)
         }

@@ -12,8 +12,8 @@ ghost use Rattle.hs_base.specs.Outside.{CountsFaults};
 ghost use Rattle.hs_base.specs.PutAll.{PutsAll};
 ghost use Rattle.hs_base.specs.declared.ends.End.TheVariants.{Exit};
 ghost use Rattle.heapsafe.specs.Shown.{Shown, input_fault, output_fault};
-ghost use Rattle.heapsafe.specs.Places.{told_report};
-ghost use Rattle.heapsafe.specs.Program.{AnswersWay, IsBounded, OnMachine, TellsNone, input_of, status_of, steady};
+ghost use Rattle.heapsafe.specs.Places.{told_end_of, told_report};
+ghost use Rattle.heapsafe.specs.Program.{AnswersWay, IsBounded, OnMachine, TellsNone, explains_mean, explains_run, input_of, status_of, steady};
 ghost use Rattle.heapsafe.specs.Answer.{AnswersTypes};
 ghost use Rattle.heapsafe.specs.Saying.{Breaks, Faults, Gives, HasCause, Refuses, Says, SaysCounts, SaysLeaks, SaysMore, TakesLeaks, Wants, WriteFails};
 
@@ -21,7 +21,7 @@ use crate::leaks::write_leaks;
 use crate::places::{line_of_end, text_of, told_end};
 use crate::refusal::{OUTPUT_FAULT, Refusal, refuse, refuse_types};
 use crate::running::{evaluate, run_code};
-use bad_free_report::report;
+use bad_free_report::{InForce, explain, report};
 use c_elab::elab;
 use c_pre::Opened;
 use c_tree::Unit;
@@ -33,17 +33,46 @@ use std::alloc::Global;
 /// How a program is run, and with how many steps.
 #[derive(Clone, Copy)]
 pub(crate) enum Way {
-    /// On a machine, within these limits, and perhaps with a line for each leak behind an exit.
+    /// On a machine, within these limits, and perhaps with a line for each leak behind an exit, or with lines that explain
+    /// another end.
     Run {
         limits: Limits,
         steps: u64,
         leaks: bool,
+        explain: bool,
     },
-    /// By the evaluator of the meaning, in a heap of so many bytes; it knows no limit of stack.
+    /// By the evaluator of the meaning, in a heap of so many bytes, and perhaps with lines that explain its end; it knows no
+    /// limit of stack.
     Mean {
         heap: u32,
         steps: u64,
+        explain: bool,
     },
+}
+
+/// The limits by which the end of a run is explained, where that is asked for.
+pub(crate) fn explains_run(explain: bool, steps: u64, limits: Limits) -> Option<InForce>
+    ensures { result ≡ explains_run explain steps limits }
+{
+    if explain {
+        Some(InForce {
+            steps,
+            stack: limits.stack,
+        })
+    } else {
+        None
+    }
+}
+
+/// The same for the evaluator, which has no limit of stack.
+fn explains_mean(explain: bool, steps: u64) -> Option<InForce>
+    ensures { result ≡ explains_mean explain steps }
+{
+    if explain {
+        Some(InForce { steps, stack: 0 })
+    } else {
+        None
+    }
 }
 
 /// The status of a program's end.
@@ -85,13 +114,38 @@ fn put_report<E: Sink>(
     }
 }
 
+/// Writes how a program ended, and the lines that explain it, where they are asked for.
+fn put_end<E: Sink>(
+    end: &End,
+    core: &Core,
+    file: &str,
+    opened: &[Opened],
+    explains: Option<InForce>,
+    err: &mut E,
+) -> Result<(), Failed>
+    requires { E.faults err.old + 1 < 2 ^ 64 }
+    ensures bytes { PutsAll (E.taken err.old) (E.taken err.new)
+        (told_end_of core.now file.now opened.now explains end.now) result }
+    ensures cause { CountsFaults (E.faults err.old) (E.faults err.new) result }
+{
+    put_report(end, core, file, opened, err)?;
+    explain(end, explains, err)
+}
+
 /// Reports how a program ended, and answers its status or that of a failed write.
-fn finish<E: Sink>(end: &End, core: &Core, file: &str, opened: &[Opened], err: &mut E) -> u8
+fn finish<E: Sink>(
+    end: &End,
+    core: &Core,
+    file: &str,
+    opened: &[Opened],
+    explains: Option<InForce>,
+    err: &mut E,
+) -> u8
     requires { E.faults err.old + 1 < 2 ^ 64 }
     ensures says { Says (E.taken err.old) (E.taken err.new) (E.faults err.old) (E.faults err.new)
-        (told_report core.now file.now opened.now end.now) (status_of end.now) result }
+        (told_end_of core.now file.now opened.now explains end.now) (status_of end.now) result }
 {
-    match put_report(end, core, file, opened, err) {
+    match put_end(end, core, file, opened, explains, err) {
         Ok(()) => status_of(end),
         Err(_) => OUTPUT_FAULT,
     }
@@ -136,13 +190,14 @@ pub(crate) fn finish_run<E: Sink>(
     core: &Core,
     file: &str,
     opened: &[Opened],
+    explains: Option<InForce>,
     err: &mut E,
 ) -> u8
     requires kept { KeepsSome machine.now.kept.memory }
     requires err { E.faults err.old + 1 < 2 ^ 64 }
     ensures says { TellsNone leaks end.now → Says (E.taken err.old) (E.taken err.new)
-        (E.faults err.old) (E.faults err.new) (told_report core.now file.now opened.now end.now)
-        (status_of end.now) result }
+        (E.faults err.old) (E.faults err.new)
+        (told_end_of core.now file.now opened.now explains end.now) (status_of end.now) result }
     ensures leaks { (code : ℕ) → IsTrue leaks → end.now ≡ Exit code →
         (places : ℕ → ℕ) (objects : List Object) → Keeps machine.now.kept.memory places objects →
         SaysLeaks opened.now objects (E.taken err.old) (E.taken err.new) (E.faults err.old)
@@ -153,7 +208,7 @@ pub(crate) fn finish_run<E: Sink>(
 {
     match end {
         End::Exit(code) => finish_exit(*code, machine, leaks, opened, err),
-        _ => finish(end, core, file, opened, err),
+        _ => finish(end, core, file, opened, explains, err),
     }
 }
 
@@ -166,6 +221,7 @@ fn run_core<I: Source, O: Sink, E: Sink>(
     limits: Limits,
     steps: u64,
     leaks: bool,
+    explain: bool,
     input: &mut I,
     out: &mut O,
     err: &mut E,
@@ -180,7 +236,8 @@ fn run_core<I: Source, O: Sink, E: Sink>(
     ensures exact { (left : List ℕ) → I.left input.old ≡ Some left →
         O.faults out.new ≡ O.faults out.old → E.faults err.new ≡ E.faults err.old →
         Gives (AnswersWay file.now opened.now core.now
-        (input_of left (I.faults input.old) (I.faults input.new)) (Way.Run limits steps leaks)) left
+        (input_of left (I.faults input.old) (I.faults input.new)) (Way.Run limits steps leaks explain))
+        left
         (I.left input.new) (O.taken out.old) (O.taken out.new) (E.taken err.old) (E.taken err.new)
         result }
     ensures faults { (t : ℕ) → Faults t t (I.faults input.old) (I.faults input.new)
@@ -193,8 +250,8 @@ fn run_core<I: Source, O: Sink, E: Sink>(
         output_fault.err 133 result }
     ensures broken { (left : List ℕ) → I.left input.old ≡ Some left → WriteFails (O.faults out.old)
         (O.faults out.new) (E.faults err.old) (E.faults err.new) → (a : Shown) →
-        AnswersWay file.now opened.now core.now (steady left) (Way.Run limits steps leaks) a →
-        SaysMore a → Breaks None a left (I.left input.new) (O.taken out.old) (O.taken out.new)
+        AnswersWay file.now opened.now core.now (steady left) (Way.Run limits steps leaks explain)
+        a → SaysMore a → Breaks None a left (I.left input.new) (O.taken out.old) (O.taken out.new)
         (E.taken err.old) (E.taken err.new) (I.faults input.old) (I.faults input.new)
         (O.faults out.old) (O.faults out.new) (E.faults err.old) (E.faults err.new) }
     ensures memory { Wants ((input.new ≡ input.old) × (out.new ≡ out.old)) (⊤) (E.taken err.old)
@@ -206,7 +263,10 @@ fn run_core<I: Source, O: Sink, E: Sink>(
         (E.taken err.new) result }
 {
     match run_code(alloc, core, limits, steps, input, out) {
-        Ok((end, machine)) => finish_run(&end, &machine, leaks, core, file, opened, err),
+        Ok((end, machine)) => {
+            let explains = explains_run(explain, steps, limits);
+            finish_run(&end, &machine, leaks, core, file, opened, explains, err)
+        }
         Err(_) => refuse(err, Refusal::NoMemory),
     }
 }
@@ -219,6 +279,7 @@ fn mean_core<I: Source, O: Sink, E: Sink>(
     core: &Core,
     heap: u32,
     steps: u64,
+    explain: bool,
     input: &mut I,
     out: &mut O,
     err: &mut E,
@@ -231,7 +292,7 @@ fn mean_core<I: Source, O: Sink, E: Sink>(
     ensures exact { (left : List ℕ) → I.left input.old ≡ Some left →
         O.faults out.new ≡ O.faults out.old → E.faults err.new ≡ E.faults err.old →
         Gives (AnswersWay file.now opened.now core.now
-        (input_of left (I.faults input.old) (I.faults input.new)) (Way.Mean heap steps)) left
+        (input_of left (I.faults input.old) (I.faults input.new)) (Way.Mean heap steps explain)) left
         (I.left input.new) (O.taken out.old) (O.taken out.new) (E.taken err.old) (E.taken err.new)
         result }
     ensures faults { (t : ℕ) → Faults t t (I.faults input.old) (I.faults input.new)
@@ -244,8 +305,8 @@ fn mean_core<I: Source, O: Sink, E: Sink>(
         output_fault.err 133 result }
     ensures broken { (left : List ℕ) → I.left input.old ≡ Some left → WriteFails (O.faults out.old)
         (O.faults out.new) (E.faults err.old) (E.faults err.new) → (a : Shown) →
-        AnswersWay file.now opened.now core.now (steady left) (Way.Mean heap steps) a → SaysMore a →
-        Breaks None a left (I.left input.new) (O.taken out.old) (O.taken out.new) (E.taken err.old)
+        AnswersWay file.now opened.now core.now (steady left) (Way.Mean heap steps explain) a →
+        SaysMore a → Breaks None a left (I.left input.new) (O.taken out.old) (O.taken out.new) (E.taken err.old)
         (E.taken err.new) (I.faults input.old) (I.faults input.new) (O.faults out.old)
         (O.faults out.new) (E.faults err.old) (E.faults err.new) }
     ensures memory { Wants (⊤) (⊤) (E.taken err.old) (E.taken err.new) result }
@@ -256,7 +317,7 @@ fn mean_core<I: Source, O: Sink, E: Sink>(
         (E.taken err.new) result }
 {
     match evaluate(alloc, core, steps, heap, input, out) {
-        Ok(end) => finish(&end, core, file, opened, err),
+        Ok(end) => finish(&end, core, file, opened, explains_mean(explain, steps), err),
         Err(_) => refuse(err, Refusal::NoMemory),
     }
 }
@@ -309,12 +370,17 @@ fn go<I: Source, O: Sink, E: Sink>(
             limits,
             steps,
             leaks,
+            explain,
         } => run_core(
-            alloc, file, opened, core, limits, steps, leaks, input, out, err,
+            alloc, file, opened, core, limits, steps, leaks, explain, input, out, err,
         ),
-        Way::Mean { heap, steps } => {
-            mean_core(alloc, file, opened, core, heap, steps, input, out, err)
-        }
+        Way::Mean {
+            heap,
+            steps,
+            explain,
+        } => mean_core(
+            alloc, file, opened, core, heap, steps, explain, input, out, err,
+        ),
     }
 }
 

@@ -28,7 +28,7 @@ returns-in-Ok-clause-broken g c = λ told left k l fails a is more.
     let file = c.args.file.now in
     let asked = c.args.asked in
     let read = c.in-Ok.ensures.bytes told k in
-    broken_read (Some (Execute file asked.limits.heap asked.limits.stack asked.steps asked.leaks)) a left _ _ _ _ _ _ _ _ _ _ _ _ _ c.in-Ok.ensures.cause
+    broken_read (Some (Execute file asked.limits.heap asked.limits.stack asked.steps asked.leaks asked.explain)) a left _ _ _ _ _ _ _ _ _ _ _ _ _ c.in-Ok.ensures.cause
     (c.with_bytes.ensures.broken left l fails a (subst (λ (b : List ℕ). AnswersBytes file b (steady left) asked a) (sym read.0) (short_is file (steady left) asked a (told file) read.1 is)) more)
 
 pub returns-in-Ok-clause-cause : goal.returns-in-Ok-clause-cause

@@ -8,7 +8,7 @@ use Rattle.flat_machine.specs.Lasting.{LeavesImage}
 use Rattle.flat_machine.specs.Running.{RunAnswers, cut_of}
 use Rattle.flat_objects.specs.Keeping.{Keeps}
 use Rattle.heapsafe.specs.Execution.{AnswersCode, code_within}
-use Rattle.heapsafe.specs.Program.{AnswersProgram, Ended, input_of}
+use Rattle.heapsafe.specs.Program.{AnswersProgram, Ended, explains_run, input_of}
 use Rattle.heapsafe.specs.Saying.{Gives}
 use Rattle.heapsafe.specs.Shown.{no_memory}
 use Rattle.heapsafe.proofs.Told.{gives_said, said_faults}
@@ -25,8 +25,8 @@ returns-in-Ok-clause-exact g c = λ left k same_out same_err.
     let told = c.in-Ok.ensures.told left k in
     let last = meaning code left asked.steps asked.limits.heap in
     let made = code_makes code left told.put asked.steps asked.limits (g.I.Source.left c.run_file.new.input) c.in-Ok.end told.is in
-    subst (λ (os : List Opened). Gives (AnswersProgram c.args.file.now os c.args.code.now.names (nat_lt (g.I.Source.faults c.args.input.now) (g.I.Source.faults c.run_file.new.input)) (code_within asked.limits code left asked.steps asked.leaks)) left (g.I.Source.left c.run_file.new.input) (g.O.Sink.taken c.args.out.now) (g.O.Sink.taken c.run_file.new.out) (g.E.Sink.taken c.args.err.now) (g.E.Sink.taken c.finish_run.new.err) c.finish_run.result) c.requires.text
-    (gives_done c.args.file.now c.args.opened.now c.args.code.now.names left told.put (g.I.Source.left c.run_file.new.input) (g.O.Sink.taken c.args.out.now) (g.O.Sink.taken c.run_file.new.out) (g.E.Sink.taken c.args.err.now) (g.E.Sink.taken c.finish_run.new.err) (g.I.Source.faults c.args.input.now) (g.I.Source.faults c.run_file.new.input) (g.O.Sink.faults c.args.out.now) (g.O.Sink.faults c.run_file.new.out) (g.E.Sink.faults c.args.err.now) (g.E.Sink.faults c.finish_run.new.err) c.finish_run.result told.took
+    subst (λ (os : List Opened). Gives (AnswersProgram c.args.file.now os c.args.code.now.names (explains_run asked.explain asked.steps asked.limits) (nat_lt (g.I.Source.faults c.args.input.now) (g.I.Source.faults c.run_file.new.input)) (code_within asked.limits code left asked.steps asked.leaks)) left (g.I.Source.left c.run_file.new.input) (g.O.Sink.taken c.args.out.now) (g.O.Sink.taken c.run_file.new.out) (g.E.Sink.taken c.args.err.now) (g.E.Sink.taken c.finish_run.new.err) c.finish_run.result) c.requires.text
+    (gives_done c.args.file.now c.args.opened.now c.args.code.now.names (explains_run asked.explain asked.steps asked.limits) left told.put (g.I.Source.left c.run_file.new.input) (g.O.Sink.taken c.args.out.now) (g.O.Sink.taken c.run_file.new.out) (g.E.Sink.taken c.args.err.now) (g.E.Sink.taken c.finish_run.new.err) (g.I.Source.faults c.args.input.now) (g.I.Source.faults c.run_file.new.input) (g.O.Sink.faults c.args.out.now) (g.O.Sink.faults c.run_file.new.out) (g.E.Sink.faults c.args.err.now) (g.E.Sink.faults c.finish_run.new.err) c.finish_run.result told.took
     (code_events code left told.put asked.steps asked.limits (g.I.Source.left c.run_file.new.input)) (code_ends code left told.put asked.steps asked.limits (g.I.Source.left c.run_file.new.input)) last.state.state.objects same_err asked.leaks c.in-Ok.end
     made c.in-Ok.ensures.faults same_out
     (record {
@@ -47,9 +47,9 @@ returns-in-Ok-clause-broken g c = λ left k fails a is more.
     let told = c.in-Ok.ensures.told left k in
     let last = meaning code left asked.steps asked.limits.heap in
     let made = code_makes code left told.put asked.steps asked.limits (g.I.Source.left c.run_file.new.input) c.in-Ok.end told.is in
-    broken_done c.args.file.now c.args.opened.now c.args.code.now.names left told.put (g.I.Source.left c.run_file.new.input) (g.O.Sink.taken c.args.out.now) (g.O.Sink.taken c.run_file.new.out) (g.E.Sink.taken c.args.err.now) (g.E.Sink.taken c.finish_run.new.err) (g.I.Source.faults c.args.input.now) (g.I.Source.faults c.run_file.new.input) (g.O.Sink.faults c.args.out.now) (g.O.Sink.faults c.run_file.new.out) (g.E.Sink.faults c.args.err.now) (g.E.Sink.faults c.finish_run.new.err) c.finish_run.result told.took
+    broken_done c.args.file.now c.args.opened.now c.args.code.now.names (explains_run asked.explain asked.steps asked.limits) left told.put (g.I.Source.left c.run_file.new.input) (g.O.Sink.taken c.args.out.now) (g.O.Sink.taken c.run_file.new.out) (g.E.Sink.taken c.args.err.now) (g.E.Sink.taken c.finish_run.new.err) (g.I.Source.faults c.args.input.now) (g.I.Source.faults c.run_file.new.input) (g.O.Sink.faults c.args.out.now) (g.O.Sink.faults c.run_file.new.out) (g.E.Sink.faults c.args.err.now) (g.E.Sink.faults c.finish_run.new.err) c.finish_run.result told.took
     (code_events code left told.put asked.steps asked.limits (g.I.Source.left c.run_file.new.input)) (code_ends code left told.put asked.steps asked.limits (g.I.Source.left c.run_file.new.input)) last.state.state.objects asked.leaks a c.in-Ok.end
-    (subst (λ (os : List Opened). Ended c.args.file.now os c.args.code.now.names (code_within asked.limits code left asked.steps asked.leaks) a) (sym c.requires.text) is) c.in-Ok.ensures.faults made
+    (subst (λ (os : List Opened). Ended c.args.file.now os c.args.code.now.names (explains_run asked.explain asked.steps asked.limits) (code_within asked.limits code left asked.steps asked.leaks) a) (sym c.requires.text) is) c.in-Ok.ensures.faults made
     (record {
       none = c.finish_run.ensures.says;
       some = λ status asks is.
@@ -67,11 +67,11 @@ returns-in-Ok-clause-faults g c = λ t.
 
 pub returns-in-Ok-clause-input_fault : goal.returns-in-Ok-clause-input_fault
 returns-in-Ok-clause-input_fault g c = λ more.
-    input_said c.args.asked.leaks c.in-Ok.end c.args.file.now c.args.opened.now c.args.code.now.names _ _ _ _ _ _ _ _ _ c.in-Ok.ensures.faults more c.finish_run.ensures.says
+    input_said c.args.asked.leaks c.in-Ok.end c.args.file.now c.args.opened.now c.args.code.now.names (explains_run c.args.asked.explain c.args.asked.steps c.args.asked.limits) _ _ _ _ _ _ _ _ _ c.in-Ok.ensures.faults more c.finish_run.ensures.says
 
 pub returns-in-Ok-clause-output_fault : goal.returns-in-Ok-clause-output_fault
 returns-in-Ok-clause-output_fault g c = λ more.
-    output_said c.args.asked.leaks c.in-Ok.end c.args.file.now c.args.opened.now c.args.code.now.names _ _ _ _ _ _ _ _ _ c.in-Ok.ensures.faults more c.finish_run.ensures.says
+    output_said c.args.asked.leaks c.in-Ok.end c.args.file.now c.args.opened.now c.args.code.now.names (explains_run c.args.asked.explain c.args.asked.steps c.args.asked.limits) _ _ _ _ _ _ _ _ _ c.in-Ok.ensures.faults more c.finish_run.ensures.says
 
 pub returns-in-Ok-clause-memory : goal.returns-in-Ok-clause-memory
 returns-in-Ok-clause-memory g c = λ is.

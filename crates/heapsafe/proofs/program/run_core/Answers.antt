@@ -3,7 +3,7 @@ use Rattle.hs_base.specs.declared.ends.End.{End}
 use Rattle.flat_codegen.specs.Lasting.{LeavesImage, cut_run}
 use Rattle.heapsafe.specs.declared.program.Way.TheVariants.{Run}
 use Rattle.heapsafe.specs.Shown.{no_memory}
-use Rattle.heapsafe.specs.Program.{AnswersWay, input_of}
+use Rattle.heapsafe.specs.Program.{AnswersWay, explains_run, input_of}
 use Rattle.heapsafe.proofs.Told.{gives_said, said_faults}
 use Rattle.heapsafe.proofs.Ended.{counts_said, gives_run, input_said, output_said, program_faults}
 use Rattle.heapsafe.proofs.Broken.{broken_own, broken_run}
@@ -14,7 +14,7 @@ pub returns-in-Ok-clause-exact : goal.returns-in-Ok-clause-exact
 returns-in-Ok-clause-exact g c = λ left k same_out same_err.
     let kept = c.in-Ok.machine.kept in
     let told = c.in-Ok.ensures.told left k in
-    gives_run c.args.file.now c.args.opened.now c.args.core.now left told.put _ _ _ _ _ _ _ _ _ _ _ _ told.took same_err c.args.limits c.args.steps c.args.leaks c.in-Ok.end
+    gives_run c.args.file.now c.args.opened.now c.args.core.now (explains_run c.args.explain c.args.steps c.args.limits) left told.put _ _ _ _ _ _ _ _ _ _ _ _ told.took same_err c.args.limits c.args.steps c.args.leaks c.in-Ok.end
     told.is c.in-Ok.ensures.faults same_out
     (record {
       none = c.finish_run.ensures.says;
@@ -30,16 +30,16 @@ returns-in-Ok-clause-faults g c = λ t.
 
 pub returns-in-Ok-clause-input_fault : goal.returns-in-Ok-clause-input_fault
 returns-in-Ok-clause-input_fault g c = λ more.
-    input_said c.args.leaks c.in-Ok.end c.args.file.now c.args.opened.now c.args.core.now _ _ _ _ _ _ _ _ _ c.in-Ok.ensures.faults more c.finish_run.ensures.says
+    input_said c.args.leaks c.in-Ok.end c.args.file.now c.args.opened.now c.args.core.now (explains_run c.args.explain c.args.steps c.args.limits) _ _ _ _ _ _ _ _ _ c.in-Ok.ensures.faults more c.finish_run.ensures.says
 
 pub returns-in-Ok-clause-output_fault : goal.returns-in-Ok-clause-output_fault
 returns-in-Ok-clause-output_fault g c = λ more.
-    output_said c.args.leaks c.in-Ok.end c.args.file.now c.args.opened.now c.args.core.now _ _ _ _ _ _ _ _ _ c.in-Ok.ensures.faults more c.finish_run.ensures.says
+    output_said c.args.leaks c.in-Ok.end c.args.file.now c.args.opened.now c.args.core.now (explains_run c.args.explain c.args.steps c.args.limits) _ _ _ _ _ _ _ _ _ c.in-Ok.ensures.faults more c.finish_run.ensures.says
 
 pub returns-in-Err-clause-exact : goal.returns-in-Err-clause-exact
 returns-in-Err-clause-exact g c = λ left k same_out same_err.
     let input = input_of left (g.I.Source.faults c.args.input.now) (g.I.Source.faults c.run_code.new.input) in
-    gives_said (AnswersWay c.args.file.now c.args.opened.now c.args.core.now input (Run c.args.limits c.args.steps c.args.leaks)) no_memory left _ _ _ _ _ _ _ _ (inr refl) (record { read = refl; out = refl })
+    gives_said (AnswersWay c.args.file.now c.args.opened.now c.args.core.now input (Run c.args.limits c.args.steps c.args.leaks c.args.explain)) no_memory left _ _ _ _ _ _ _ _ (inr refl) (record { read = refl; out = refl })
     (ap g.I.Source.left c.in-Err.ensures.input_stays ∙ k) (ap g.O.Sink.taken c.in-Err.ensures.out_stays) same_err c.refuse.ensures.says
 
 pub returns-in-Err-clause-faults : goal.returns-in-Err-clause-faults
@@ -50,7 +50,7 @@ pub returns-in-Ok-clause-broken : goal.returns-in-Ok-clause-broken
 returns-in-Ok-clause-broken g c = λ left k fails a is more.
     let kept = c.in-Ok.machine.kept in
     let told = c.in-Ok.ensures.told left k in
-    broken_run c.args.file.now c.args.opened.now c.args.core.now left told.put _ _ _ _ _ _ _ _ _ _ _ _ told.took c.args.limits c.args.steps c.args.leaks a c.in-Ok.end is c.in-Ok.ensures.faults told.is
+    broken_run c.args.file.now c.args.opened.now c.args.core.now (explains_run c.args.explain c.args.steps c.args.limits) left told.put _ _ _ _ _ _ _ _ _ _ _ _ told.took c.args.limits c.args.steps c.args.leaks a c.in-Ok.end is c.in-Ok.ensures.faults told.is
     (record {
       none = c.finish_run.ensures.says;
       some = λ code asked exits.
