@@ -12,14 +12,19 @@ use Rattle.hs_base.specs.Access.{Trapped}
 use Rattle.hs_base.specs.Object.{Object, object_at}
 use Rattle.object_meaning.specs.objects.Arithmetic.{within_object, moved_by}
 use Rattle.object_meaning.specs.objects.Values.{address}
-use Rattle.flat_objects.specs.declared.finding.Found.{Found}
+use Rattle.flat_objects.specs.declared.finding.Spot.{Spot}
 use Rattle.flat_objects.specs.Memory.{Memory, IsMemory}
 use Rattle.flat_objects.specs.Standing.{IsAt}
 use Rattle.flat_objects.specs.Keeping.{KeepsAt}
 use Rattle.flat_objects.specs.Moving.{IsFar, MovesTo}
+use Rattle.flat_objects.specs.Reaching.{IsSpot}
 use Rattle.flat_objects.specs.Answering.{Traps, AnswersAddress}
 use Rattle.flat_objects.proofs.Owners.{own_inside}
-use Rattle.flat_objects.proofs.Reached.{Finds}
+
+-- where an address stands in its object
+abbrev pub Spots : Memory → ℕ → Spot → Type 0
+Spots memory addr spot =
+    (places : ℕ → ℕ) (objects : List Object) (birth offset : ℕ) → KeepsAt memory places objects (pointer.At birth offset) addr → IsSpot places objects birth offset spot
 
 -- a place below an object or behind it
 outside : (birth size : ℕ) (n : ℤ) → (n <ℤ pos 0) ⊎ (pos size <ℤ n) → within_object birth size n ≡ Err (Trapped trap.Range)
@@ -74,7 +79,7 @@ module _ (places : ℕ → ℕ) (objects : List Object) (birth offset start size
       subst (λ (t : TrapKind). Traps t (moved_by objects (pointer.At birth offset) d)) (sym kind_is)
       (outside birth total (pos offset +ℤ d) (subst (λ (n : ℤ). (n <ℤ pos 0) ⊎ (pos total <ℤ n)) place_is (subst (λ (s : ℕ). (place <ℤ pos 0) ⊎ (pos s <ℤ place)) size_is out)))
 
-module _ (memory : Memory) (places : ℕ → ℕ) (objects : List Object) (addr : ℕ) (d : ℤ) (found : Found) (some : addr ≡ 0 → ⊥) (finds : Finds memory addr found) where
+module _ (memory : Memory) (places : ℕ → ℕ) (objects : List Object) (addr : ℕ) (d : ℤ) (found : Spot) (some : addr ≡ 0 → ⊥) (finds : Spots memory addr found) where
   pub moved_answer : (p : Pointer) (place : ℤ) (result : Result ℕ TrapKind) → KeepsAt memory places objects p addr → place ≡ pos found.offset +ℤ d → MovesTo found.start found.size place result → AnswersAddress places objects result (moved_by objects p d)
   moved_answer pointer.Null place result at place_is to = absurd (some at.stands)
   moved_answer (pointer.At birth offset) place result at place_is to =

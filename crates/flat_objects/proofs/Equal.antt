@@ -8,14 +8,14 @@ use Rattle.hs_base.specs.declared.values.Pointer.TheVariants as pointer
 use Rattle.hs_base.specs.Access.{Trapped}
 use Rattle.hs_base.specs.Object.{Object, object_at}
 use Rattle.object_meaning.specs.objects.Arithmetic.{same_pointer, offsets}
-use Rattle.flat_objects.specs.declared.finding.Found.{Found}
+use Rattle.flat_objects.specs.declared.finding.Spot.{Spot}
 use Rattle.flat_objects.specs.Memory.{Memory, IsMemory}
 use Rattle.flat_objects.specs.Standing.{IsThere, IsAt, IsAddressOf}
 use Rattle.flat_objects.specs.Keeping.{Keeps, KeepsAt}
 use Rattle.flat_objects.specs.Answering.{Traps}
 use Rattle.flat_objects.proofs.Apart.{objects_apart}
 use Rattle.flat_objects.proofs.Owners.{own_lies}
-use Rattle.flat_objects.proofs.Reached.{Finds}
+use Rattle.flat_objects.proofs.Distances.{Spots}
 
 module _ (locals heap : ℕ) (memory : Memory) (shape : IsMemory locals heap memory) (places : ℕ → ℕ) (objects : List Object) (keeps : Keeps memory places objects) where
   -- two objects that have addresses in common are one
@@ -56,7 +56,7 @@ module _ (locals heap : ℕ) (memory : Memory) (shape : IsMemory locals heap mem
         | inr differ ↦ false_from_ne_true (same_pointer a b) (λ same. differ (same_when_equal a b p_addr q_addr p q same)) ∙ sym (ne_eqb p_addr q_addr differ)
       ]
 
-  module _ (p_addr q_addr : ℕ) (one other : Found) (p_some : p_addr ≡ 0 → ⊥) (q_some : q_addr ≡ 0 → ⊥) (finds_one : Finds memory p_addr one) (finds_other : Finds memory q_addr other) where
+  module _ (p_addr q_addr : ℕ) (one other : Spot) (p_some : p_addr ≡ 0 → ⊥) (q_some : q_addr ≡ 0 → ⊥) (finds_one : Spots memory p_addr one) (finds_other : Spots memory q_addr other) where
     pub two_objects : (a b : Pointer) → KeepsAt memory places objects a p_addr → IsAddressOf places objects b q_addr → (one.start ≡ other.start → ⊥) → Traps trap.Objects (offsets a b)
     two_objects pointer.Null b at q differ = absurd (p_some at.stands)
     two_objects (pointer.At b x) pointer.Null at q differ = absurd (q_some q)

@@ -9,7 +9,8 @@ use Rattle.heap_blocks.specs.Held.{HeapModel, Holds, IsBlock, address_of, owner_
 use Rattle.flat_objects.specs.Memory.{Memory, Range, Statics, Locals, Heap, IsMemory, heap_of, range_of, end_of}
 use Rattle.flat_objects.specs.Standing.{IsThere, IsAt}
 use Rattle.flat_objects.specs.Keeping.{HasSlots, Keeps, KeepsAt, IsKept, blocks_of}
-use Rattle.flat_objects.specs.Reaching.{IsFound}
+use Rattle.flat_objects.specs.declared.finding.Spot.{Spot}
+use Rattle.flat_objects.specs.Reaching.{IsFound, IsSpot}
 use Rattle.flat_objects.proofs.Blocks.{IsWithin, own_block, block_is_held, owner_is}
 
 -- the range of an object
@@ -80,14 +81,24 @@ owned memory places objects birth offset addr found keeps at answer =
     answer range (blocks_of memory places objects range) (omega (arith, lies.above, at.address)) (omega (arith, lies.below, at.address, at.inside)) (keeps.held range)
     ∙ own_owner memory places objects keeps birth at.there offset addr at
 
-pub found_at : (memory : Memory) (places : ℕ → ℕ) (objects : List Object) (birth offset addr start size layout : ℕ) → KeepsAt memory places objects (pointer.At birth offset) addr → start ≡ places birth → size ≡ (header_at memory.bytes (start - 32)).size → layout ≡ (header_at memory.bytes (start - 32)).layout
-    → IsFound memory places objects birth offset (record { start = start; offset = addr - start; size = size; layout = layout })
-found_at memory places objects birth offset addr start size layout at start_is size_is layout_is =
+pub spot_at : (memory : Memory) (places : ℕ → ℕ) (objects : List Object) (birth offset addr start size : ℕ) → KeepsAt memory places objects (pointer.At birth offset) addr → start ≡ places birth → size ≡ (header_at memory.bytes (start - 32)).size
+    → IsSpot places objects birth offset (record { start = start; offset = addr - start; size = size })
+spot_at memory places objects birth offset addr start size at start_is size_is =
     let stands = at.keeps.standing birth at.stands.there in
-    let layout_same : layout ≡ (header_at memory.bytes (places birth - 32)).layout = layout_is ∙ ap (λ n. (header_at memory.bytes (n - 32)).layout) start_is in
     record {
       start = start_is;
       distance = omega (arith, at.stands.address);
       size = size_is ∙ ap (λ n. (header_at memory.bytes (n - 32)).size) start_is ∙ stands.header.size;
+    }
+
+pub found_at : (memory : Memory) (places : ℕ → ℕ) (objects : List Object) (birth offset addr layout : ℕ) (spot : Spot) → KeepsAt memory places objects (pointer.At birth offset) addr → IsSpot places objects birth offset spot → layout ≡ (header_at memory.bytes (spot.start - 32)).layout
+    → IsFound memory places objects birth offset (record { start = spot.start; offset = spot.offset; size = spot.size; layout = layout })
+found_at memory places objects birth offset addr layout spot at is layout_is =
+    let stands = at.keeps.standing birth at.stands.there in
+    let layout_same : layout ≡ (header_at memory.bytes (places birth - 32)).layout = layout_is ∙ ap (λ n. (header_at memory.bytes (n - 32)).layout) is.start in
+    record {
+      start = is.start;
+      distance = is.distance;
+      size = is.size;
       slots = subst (λ l. HasSlots memory.forms l (object_at objects birth)) (sym layout_same) stands.slots;
     }

@@ -6,11 +6,18 @@ use Rattle.hs_base.specs.declared.values.Pointer.TheVariants as pointer
 use Rattle.hs_base.specs.Access.{access_integer, access_pointer}
 use Rattle.hs_base.specs.Object.{Object, object_at}
 use Rattle.flat_objects.specs.declared.finding.Found.{Found}
+use Rattle.flat_objects.specs.declared.finding.Spot.{Spot}
 use Rattle.flat_objects.specs.Memory.{Memory}
 use Rattle.flat_objects.specs.Keeping.{HasSlots}
 use Rattle.flat_objects.specs.Answering.{Traps}
 
--- an offset in the object of a birth was found
+-- this is an offset in the object of a birth
+pub record IsSpot (places : ℕ → ℕ) (objects : List Object) (birth offset : ℕ) (spot : Spot) : Type 0 where
+  pub start : spot.start ≡ places birth
+  pub distance : spot.offset ≡ offset
+  pub size : spot.size ≡ (object_at objects birth).size
+
+-- so it is, and the object has the slots of a layout
 pub record IsFound (memory : Memory) (places : ℕ → ℕ) (objects : List Object) (birth offset : ℕ) (found : Found) : Type 0 where
   pub start : found.start ≡ places birth
   pub distance : found.offset ≡ offset

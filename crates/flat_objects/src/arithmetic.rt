@@ -1,6 +1,6 @@
 //! Addresses as operands. One stays within its object, from its start to one past its end (C99 6.5.6, 6.5.8, 6.5.9).
 
-ghost use Rattle.std.specs.Prelude.{◌≡◌, ◌+◌, ◌^◌, ◌<◌, ◌<ℤ◌, ◌*ℤ◌, ◌-ℤ◌, ℕ, ℤ, List, pos, neg_ℤ, int_div, IfSome};
+ghost use Rattle.std.specs.Prelude.{◌≡◌, ◌+◌, ◌^◌, ◌<◌, ◌≤◌, ◌<ℤ◌, ◌*ℤ◌, ◌-ℤ◌, ℕ, ℤ, List, pos, neg_ℤ, int_div, IfSome};
 ghost use Rattle.hs_base.specs.Numbers.{wrapped};
 ghost use Rattle.hs_base.specs.Object.{Object};
 ghost use Rattle.object_meaning.specs.objects.Arithmetic.{compared, difference, moved_by, offsets, ordered, pointers_compared, truth};
@@ -16,20 +16,32 @@ use core_tree::CmpOp;
 use hs_base::{IntKind, Pointer, TrapKind};
 use std::sync::ledger::Ledger;
 
-/// The product of two numbers where 64 bits are enough for both and for it, as they mostly are: that one is quick.
+/// A number from 0 on that is below 2^31, as most counts and sizes are.
 #[inline(always)]
-fn short_product(one: i128, other: i128) -> Option<i128>
-    ensures { IfSome result (λ product. product ≡ one *ℤ other) }
+fn short(n: i128) -> Option<u64>
+    ensures value { IfSome result (λ m. pos m ≡ n) }
+    ensures small { IfSome result (λ m. m < 2 ^ 31) }
 {
-    let least = i64::MIN as i128;
-    let greatest = i64::MAX as i128;
-    if one < least || greatest < one || other < least || greatest < other {
+    if 0 <= n && n < 0x8000_0000 {
+        Some(n as u64)
+    } else {
+        None
+    }
+}
+
+/// The product of two short numbers. It is quick, and serves nearly all elements that are looked up.
+#[inline(always)]
+fn short_product(one: i128, other: i128) -> Option<u64>
+    ensures value { IfSome result (λ product. pos product ≡ one *ℤ other) }
+    ensures small { IfSome result (λ product. product < 2 ^ 62) }
+{
+    let Some(first) = short(one) else {
         return None;
-    }
-    match (one as i64).checked_mul(other as i64) {
-        Some(product) => Some(product as i128),
-        None => None,
-    }
+    };
+    let Some(second) = short(other) else {
+        return None;
+    };
+    Some(first * second)
 }
 
 /// The address of a place in an object of a size, where it is from its start to one past its end.
@@ -40,6 +52,33 @@ fn address_within(start: u32, size: u32, place: i128) -> Result<u32, TrapKind>
 {
     if 0 <= place && place <= i128::from(size) {
         Ok(start + place as u32)
+    } else {
+        Err(TrapKind::Range)
+    }
+}
+
+/// The address so many bytes behind the start of an object of a size, up to one past its end.
+#[inline(always)]
+fn address_behind(start: u32, size: u32, bytes: u64) -> Result<u32, TrapKind>
+    requires { start + size < 2 ^ 32 }
+    ensures { MovesTo start size (pos bytes) result }
+{
+    if bytes <= u64::from(size) {
+        Ok(start + bytes as u32)
+    } else {
+        Err(TrapKind::Range)
+    }
+}
+
+/// The address so many bytes before an offset in an object, down to its start.
+#[inline(always)]
+fn address_before(start: u32, size: u32, offset: u32, bytes: u64) -> Result<u32, TrapKind>
+    requires fits { start + size < 2 ^ 32 }
+    requires inside { offset ≤ size }
+    ensures { MovesTo start size (pos offset -ℤ pos bytes) result }
+{
+    if bytes <= u64::from(offset) {
+        Ok(start + (offset - bytes as u32))
     } else {
         Err(TrapKind::Range)
     }
@@ -97,7 +136,7 @@ impl FlatObjects {
                 Err(TrapKind::Null)
             };
         }
-        let found = self.find(addr, steps);
+        let found = self.spot(addr, steps);
         match i128::from(found.offset).checked_add(distance) {
             Some(place) => address_within(found.start, found.size, place),
             None => Err(TrapKind::Range),
@@ -134,6 +173,51 @@ impl FlatObjects {
         }
     }
 
+    /// An address moved up by so many bytes, which 62 bits count. Null is moved by 0 alone.
+    #[inline(always)]
+    fn moved_on<L: Ledger>(
+        &self,
+        addr: u32,
+        bytes: u64,
+        steps: &mut Steps<L>,
+    ) -> Result<u32, TrapKind>
+        requires kept { IsKept self.now addr }
+        requires small { bytes < 2 ^ 62 }
+        ensures { (places : ℕ → ℕ) (objects : List Object) (p : Pointer) → KeepsAt self.now places objects p addr → AnswersAddress places objects result (moved_by objects p (pos bytes)) }
+    {
+        if addr == 0 {
+            return if bytes == 0 {
+                Ok(0)
+            } else {
+                Err(TrapKind::Null)
+            };
+        }
+        let found = self.spot(addr, steps);
+        address_behind(found.start, found.size, u64::from(found.offset) + bytes)
+    }
+
+    /// An address moved down by so many bytes. Null is moved by 0 alone.
+    #[inline(always)]
+    fn moved_back<L: Ledger>(
+        &self,
+        addr: u32,
+        bytes: u64,
+        steps: &mut Steps<L>,
+    ) -> Result<u32, TrapKind>
+        requires { IsKept self.now addr }
+        ensures { (places : ℕ → ℕ) (objects : List Object) (p : Pointer) → KeepsAt self.now places objects p addr → AnswersAddress places objects result (moved_by objects p (neg_ℤ (pos bytes))) }
+    {
+        if addr == 0 {
+            return if bytes == 0 {
+                Ok(0)
+            } else {
+                Err(TrapKind::Null)
+            };
+        }
+        let found = self.spot(addr, steps);
+        address_before(found.start, found.size, found.offset, bytes)
+    }
+
     /// An address moved up by so many elements of a size.
     #[inline(always)]
     pub fn moved_up<L: Ledger>(
@@ -147,7 +231,7 @@ impl FlatObjects {
         ensures { (places : ℕ → ℕ) (objects : List Object) (p : Pointer) → KeepsAt self.now places objects p addr → AnswersAddress places objects result (moved_by objects p (count *ℤ size)) }
     {
         match short_product(count, size) {
-            Some(distance) => self.moved(addr, distance, steps),
+            Some(bytes) => self.moved_on(addr, bytes, steps),
             None => self.moved_up_far(addr, count, size, steps),
         }
     }
@@ -185,12 +269,9 @@ impl FlatObjects {
         requires { IsKept self.now addr }
         ensures { (places : ℕ → ℕ) (objects : List Object) (p : Pointer) → KeepsAt self.now places objects p addr → AnswersAddress places objects result (moved_by objects p (neg_ℤ (count *ℤ size))) }
     {
-        let Some(up) = short_product(count, size) else {
-            return self.moved_down_far(addr, count, size, steps);
-        };
-        match 0i128.checked_sub(up) {
-            Some(distance) => self.moved(addr, distance, steps),
-            None => self.moved_far(addr),
+        match short_product(count, size) {
+            Some(bytes) => self.moved_back(addr, bytes, steps),
+            None => self.moved_down_far(addr, count, size, steps),
         }
     }
 
@@ -210,8 +291,8 @@ impl FlatObjects {
         if p == 0 || q == 0 {
             return Err(TrapKind::Null);
         }
-        let one = self.find(p, steps);
-        let other = self.find(q, steps);
+        let one = self.spot(p, steps);
+        let other = self.spot(q, steps);
         if one.start != other.start {
             return Err(TrapKind::Objects);
         }

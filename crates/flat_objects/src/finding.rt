@@ -1,12 +1,12 @@
 //! The object of an address.
 
-ghost use Rattle.std.specs.Prelude.{◌≡◌, ◌+◌, ◌^◌, ◌<◌, ◌≤◌, ℕ, List};
+ghost use Rattle.std.specs.Prelude.{◌≡◌, ◌+◌, ◌^◌, ◌<◌, ◌≤◌, ℕ, List, length};
 ghost use Rattle.hs_base.specs.Object.{Object};
 ghost use Rattle.hs_base.specs.Place.{Block};
 ghost use Rattle.heap_blocks.specs.Held.{Holds, owner_of};
 ghost use Rattle.flat_objects.specs.Memory.{Range, heap_of, end_of};
 ghost use Rattle.flat_objects.specs.Keeping.{KeepsAt, IsKept};
-ghost use Rattle.flat_objects.specs.Reaching.{IsFound};
+ghost use Rattle.flat_objects.specs.Reaching.{IsFound, IsSpot};
 
 use crate::memory::FlatObjects;
 use byte_memory::Steps;
@@ -14,8 +14,15 @@ use heap_blocks::{HEADER_SIZE, Header};
 use hs_base::Pointer;
 use std::sync::ledger::Ledger;
 
-/// An offset in an object: the address of the object's first byte, the offset, the object's size in bytes, and the number
-/// of the layout of its elements.
+/// An offset in an object: the address of the object's first byte, the offset, and the object's size in bytes.
+#[derive(Clone, Copy, Debug, PartialEq, Eq)]
+pub(crate) struct Spot {
+    pub(crate) start: u32,
+    pub(crate) offset: u32,
+    pub(crate) size: u32,
+}
+
+/// An offset in an object, as in [`Spot`], and the number of the layout of the object's elements.
 #[derive(Clone, Copy, Debug, PartialEq, Eq)]
 pub(crate) struct Found {
     pub(crate) start: u32,
@@ -41,7 +48,30 @@ impl FlatObjects {
         }
     }
 
-    /// The object of an address that is not null, and its offset in it. At most eleven steps.
+    /// The object of an address that is not null, and its offset in it. At most ten steps.
+    #[inline(always)]
+    pub(crate) fn spot<L: Ledger>(&self, addr: u32, steps: &mut Steps<L>) -> Spot
+        requires kept { IsKept self.now addr }
+        requires some { 0 < addr }
+        ensures spot { (places : ℕ → ℕ) (objects : List Object) (birth offset : ℕ) → KeepsAt self.now places objects (Pointer.At birth offset) addr → IsSpot places objects birth offset result }
+        ensures inside { result.offset ≤ result.size }
+        ensures header { HEADER_SIZE ≤ result.start }
+        ensures reach { result.start + result.size < length self.now.bytes }
+        ensures small { result.start + result.size < 2 ^ 32 }
+        ensures work { steps.new ≤ steps.old + 10 }
+    {
+        let Some(start) = self.owner(addr, steps) else {
+            unreachable!()
+        };
+        let block = start - HEADER_SIZE;
+        Spot {
+            start,
+            offset: addr - start,
+            size: Header::read_size(&self.bytes, block, steps),
+        }
+    }
+
+    /// The object of an address that is not null, with its layout, and its offset in it. At most eleven steps.
     #[inline(always)]
     pub(crate) fn find<L: Ledger>(&self, addr: u32, steps: &mut Steps<L>) -> Found
         requires kept { IsKept self.now addr }
@@ -51,14 +81,12 @@ impl FlatObjects {
         ensures small { result.start + result.size < 2 ^ 32 }
         ensures work { steps.new ≤ steps.old + 11 }
     {
-        let Some(start) = self.owner(addr, steps) else {
-            unreachable!()
-        };
-        let block = start - HEADER_SIZE;
+        let spot = self.spot(addr, steps);
+        let block = spot.start - HEADER_SIZE;
         Found {
-            start,
-            offset: addr - start,
-            size: Header::read_size(&self.bytes, block, steps),
+            start: spot.start,
+            offset: spot.offset,
+            size: spot.size,
             layout: Header::read_layout(&self.bytes, block, steps),
         }
     }
