@@ -10,7 +10,7 @@ use Rattle.c_tree.specs.Tree.{Tree, Trees, At, Node, none, ◌▹◌}
 use Rattle.c_tree.specs.Scopes.{name_of, name_among, leads_to_name}
 use Rattle.c_tree.specs.View.{declarator_tree, base_tree}
 use Rattle.c_tree.specs.StatementView.{trees, suffix_view}
-use Rattle.c_tree.proofs.Views.{direct_tree}
+use Rattle.c_tree.specs.ViewEquations.{direct_tree}
 use Rattle.c_units.specs.declared.mention.Role.{Role}
 use Rattle.c_units.specs.declared.names.Binding.{Binding}
 use Rattle.c_units.specs.Names.{Names, name_by, declare, mention, behind, renamed}

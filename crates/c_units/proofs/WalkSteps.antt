@@ -31,8 +31,8 @@ use Rattle.c_tree.specs.Forms as f
 use Rattle.c_tree.specs.Tree.{Tree, Trees, At, Node, none, ◌▹◌}
 use Rattle.c_tree.specs.View.{expr_tree, spec_tree, tag_tree, enumerator_tree, declarator_tree, base_tree, suffix_tree, maybe_name, name_leaf}
 use Rattle.c_tree.specs.StatementView.{trees, maybe, expr_view, specs_view, typename_view, member_view, suffix_view, param_view, init_tree, init_view, stmt_tree, stmt_view}
-use Rattle.c_tree.proofs.Views.{enumerator_value_tree, array_tree, call_tree, sizeof_type_tree, cast_tree, record_body_tree, enum_body_tree, direct_tree, params_tree}
-use Rattle.c_tree.proofs.StatementViews.{init_list_tree, block_tree, delay_tree}
+use Rattle.c_tree.specs.ViewEquations.{enumerator_value_tree, array_tree, call_tree, sizeof_type_tree, cast_tree, record_body_tree, enum_body_tree, direct_tree, params_tree}
+use Rattle.c_tree.specs.StatementViewEquations.{init_list_tree, block_tree, delay_tree}
 use Rattle.c_units.specs.declared.mention.Role.TheVariants.{Defined, Tagged}
 use Rattle.c_units.specs.declared.names.Binding.{Binding}
 use Rattle.c_units.specs.Names.{Names, behind, renamed, declare, mention, mention_any, binding_at}
