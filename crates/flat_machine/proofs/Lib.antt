@@ -51,5 +51,6 @@ pub mod Advancing
 pub mod Grouped
 pub mod Gathered
 pub mod Working
+pub mod Joined
 pub mod Onward
 pub mod Links
