@@ -4,3 +4,4 @@ pub mod Runs
 pub mod Held
 pub mod Rows
 pub mod Laws
+pub mod Calls

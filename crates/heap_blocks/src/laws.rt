@@ -1,35 +1,30 @@
 //! Laws of blocks that are held, for those who keep a heap and write bytes between its calls.
 
-ghost use Rattle.std.specs.Prelude.{◌≡◌, ℕ, ◌+◌, List, [], ◌∷◌, ◌++◌, cond, nat_le, slice_get, take};
-ghost use Rattle.hs_base.specs.Place.{Block, block_size, blocks_after, with_block, without_block};
-ghost use Rattle.hs_base.specs.Trace.{Event};
-ghost use Rattle.heap_blocks.specs.Held.{HaveOwnBirths, HeapModel, Holds, fit_of};
-ghost use Rattle.heap_blocks.specs.Laws.{AHeaderIsItsBytes, AHeaderStays, BlocksStayHeld, ChangesWiden, HeadersMayBeWritten, HeadersStayBeside, HeadersStayWithin, OwnersAreFound};
-ghost use Rattle.heap_blocks.specs.Rows.{GivesNoneBack, StandInRow, row_length};
+ghost use Rattle.heap_blocks.specs.Laws.{PlacedStandInRow, NextIsBehindRow, RowGrows, LastIsGivenBack, FrontIsRow, PlacesAreSums, AHeaderIsItsBytes, AHeaderStays, BlocksStayHeld, ChangesWiden, HeadersMayBeWritten, HeadersStayBeside, HeadersStayWithin, OwnersAreFound};
 
 /// Blocks that are placed one after another from an empty heap on, with none given back, stand one behind the other with
 /// no gap, the first at the heap's start.
 pub fn placed_blocks_stand_in_a_row()
-    ensures { (len : ℕ) (events : List Event) → GivesNoneBack events → StandInRow 0 (blocks_after len [] events) }
+    ensures { PlacedStandInRow }
 {}
 
 /// Where the blocks of a heap stand in a row from its start on, the next one is placed behind them, or nowhere where it
 /// ends past the heap; and they stand in a row again.
 pub fn rows_grow()
-    ensures place { (heap : HeapModel) (held : List Block) (size : ℕ) → Holds heap held → StandInRow 0 held → fit_of heap held size ≡ cond (nat_le (row_length held + block_size size) heap.len) (Some (row_length held)) None }
-    ensures row { (heap : HeapModel) (held : List Block) (birth size : ℕ) → Holds heap held → StandInRow 0 held → StandInRow 0 (with_block held birth (block_size size) (fit_of heap held size)) }
+    ensures place { NextIsBehindRow }
+    ensures row { RowGrows }
 {}
 
 /// The last block that was placed, given back, leaves the others as they were, and what is left of a row is one: so
 /// blocks may be kept as a stack.
 pub fn rows_shrink()
-    ensures last { (held : List Block) (b : Block) → HaveOwnBirths (held ++ b ∷ []) → without_block (held ++ b ∷ []) b.birth ≡ held }
-    ensures row { (place : ℕ) (held more : List Block) → StandInRow place (held ++ more) → StandInRow place held }
+    ensures last { LastIsGivenBack }
+    ensures row { FrontIsRow }
 {}
 
 /// In a row from the heap's start on, each block stands where those before it end.
 pub fn places_in_rows_are_sums()
-    ensures { (held : List Block) (k : ℕ) (b : Block) → StandInRow 0 held → slice_get held k ≡ Some b → b.place ≡ row_length (take k held) }
+    ensures { PlacesAreSums }
 {}
 
 /// The headers of a heap stay where bytes beside the heap change, and where bytes of an object behind its header do.
