@@ -1,4 +1,4 @@
-use Rattle.std.proofs.Common.{◌∙◌, List, [], None, Some, inl, inr, refl, ap, subst, sym}
+use Rattle.std.proofs.Common.{◌∙◌, List, [], Option, None, Some, inl, inr, refl, ap, subst, sym}
 use Rattle.std.specs.Prelude.{nat_lt}
 use Rattle.hs_base.specs.declared.ends.End.{End}
 use Rattle.object_meaning.specs.code.CodeState.{CodeState}
@@ -8,8 +8,10 @@ use Rattle.flat_machine.specs.Lasting.{LeavesImage}
 use Rattle.flat_machine.specs.Running.{RunAnswers, cut_of}
 use Rattle.flat_objects.specs.Keeping.{Keeps}
 use Rattle.heapsafe.specs.Execution.{AnswersCode, code_within}
-use Rattle.heapsafe.specs.Program.{AnswersProgram, Ended, explains_run, input_of}
-use Rattle.heapsafe.specs.Saying.{Gives}
+use Rattle.heapsafe.specs.Places.{told_end_of}
+use Rattle.heapsafe.specs.Program.{AnswersProgram, Ended, explains_run, input_of, status_of}
+use Rattle.heapsafe.specs.Saying.{Gives, Says}
+use Rattle.bad_free_report.specs.declared.explanation.InForce.{InForce}
 use Rattle.heapsafe.specs.Shown.{no_memory}
 use Rattle.heapsafe.proofs.Told.{gives_said, said_faults}
 use Rattle.heapsafe.proofs.Ended.{counts_said, input_said, output_said, program_faults}
@@ -30,7 +32,7 @@ returns-in-Ok-clause-exact g c = λ left k same_out same_err.
     (code_events code left told.put asked.steps asked.limits (g.I.Source.left c.run_file.new.input)) (code_ends code left told.put asked.steps asked.limits (g.I.Source.left c.run_file.new.input)) last.state.state.objects same_err asked.leaks c.in-Ok.end
     made c.in-Ok.ensures.faults same_out
     (record {
-      none = c.finish_run.ensures.says;
+      none = (λ none. subst (λ (a : Option InForce). Says (g.E.Sink.taken c.args.err.now) (g.E.Sink.taken c.finish_run.new.err) (g.E.Sink.faults c.args.err.now) (g.E.Sink.faults c.finish_run.new.err) (told_end_of c.args.code.now.names c.args.file.now c.args.opened.now a c.in-Ok.end) (status_of c.in-Ok.end) c.finish_run.result) c.explains_run-explains.ensures (c.finish_run.ensures.says none));
       some = λ status asks is.
           let image = subst (λ (x : End). LeavesImage code left asked.steps asked.limits x c.in-Ok.machine.kept) is (c.in-Ok.ensures.left left k) in
           let ran = subst (λ (x : End). RunAnswers code left asked.steps asked.limits [] x (g.I.Source.left c.run_file.new.input) (Some told.put)) is told.is in
@@ -51,7 +53,7 @@ returns-in-Ok-clause-broken g c = λ left k fails a is more.
     (code_events code left told.put asked.steps asked.limits (g.I.Source.left c.run_file.new.input)) (code_ends code left told.put asked.steps asked.limits (g.I.Source.left c.run_file.new.input)) last.state.state.objects asked.leaks a c.in-Ok.end
     (subst (λ (os : List Opened). Ended c.args.file.now os c.args.code.now.names (explains_run asked.explain asked.steps asked.limits) (code_within asked.limits code left asked.steps asked.leaks) a) (sym c.requires.text) is) c.in-Ok.ensures.faults made
     (record {
-      none = c.finish_run.ensures.says;
+      none = (λ none. subst (λ (a : Option InForce). Says (g.E.Sink.taken c.args.err.now) (g.E.Sink.taken c.finish_run.new.err) (g.E.Sink.faults c.args.err.now) (g.E.Sink.faults c.finish_run.new.err) (told_end_of c.args.code.now.names c.args.file.now c.args.opened.now a c.in-Ok.end) (status_of c.in-Ok.end) c.finish_run.result) c.explains_run-explains.ensures (c.finish_run.ensures.says none));
       some = λ status asks is.
           let image = subst (λ (x : End). LeavesImage code left asked.steps asked.limits x c.in-Ok.machine.kept) is (c.in-Ok.ensures.left left k) in
           let ran = subst (λ (x : End). RunAnswers code left asked.steps asked.limits [] x (g.I.Source.left c.run_file.new.input) (Some told.put)) is told.is in
@@ -67,11 +69,11 @@ returns-in-Ok-clause-faults g c = λ t.
 
 pub returns-in-Ok-clause-input_fault : goal.returns-in-Ok-clause-input_fault
 returns-in-Ok-clause-input_fault g c = λ more.
-    input_said c.args.asked.leaks c.in-Ok.end c.args.file.now c.args.opened.now c.args.code.now.names (explains_run c.args.asked.explain c.args.asked.steps c.args.asked.limits) _ _ _ _ _ _ _ _ _ c.in-Ok.ensures.faults more c.finish_run.ensures.says
+    input_said c.args.asked.leaks c.in-Ok.end c.args.file.now c.args.opened.now c.args.code.now.names (explains_run c.args.asked.explain c.args.asked.steps c.args.asked.limits) _ _ _ _ _ _ _ _ _ c.in-Ok.ensures.faults more (λ none. subst (λ (a : Option InForce). Says (g.E.Sink.taken c.args.err.now) (g.E.Sink.taken c.finish_run.new.err) (g.E.Sink.faults c.args.err.now) (g.E.Sink.faults c.finish_run.new.err) (told_end_of c.args.code.now.names c.args.file.now c.args.opened.now a c.in-Ok.end) (status_of c.in-Ok.end) c.finish_run.result) c.explains_run-explains.ensures (c.finish_run.ensures.says none))
 
 pub returns-in-Ok-clause-output_fault : goal.returns-in-Ok-clause-output_fault
 returns-in-Ok-clause-output_fault g c = λ more.
-    output_said c.args.asked.leaks c.in-Ok.end c.args.file.now c.args.opened.now c.args.code.now.names (explains_run c.args.asked.explain c.args.asked.steps c.args.asked.limits) _ _ _ _ _ _ _ _ _ c.in-Ok.ensures.faults more c.finish_run.ensures.says
+    output_said c.args.asked.leaks c.in-Ok.end c.args.file.now c.args.opened.now c.args.code.now.names (explains_run c.args.asked.explain c.args.asked.steps c.args.asked.limits) _ _ _ _ _ _ _ _ _ c.in-Ok.ensures.faults more (λ none. subst (λ (a : Option InForce). Says (g.E.Sink.taken c.args.err.now) (g.E.Sink.taken c.finish_run.new.err) (g.E.Sink.faults c.args.err.now) (g.E.Sink.faults c.finish_run.new.err) (told_end_of c.args.code.now.names c.args.file.now c.args.opened.now a c.in-Ok.end) (status_of c.in-Ok.end) c.finish_run.result) c.explains_run-explains.ensures (c.finish_run.ensures.says none))
 
 pub returns-in-Ok-clause-memory : goal.returns-in-Ok-clause-memory
 returns-in-Ok-clause-memory g c = λ is.

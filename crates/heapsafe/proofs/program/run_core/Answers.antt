@@ -1,9 +1,12 @@
-use Rattle.std.proofs.Common.{◌∙◌, [], None, inr, refl, ap, subst, inl}
+use Rattle.std.proofs.Common.{◌∙◌, [], None, Option, inr, refl, ap, subst, inl}
 use Rattle.hs_base.specs.declared.ends.End.{End}
 use Rattle.flat_codegen.specs.Lasting.{LeavesImage, cut_run}
 use Rattle.heapsafe.specs.declared.program.Way.TheVariants.{Run}
 use Rattle.heapsafe.specs.Shown.{no_memory}
-use Rattle.heapsafe.specs.Program.{AnswersWay, explains_run, input_of}
+use Rattle.heapsafe.specs.Program.{AnswersWay, explains_run, input_of, status_of}
+use Rattle.heapsafe.specs.Places.{told_end_of}
+use Rattle.heapsafe.specs.Saying.{Says}
+use Rattle.bad_free_report.specs.declared.explanation.InForce.{InForce}
 use Rattle.heapsafe.proofs.Told.{gives_said, said_faults}
 use Rattle.heapsafe.proofs.Ended.{counts_said, gives_run, input_said, output_said, program_faults}
 use Rattle.heapsafe.proofs.Broken.{broken_own, broken_run}
@@ -17,7 +20,7 @@ returns-in-Ok-clause-exact g c = λ left k same_out same_err.
     gives_run c.args.file.now c.args.opened.now c.args.core.now (explains_run c.args.explain c.args.steps c.args.limits) left told.put _ _ _ _ _ _ _ _ _ _ _ _ told.took same_err c.args.limits c.args.steps c.args.leaks c.in-Ok.end
     told.is c.in-Ok.ensures.faults same_out
     (record {
-      none = c.finish_run.ensures.says;
+      none = (λ none. subst (λ (a : Option InForce). Says (g.E.Sink.taken c.args.err.now) (g.E.Sink.taken c.finish_run.new.err) (g.E.Sink.faults c.args.err.now) (g.E.Sink.faults c.finish_run.new.err) (told_end_of c.args.core.now c.args.file.now c.args.opened.now a c.in-Ok.end) (status_of c.in-Ok.end) c.finish_run.result) c.explains_run-explains.ensures (c.finish_run.ensures.says none));
       some = λ code asked is.
           let left_is = c.in-Ok.ensures.left left k in
           let image = subst (λ (x : End). LeavesImage c.args.core.now left_is.0 left c.args.steps c.args.limits x kept) is left_is.2 in
@@ -30,11 +33,11 @@ returns-in-Ok-clause-faults g c = λ t.
 
 pub returns-in-Ok-clause-input_fault : goal.returns-in-Ok-clause-input_fault
 returns-in-Ok-clause-input_fault g c = λ more.
-    input_said c.args.leaks c.in-Ok.end c.args.file.now c.args.opened.now c.args.core.now (explains_run c.args.explain c.args.steps c.args.limits) _ _ _ _ _ _ _ _ _ c.in-Ok.ensures.faults more c.finish_run.ensures.says
+    input_said c.args.leaks c.in-Ok.end c.args.file.now c.args.opened.now c.args.core.now (explains_run c.args.explain c.args.steps c.args.limits) _ _ _ _ _ _ _ _ _ c.in-Ok.ensures.faults more (λ none. subst (λ (a : Option InForce). Says (g.E.Sink.taken c.args.err.now) (g.E.Sink.taken c.finish_run.new.err) (g.E.Sink.faults c.args.err.now) (g.E.Sink.faults c.finish_run.new.err) (told_end_of c.args.core.now c.args.file.now c.args.opened.now a c.in-Ok.end) (status_of c.in-Ok.end) c.finish_run.result) c.explains_run-explains.ensures (c.finish_run.ensures.says none))
 
 pub returns-in-Ok-clause-output_fault : goal.returns-in-Ok-clause-output_fault
 returns-in-Ok-clause-output_fault g c = λ more.
-    output_said c.args.leaks c.in-Ok.end c.args.file.now c.args.opened.now c.args.core.now (explains_run c.args.explain c.args.steps c.args.limits) _ _ _ _ _ _ _ _ _ c.in-Ok.ensures.faults more c.finish_run.ensures.says
+    output_said c.args.leaks c.in-Ok.end c.args.file.now c.args.opened.now c.args.core.now (explains_run c.args.explain c.args.steps c.args.limits) _ _ _ _ _ _ _ _ _ c.in-Ok.ensures.faults more (λ none. subst (λ (a : Option InForce). Says (g.E.Sink.taken c.args.err.now) (g.E.Sink.taken c.finish_run.new.err) (g.E.Sink.faults c.args.err.now) (g.E.Sink.faults c.finish_run.new.err) (told_end_of c.args.core.now c.args.file.now c.args.opened.now a c.in-Ok.end) (status_of c.in-Ok.end) c.finish_run.result) c.explains_run-explains.ensures (c.finish_run.ensures.says none))
 
 pub returns-in-Err-clause-exact : goal.returns-in-Err-clause-exact
 returns-in-Err-clause-exact g c = λ left k same_out same_err.
@@ -52,7 +55,7 @@ returns-in-Ok-clause-broken g c = λ left k fails a is more.
     let told = c.in-Ok.ensures.told left k in
     broken_run c.args.file.now c.args.opened.now c.args.core.now (explains_run c.args.explain c.args.steps c.args.limits) left told.put _ _ _ _ _ _ _ _ _ _ _ _ told.took c.args.limits c.args.steps c.args.leaks a c.in-Ok.end is c.in-Ok.ensures.faults told.is
     (record {
-      none = c.finish_run.ensures.says;
+      none = (λ none. subst (λ (a : Option InForce). Says (g.E.Sink.taken c.args.err.now) (g.E.Sink.taken c.finish_run.new.err) (g.E.Sink.faults c.args.err.now) (g.E.Sink.faults c.finish_run.new.err) (told_end_of c.args.core.now c.args.file.now c.args.opened.now a c.in-Ok.end) (status_of c.in-Ok.end) c.finish_run.result) c.explains_run-explains.ensures (c.finish_run.ensures.says none));
       some = λ code asked exits.
           let left_is = c.in-Ok.ensures.left left k in
           let image = subst (λ (x : End). LeavesImage c.args.core.now left_is.0 left c.args.steps c.args.limits x kept) exits left_is.2 in
