@@ -37,6 +37,7 @@ int main(void) {
 }
 """
 
+EXPLAINED = (b"    help: ", b"    limit: ")
 REFUSALS = {136: b"bad code", 137: b"unverified"}
 
 
@@ -49,8 +50,8 @@ def is_file(word):
 
 
 def unlined(said):
-    """What was said, without the source lines below it."""
-    return b"".join(line for line in said.splitlines(True) if not line.startswith(b"  "))
+    """What was said, without the source lines below it; an explanation stays."""
+    return b"".join(line for line in said.splitlines(True) if not line.startswith(b"  ") or line.startswith(EXPLAINED))
 
 
 def unplaced(said):
