@@ -13,7 +13,7 @@ import tempfile
 
 TOP = os.path.dirname(os.path.dirname(os.path.abspath(__file__)))
 PROGRAM = os.path.join(TOP, "heapsafe")
-UNITS, BYTES, RUNS = 64, 16 * 1024, 7
+UNITS, BYTES, RUNS = 64, 16 * 1024, 20
 MAIN = "int main(void) { return 0; }\n"
 
 
