@@ -2,7 +2,7 @@
 """units.py [COMMAND]: what does it cost that a program has many files?
 
 Runs `./heapsafe COMMAND` (COMMAND is `list` where none is given) on 64 files of 16 KiB and on one file that has all of their text, and
-prints, for each kind of text, both processor times and their ratio. Each time is the least of seven runs, of which each is followed by
+prints, for each kind of text, both processor times and their ratio. Each time is the least of twenty runs, of which each is followed by
 one of the other kind. A ratio of 1 is best."""
 
 import os
