@@ -1,5 +1,6 @@
 -- What the program reads, writes and answers for its words.
-use Rattle.std.specs.Prelude.{◌≡◌, ◌-◌, ⊤, ℕ, false, List, [], ◌∷◌, length, Option, Some, None, Ok, Err}
+use Rattle.std.specs.Prelude.{◌≡◌, ◌-◌, ⊤, ℕ, false, List, [], ◌∷◌, length, map, Option, Some, None, Ok, Err}
+use Rattle.std.specs.Borrow.{Bor}
 use Rattle.hs_base.specs.declared.ends.Limits.{Limits}
 use Rattle.c_lexer.specs.declared.token.Token.{Token}
 use Rattle.c_lexer.specs.declared.token.LexKind.{LexKind}
@@ -95,6 +96,14 @@ AnswersCommand (Some (OnFiles files task)) texts input a = AnswersFiles files te
 AnswersCommand (Some (Execute file heap stack steps leaks)) texts input a =
     AnswersExecution file (texts file) input (record { limits = record { heap = heap; stack = stack }; steps = steps; leaks = leaks }) a
 AnswersCommand (Some (Generated number)) texts input a = AnswersGenerated number a
+
+-- the bytes of some words
+abbrev pub spelt : List (Bor (List ℕ)) → List (List ℕ)
+spelt words = map (λ word. word.now) words
+
+-- what they ask for
+abbrev pub asked_by : List (Bor (List ℕ)) → Option Command
+asked_by words = command_of (spelt words)
 
 -- the answer for these words, where each name has this text and the input is this one
 abbrev pub Answers : List (List ℕ) → (List ℕ → List ℕ) → Input → Shown → Type 0

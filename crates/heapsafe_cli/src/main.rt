@@ -1,7 +1,7 @@
 //! The program `heapsafe`: makes the real objects, calls the top call, and ends with its status.
 #![tactic(auto)]
 
-use heapsafe::heapsafe;
+use heapsafe::{Streams, heapsafe};
 use hs_base::{FileTexts, NoMemory, StdSink, StdSource};
 use std::alloc::Global;
 use std::env;
@@ -40,13 +40,16 @@ fn texts_of<'a>(alloc: Global, words: &'a Vec<String>) -> Result<Vec<&'a str>, N
 fn run(rt: &HostRuntime) -> Result<u8, NoMemory> {
     let words = words(rt)?;
     let texts = texts_of(rt.alloc(), &words)?;
+    let mut streams = Streams {
+        input: StdSource::new(rt.stdin()),
+        out: StdSink::new(rt.stdout()),
+        err: StdSink::new(rt.stderr()),
+    };
     Ok(heapsafe(
         rt.alloc(),
         texts.as_slice(),
         &mut FileTexts::new(rt),
-        &mut StdSource::new(rt.stdin()),
-        &mut StdSink::new(rt.stdout()),
-        &mut StdSink::new(rt.stderr()),
+        &mut streams,
     ))
 }
 

@@ -2,7 +2,7 @@
 
 ghost use Rattle.std.specs.Prelude.{◌+◌, ◌<◌, ◌^◌};
 
-use heapsafe::heapsafe;
+use heapsafe::{Streams, heapsafe};
 use hs_base::{Items, MemSink, MemSource, MemTexts, Sink};
 use std::alloc::Global;
 use std::test::Fail;
@@ -37,10 +37,10 @@ pub(crate) const NONE: Failing = Failing {
 
 /// What is left of the input, what is written to the two streams, and the status.
 #[derive(Drop)]
-pub(crate) struct Seen {
+pub(crate) struct Seen<O, E> {
     pub(crate) input: MemSource,
-    pub(crate) out: MemSink,
-    pub(crate) err: MemSink,
+    pub(crate) out: O,
+    pub(crate) err: E,
     pub(crate) status: u8,
 }
 
@@ -52,19 +52,18 @@ pub(crate) fn calls(alloc: Global, number: u64) -> Result<Items<u64>, Fail> {
     Ok(Items::from(Vec::from_slice(alloc, &[number])?))
 }
 
-/// What is done for words with this text under the name a.c, this input and these streams: what is left of the input, and the
-/// status.
-pub(crate) fn answer_to<O: Sink, E: Sink>(
+/// What is done for words with this text under the name a.c, this input and these streams.
+pub(crate) fn answer_to<O: Sink + Drop, E: Sink + Drop>(
     alloc: Global,
     words: &[&str],
     text: &[u8],
     input: &[u8],
     failing: Failing,
-    out: &mut O,
-    err: &mut E,
-) -> Result<(MemSource, u8), Fail>
-    requires out { O.faults out.old + 1 < 2 ^ 64 }
-    requires err { E.faults err.old + 1 < 2 ^ 64 }
+    out: O,
+    err: E,
+) -> Result<Seen<O, E>, Fail>
+    requires out { O.faults out + 1 < 2 ^ 64 }
+    requires err { E.faults err + 1 < 2 ^ 64 }
 {
     let mut texts = Items::new(alloc);
     texts.push((
@@ -72,12 +71,19 @@ pub(crate) fn answer_to<O: Sink, E: Sink>(
         Items::from(Vec::from_slice(alloc, text)?),
     ))?;
     let mut texts = MemTexts::new(texts, calls(alloc, failing.text)?);
-    let mut input = MemSource::new(
+    let input = MemSource::new(
         Items::from(Vec::from_slice(alloc, input)?),
         calls(alloc, failing.input)?,
     );
-    let status = heapsafe(alloc, words, &mut texts, &mut input, out, err);
-    Ok((input, status))
+    let mut io = Streams { input, out, err };
+    let status = heapsafe(alloc, words, &mut texts, &mut io);
+    let Streams { input, out, err } = io;
+    Ok(Seen {
+        input,
+        out,
+        err,
+        status,
+    })
 }
 
 /// The same with streams that take a byte per call.
@@ -87,14 +93,8 @@ pub(crate) fn answer(
     text: &[u8],
     input: &[u8],
     failing: Failing,
-) -> Result<Seen, Fail> {
-    let mut out = MemSink::new(alloc, 1, calls(alloc, failing.out)?);
-    let mut err = MemSink::new(alloc, 1, calls(alloc, failing.err)?);
-    let (input, status) = answer_to(alloc, words, text, input, failing, &mut out, &mut err)?;
-    Ok(Seen {
-        input,
-        out,
-        err,
-        status,
-    })
+) -> Result<Seen<MemSink, MemSink>, Fail> {
+    let out = MemSink::new(alloc, 1, calls(alloc, failing.out)?);
+    let err = MemSink::new(alloc, 1, calls(alloc, failing.err)?);
+    answer_to(alloc, words, text, input, failing, out, err)
 }

@@ -20,12 +20,11 @@ fn untold_output(rt: HostRuntime) -> Result<(), Fail> {
     ];
     for (command, text, left, said, status) in rows {
         let words = [command, "a.c"];
-        let mut out = SureSink::new();
-        let mut err = MemSink::new(alloc, 1, calls(alloc, 0)?);
-        let (input, answered) = answer_to(alloc, &words, text, b"hi", NONE, &mut out, &mut err)?;
-        assert_eq!(rt; answered, status);
-        assert_eq!(rt; err.bytes(), said);
-        assert_eq!(rt; input.left(), left);
+        let err = MemSink::new(alloc, 1, calls(alloc, 0)?);
+        let seen = answer_to(alloc, &words, text, b"hi", NONE, SureSink::new(), err)?;
+        assert_eq!(rt; seen.status, status);
+        assert_eq!(rt; seen.err.bytes(), said);
+        assert_eq!(rt; seen.input.left(), left);
     }
     Ok(())
 }
@@ -45,12 +44,11 @@ fn untold_errors(rt: HostRuntime) -> Result<(), Fail> {
     ];
     for (command, text, fails, written, left, status) in rows {
         let words = [command, "a.c"];
-        let mut out = MemSink::new(alloc, 1, calls(alloc, fails)?);
-        let mut err = SureSink::new();
-        let (input, answered) = answer_to(alloc, &words, text, b"hi", NONE, &mut out, &mut err)?;
-        assert_eq!(rt; answered, status);
-        assert_eq!(rt; out.bytes(), written);
-        assert_eq!(rt; input.left(), left);
+        let out = MemSink::new(alloc, 1, calls(alloc, fails)?);
+        let seen = answer_to(alloc, &words, text, b"hi", NONE, out, SureSink::new())?;
+        assert_eq!(rt; seen.status, status);
+        assert_eq!(rt; seen.out.bytes(), written);
+        assert_eq!(rt; seen.input.left(), left);
     }
     Ok(())
 }
