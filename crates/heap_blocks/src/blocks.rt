@@ -7,6 +7,7 @@ ghost use Rattle.heap_blocks.specs.Bytes.{ChangesOnly};
 ghost use Rattle.heap_blocks.specs.Heads.{new_header};
 ghost use Rattle.heap_blocks.specs.Runs.{HasNoRun, IsFirstRun};
 ghost use Rattle.heap_blocks.specs.Held.{Holds, HasAddress, HasBounds, HasHeaders, HaveOwnBirths, IsHeap, IsHeldObject, IsNewObject, IsObject, IsPlaced, IsWithin, address_of, fit_of, owner_of};
+ghost use Rattle.heap_blocks.specs.Calls.{EachHeaded, EachHeld, FindsRun, StepsIfFound, address_for, held_with, AnswersOwner, ChangesBlock, ForOwner, GainsHeader, IsPlacedObject};
 
 use crate::headers::{HEADER_SIZE, Header};
 use crate::marks::{Mark, Marks};
@@ -100,7 +101,7 @@ impl Heap {
     fn room(&mut self, size: u64) -> Option<u32>
         ensures same { self.new ≡ self.old }
         ensures shape { IsHeap self.old.base self.old.len self.old.marks }
-        ensures place { MatchOption result (HasNoRun self.old.marks (size / 16 + 3)) (IsFirstRun self.old.marks (size / 16 + 3)) }
+        ensures place { FindsRun self.old.marks (size / 16 + 3) result }
     {
         if size >= u64::from(self.len) {
             return None;
@@ -125,19 +126,19 @@ impl Heap {
 
         // What is held, for each list of blocks that the heap holds.
         ensures bounds { HasBounds self.old.base self.old.len self.new }
-        ensures address { (held : List Block) → Holds self.old held → result ≡ option_map (address_of self.old) (fit_of self.old held size) }
-        ensures held { (held : List Block) → Holds self.old held → Holds self.new (with_block held birth (block_size size) (fit_of self.old held size)) }
-        ensures headers { (held : List Block) → Holds self.old held → HasHeaders self.old.base bytes.old held → HasHeaders self.new.base bytes.new (with_block held birth (block_size size) (fit_of self.old held size)) }
-        ensures object { (held : List Block) → Holds self.old held → HasHeaders self.old.base bytes.old held → IfSome result (IsNewObject self.new bytes.new held birth size) }
+        ensures address { EachHeld self.old (λ held. result ≡ address_for self.old held size) }
+        ensures held { EachHeld self.old (λ held. Holds self.new (held_with self.old held birth size)) }
+        ensures headers { GainsHeader self.old self.new bytes.old bytes.new birth size }
+        ensures object { EachHeaded self.old bytes.old (λ held. IfSome result (IsNewObject self.new bytes.new held birth size)) }
 
         // The bytes.
         ensures long { length bytes.new ≡ length bytes.old }
         ensures aligned { IfSome result (λ addr. addr % 16 ≡ 0) }
         ensures within { IfSome result (IsWithin self.old size) }
-        ensures placed { IfSome result (λ addr. IsPlaced bytes.old bytes.new addr (block_size size) (new_header birth size layout line)) }
+        ensures placed { IfSome result (IsPlacedObject bytes.old bytes.new birth size layout line) }
         ensures beside { ChangesOnly bytes.old bytes.new self.old.base self.old.len }
         ensures none { IfNone result ((self.new ≡ self.old) × (bytes.new ≡ bytes.old)) }
-        ensures steps { MatchOption result (steps.new ≡ steps.old) (λ _. steps.new ≡ steps.old + (7 + rounded_up (size + 1) / 8)) }
+        ensures steps { StepsIfFound result steps.old steps.new (7 + rounded_up (size + 1) / 8) }
     {
         let Some(from) = self.room(size) else {
             return None;
@@ -156,10 +157,10 @@ impl Heap {
         requires reach { self.old.base + self.old.len ≤ length bytes.old }
         requires object { IsHeldObject self.old bytes.old addr }
         ensures bounds { HasBounds self.old.base self.old.len self.new }
-        ensures held { (held : List Block) (b : Block) → IsObject self.old bytes.old addr held b → HaveOwnBirths held → Holds self.new (without_block held b.birth) }
-        ensures headers { (held : List Block) (b : Block) → IsObject self.old bytes.old addr held b → HasHeaders self.new.base bytes.new (without_block held b.birth) }
+        ensures held { ForOwner self.old bytes.old addr (λ held b. HaveOwnBirths held → Holds self.new (without_block held b.birth)) }
+        ensures headers { ForOwner self.old bytes.old addr (λ held b. HasHeaders self.new.base bytes.new (without_block held b.birth)) }
         ensures long { length bytes.new ≡ length bytes.old }
-        ensures outside { (held : List Block) (b : Block) → IsObject self.old bytes.old addr held b → ChangesOnly bytes.old bytes.new (self.old.base + b.place) b.length }
+        ensures outside { ForOwner self.old bytes.old addr (λ _ b. ChangesBlock self.old b bytes.old bytes.new) }
         ensures beside { ChangesOnly bytes.old bytes.new self.old.base self.old.len }
         ensures least { steps.old ≤ steps.new }
         ensures most { steps.new ≤ steps.old + 4 }
@@ -181,8 +182,8 @@ impl Heap {
         addr: u32,
         steps: &mut Steps<L>,
     ) -> Option<u32>
-        ensures owner { (held : List Block) → Holds self.now held → result ≡ owner_of self.now held addr }
-        ensures held { (held : List Block) (b : Block) → Holds self.now held → Contains held b → HasAddress self.now addr b → result ≡ Some (address_of self.now b.place) }
+        ensures owner { EachHeld self.now (λ held. result ≡ owner_of self.now held addr) }
+        ensures held { AnswersOwner self.now addr result }
         ensures reach { self.now.base + self.now.len < 2 ^ 32 }
         ensures least { steps.old ≤ steps.new }
         ensures most { steps.new ≤ steps.old + 4 }

@@ -4,6 +4,7 @@ ghost use Rattle.std.specs.Prelude.{◌≡◌, ◌+◌, ◌^◌, ◌<◌, ◌≤
 ghost use Rattle.byte_memory.specs.Bytes.{word};
 ghost use Rattle.heap_blocks.specs.Bytes.{ChangesOnly};
 ghost use Rattle.heap_blocks.specs.Heads.{header_at, new_header};
+ghost use Rattle.heap_blocks.specs.Calls.{queued};
 
 use byte_memory::{FlatBytes, Steps};
 use hs_base::Line;
@@ -137,7 +138,7 @@ impl Header {
     )
         requires inside { block + HEADER_SIZE ≤ length bytes.old }
         requires fits { block + HEADER_SIZE < 2 ^ 32 }
-        ensures header { header_at bytes.new block ≡ record (header_at bytes.old block) { state = STATE_QUEUED; freed = freed; next = 0 } }
+        ensures header { header_at bytes.new block ≡ queued (header_at bytes.old block) STATE_QUEUED freed }
         ensures outside { ChangesOnly bytes.old bytes.new (block + 20) 12 }
         ensures steps { steps.new ≡ steps.old + 3 }
     {
