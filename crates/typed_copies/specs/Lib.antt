@@ -1,3 +1,4 @@
 pub mod Slots
 pub mod Pointers
 pub mod Copying
+pub mod Ranges

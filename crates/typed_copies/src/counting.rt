@@ -3,7 +3,8 @@
 ghost use Rattle.std.specs.Prelude.{◌+◌, ◌*◌, ◌/◌, ◌^◌, ◌<◌, ◌≤◌, ℕ, ◌∷◌, [], All, length, sum, slice_index};
 ghost use Rattle.c_types.specs.Layouts.{AreSlots};
 ghost use Rattle.adjusters.specs.ObjectSlots.{object_slots};
-ghost use Rattle.typed_copies.specs.Pointers.{Follow, HaveRoom, into_granule, words_in};
+ghost use Rattle.typed_copies.specs.Pointers.{Follow, HaveRoom, into_granule, words_in, Cover};
+ghost use Rattle.typed_copies.specs.Ranges.{HasGranules, range_words};
 
 use crate::Ranged;
 use crate::slots::Within;
@@ -48,8 +49,8 @@ pub(crate) fn take_off<L: Ledger>(
     requires within { within.first + within.count ≤ length (object_slots form.now range.size) }
     requires inside { range.start + range.size ≤ length bytes.now }
     requires reach { length bytes.now < 2 ^ 32 }
-    requires covered { (granule : ℕ) → into_granule granule (words_in bytes.now range.start (object_slots form.now range.size) within) ≤ slice_index counts.old.counts granule }
-    ensures follow { Follow counts.old counts.new (words_in bytes.now range.start (object_slots form.now range.size) within) [] }
+    requires covered { Cover counts.old (range_words form.now bytes.now range within) }
+    ensures follow { Follow counts.old counts.new (range_words form.now bytes.now range within) [] }
     ensures work { steps.new ≤ steps.old + 2 * within.count }
 {
     for k in 0..within.count {
@@ -72,9 +73,9 @@ pub(crate) fn put_on<L: Ledger>(
     requires within { within.first + within.count ≤ length (object_slots form.now range.size) }
     requires inside { range.start + range.size ≤ length bytes.now }
     requires reach { length bytes.now < 2 ^ 32 }
-    requires granules { All (λ w. w / 16 < length counts.old.counts) (words_in bytes.now range.start (object_slots form.now range.size) within) }
-    requires room { HaveRoom counts.old [] (words_in bytes.now range.start (object_slots form.now range.size) within) }
-    ensures follow { Follow counts.old counts.new [] (words_in bytes.now range.start (object_slots form.now range.size) within) }
+    requires granules { HasGranules counts.old (range_words form.now bytes.now range within) }
+    requires room { HaveRoom counts.old [] (range_words form.now bytes.now range within) }
+    ensures follow { Follow counts.old counts.new [] (range_words form.now bytes.now range within) }
     ensures work { steps.new ≤ steps.old + 2 * within.count }
 {
     for k in 0..within.count {

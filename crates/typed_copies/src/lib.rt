@@ -25,6 +25,7 @@ ghost use Rattle.adjusters.specs.ObjectSlots.{Element, object_slots};
 ghost use Rattle.typed_copies.specs.Slots.{AreWithin};
 ghost use Rattle.typed_copies.specs.Pointers.{ArePointers, Cover, Follow, HaveRoom, words_in};
 ghost use Rattle.typed_copies.specs.Copying.{Answers, HasRoom, IsCleared, IsCopied, IsInside, IsRangeIn, SameFrame, form_at, slots_of, words_of};
+ghost use Rattle.typed_copies.specs.Ranges.{AnswersCopy, AnswersSet, Clears, Copies, FollowRange, HasRoomToMove, MovesPointers, common, range_words};
 
 mod counting;
 mod moving;
@@ -79,11 +80,11 @@ fn replace<L: Ledger>(
     requires range { dst.offset + n ≤ dst.size }
     requires from { from + n ≤ length bytes.old }
     requires into { AreWithin (object_slots form.now dst.size) dst.offset n into }
-    requires pointers { ArePointers bytes.old counts.old (words_in (overlaid bytes.old (dst.start + dst.offset) (part bytes.old from n)) dst.start (object_slots form.now dst.size) into) }
-    requires covered { Cover counts.old (words_in bytes.old dst.start (object_slots form.now dst.size) into) }
-    requires room { HaveRoom counts.old (words_in bytes.old dst.start (object_slots form.now dst.size) into) (words_in (overlaid bytes.old (dst.start + dst.offset) (part bytes.old from n)) dst.start (object_slots form.now dst.size) into) }
+    requires pointers { MovesPointers form.now bytes.old counts.old dst into from n }
+    requires covered { Cover counts.old (range_words form.now bytes.old dst into) }
+    requires room { HasRoomToMove form.now bytes.old counts.old dst into from n }
     ensures moved { bytes.new ≡ overlaid bytes.old (dst.start + dst.offset) (part bytes.old from n) }
-    ensures follow { Follow counts.old counts.new (words_in bytes.old dst.start (object_slots form.now dst.size) into) (words_in bytes.new dst.start (object_slots form.now dst.size) into) }
+    ensures follow { FollowRange form.now dst into bytes.old bytes.new counts.old counts.new }
     ensures work { steps.new ≤ steps.old + 3 * n }
 {
     take_off(bytes, counts, form, dst, into, steps);
@@ -110,9 +111,9 @@ fn transfer<L: Ledger>(
     requires room { HasRoom forms.now bytes.old counts.old dst src n }
     requires into { dst.offset + n ≤ dst.size }
     requires from { src.offset + n ≤ src.size }
-    ensures answers { (objects : List Object) (p q : values.Pointer) → IsRangeIn forms.now objects p dst → IsRangeIn forms.now objects q src → Answers result (access.copy objects p q n) }
+    ensures answers { AnswersCopy forms.now dst src n result }
     ensures layout { IfErr result (λ kind. kind ≡ TrapKind.Layout) }
-    ensures copied { OnOk result (IsCopied (slots_of forms.now dst) (slots_of forms.now src) dst src n bytes.old bytes.new counts.old counts.new) }
+    ensures copied { OnOk result (Copies forms.now dst src n bytes.old bytes.new counts.old counts.new) }
     ensures refused { OnErr result ((bytes.new ≡ bytes.old) × (counts.new ≡ counts.old)) }
     ensures frame { SameFrame bytes.old bytes.new counts.old counts.new }
     ensures work { steps.new ≤ steps.old + 3 * n }
@@ -166,8 +167,8 @@ pub fn copy<L: Ledger>(
     requires room { HasRoom forms.now bytes.old counts.old dst src n }
 
     // For all objects that have the ranges.
-    ensures answers { (objects : List Object) (p q : values.Pointer) → IsRangeIn forms.now objects p dst → IsRangeIn forms.now objects q src → Answers result (access.copy objects p q n) }
-    ensures copied { OnOk result (IsCopied (slots_of forms.now dst) (slots_of forms.now src) dst src n bytes.old bytes.new counts.old counts.new) }
+    ensures answers { AnswersCopy forms.now dst src n result }
+    ensures copied { OnOk result (Copies forms.now dst src n bytes.old bytes.new counts.old counts.new) }
     ensures refused { OnErr result ((bytes.new ≡ bytes.old) × (counts.new ≡ counts.old)) }
     ensures frame { SameFrame bytes.old bytes.new counts.old counts.new }
     ensures work { steps.new ≤ steps.old + 3 * n }
@@ -201,8 +202,8 @@ pub fn clear<L: Ledger>(
     requires formed { All (λ (form : Element). AreSlots 0 form.size form.slots) forms.now }
     requires destination { IsInside forms.now bytes.old dst }
     requires covered { Cover counts.old (words_of forms.now bytes.old dst) }
-    ensures answers { (objects : List Object) (p : values.Pointer) → IsRangeIn forms.now objects p dst → Answers result (access.set_bytes objects p byte n) }
-    ensures cleared { OnOk result (IsCleared (slots_of forms.now dst) dst byte n bytes.old bytes.new counts.old counts.new) }
+    ensures answers { AnswersSet forms.now dst byte n result }
+    ensures cleared { OnOk result (Clears forms.now dst byte n bytes.old bytes.new counts.old counts.new) }
     ensures refused { OnErr result ((bytes.new ≡ bytes.old) × (counts.new ≡ counts.old)) }
     ensures frame { SameFrame bytes.old bytes.new counts.old counts.new }
     ensures work { steps.new ≤ steps.old + 2 * n }
@@ -244,9 +245,9 @@ pub fn grow<L: Ledger>(
     requires pointers { ArePointers bytes.old counts.old (words_of forms.now bytes.old src) }
     requires covered { Cover counts.old (words_of forms.now bytes.old dst) }
     requires room { HasRoom forms.now bytes.old counts.old dst src (min src.size dst.size) }
-    ensures answers { (objects : List Object) (p q : values.Pointer) → IsRangeIn forms.now objects p dst → IsRangeIn forms.now objects q src → Answers result (access.copy objects p q (min src.size dst.size)) }
+    ensures answers { AnswersCopy forms.now dst src (common dst src) result }
     ensures layout { IfErr result (λ kind. kind ≡ TrapKind.Layout) }
-    ensures copied { OnOk result (IsCopied (slots_of forms.now dst) (slots_of forms.now src) dst src (min src.size dst.size) bytes.old bytes.new counts.old counts.new) }
+    ensures copied { OnOk result (Copies forms.now dst src (common dst src) bytes.old bytes.new counts.old counts.new) }
     ensures refused { OnErr result ((bytes.new ≡ bytes.old) × (counts.new ≡ counts.old)) }
     ensures frame { SameFrame bytes.old bytes.new counts.old counts.new }
     ensures work { steps.new ≤ steps.old + 3 * min src.size dst.size }

@@ -6,6 +6,7 @@ ghost use Rattle.c_types.specs.Layouts.{AreSlots};
 ghost use Rattle.hs_base.specs.Access.{cuts_slot};
 ghost use Rattle.adjusters.specs.ObjectSlots.{object_slots};
 ghost use Rattle.typed_copies.specs.Slots.{AreWithin, AtSameDistances, Correspond, Splits, slots_agree, slots_allow};
+ghost use Rattle.typed_copies.specs.Ranges.{RangesCorrespond, RangesMatch, is_inside_slot, range_allows, range_cuts, ranges_agree};
 
 use crate::Ranged;
 use adjusters::Adjuster;
@@ -39,7 +40,7 @@ fn slots_below(form: &Adjuster, size: u32, offset: u32) -> u32
 fn is_cut(form: &Adjuster, size: u32, edge: u32, below: u32) -> bool
     requires form { AreSlots 0 form.now.size form.now.slots }
     requires below { Splits (object_slots form.now size) edge below }
-    ensures { result ≡ list_any (λ s. nat_lt s edge && nat_lt edge (s + 4)) (object_slots form.now size) }
+    ensures { result ≡ is_inside_slot edge (object_slots form.now size) }
 {
     below > 0 && form.slot(size, below - 1) + 4 > edge
 }
@@ -48,8 +49,8 @@ fn is_cut(form: &Adjuster, size: u32, edge: u32, below: u32) -> bool
 pub(crate) fn slots_within(form: &Adjuster, range: Ranged, n: u32) -> Option<Within>
     requires form { AreSlots 0 form.now.size form.now.slots }
     requires inside { range.offset + n ≤ range.size }
-    ensures none { IfNone result (cuts_slot (object_slots form.now range.size) range.offset n ≡ true) }
-    ensures uncut { OnSome result (cuts_slot (object_slots form.now range.size) range.offset n ≡ false) }
+    ensures none { IfNone result (range_cuts form.now range n ≡ true) }
+    ensures uncut { OnSome result (range_cuts form.now range n ≡ false) }
     ensures some { IfSome result (AreWithin (object_slots form.now range.size) range.offset n) }
 {
     let first = slots_below(form, range.size, range.offset);
@@ -79,7 +80,7 @@ fn at_same_distances(
     requires s_form { AreSlots 0 s_form.now.size s_form.now.slots }
     requires into { (n : ℕ) × AreWithin (object_slots d_form.now dst.size) dst.offset n into }
     requires out { (n : ℕ) × AreWithin (object_slots s_form.now src.size) src.offset n out }
-    ensures { IsTrue result ↔ AtSameDistances (object_slots d_form.now dst.size) dst.offset into (object_slots s_form.now src.size) src.offset out }
+    ensures { IsTrue result ↔ RangesMatch d_form.now dst into s_form.now src out }
 {
     if out.count != into.count {
         return false;
@@ -107,9 +108,9 @@ pub(crate) fn corresponding(
     requires s_form { AreSlots 0 s_form.now.size s_form.now.slots }
     requires dst { dst.offset + n ≤ dst.size }
     requires src { src.offset + n ≤ src.size }
-    ensures none { IfNone result (slots_agree (object_slots d_form.now dst.size) dst.offset (object_slots s_form.now src.size) src.offset n ≡ false) }
-    ensures agree { OnSome result (slots_agree (object_slots d_form.now dst.size) dst.offset (object_slots s_form.now src.size) src.offset n ≡ true) }
-    ensures some { IfSome result (Correspond (object_slots d_form.now dst.size) dst.offset (object_slots s_form.now src.size) src.offset n) }
+    ensures none { IfNone result (ranges_agree d_form.now dst s_form.now src n ≡ false) }
+    ensures agree { OnSome result (ranges_agree d_form.now dst s_form.now src n ≡ true) }
+    ensures some { IfSome result (RangesCorrespond d_form.now dst s_form.now src n) }
 {
     let into = slots_within(d_form, dst, n)?;
     let out = slots_within(s_form, src, n)?;
@@ -124,8 +125,8 @@ pub(crate) fn corresponding(
 pub(crate) fn settable(form: &Adjuster, range: Ranged, byte: u8, n: u32) -> Option<Within>
     requires form { AreSlots 0 form.now.size form.now.slots }
     requires inside { range.offset + n ≤ range.size }
-    ensures none { IfNone result (slots_allow (object_slots form.now range.size) range.offset byte n ≡ false) }
-    ensures allow { OnSome result (slots_allow (object_slots form.now range.size) range.offset byte n ≡ true) }
+    ensures none { IfNone result (range_allows form.now range byte n ≡ false) }
+    ensures allow { OnSome result (range_allows form.now range byte n ≡ true) }
     ensures some { IfSome result (AreWithin (object_slots form.now range.size) range.offset n) }
     ensures null { IfSome result (λ within. (byte ≡ 0) ⊎ (within.count ≡ 0)) }
 {
