@@ -7,6 +7,7 @@ ghost use Rattle.hs_base.specs.Freeing.{first_held};
 ghost use Rattle.delay_scopes.specs.Pointers.{LowersBy, into_granule, slots_of, words_in, words_inside};
 ghost use Rattle.delay_scopes.specs.Check.{granules_of, checked};
 ghost use Rattle.delay_scopes.specs.Walks.{AreCovered, IsChain, IsCovered, IsInside};
+ghost use Rattle.delay_scopes.specs.Ends.{Checks, ChecksWithin, Cover, FindsHeld, FindsWithin, TakesOff, TakesOffWithin, has_counts};
 
 use crate::scopes::Scopes;
 use adjusters::Adjuster;
@@ -43,7 +44,7 @@ pub fn take_off_object<L: Ledger>(
 /// Takes the pointer in a slot at an address off the count of the granule that it leads into, where it is not null.
 fn take_off<L: Ledger>(bytes: &FlatBytes, counts: &mut Counts, slot: u32, steps: &mut Steps<L>)
     requires inside { slot + 4 ≤ length bytes.now }
-    requires covered { (granule : ℕ) → into_granule granule (word bytes.now slot 4 ∷ []) ≤ slice_index counts.old.counts granule }
+    requires covered { Cover counts.old (word bytes.now slot 4 ∷ []) }
     ensures counts { LowersBy (word bytes.now slot 4 ∷ []) counts.old counts.new }
     ensures work { steps.new ≤ steps.old + 2 }
 {
@@ -62,7 +63,7 @@ pub fn is_held<L: Ledger>(
 ) -> bool
     requires inside { IsInside bytes.now addr }
     requires granules { length bytes.now ≤ 16 * length counts.now.counts }
-    ensures held { result ≡ not (nat_eq (sum_by (slice_index counts.now.counts) (granules_of bytes.now addr)) 0) }
+    ensures held { result ≡ has_counts counts.now.counts bytes.now addr }
     ensures work { steps.new ≤ steps.old + (1 + length (granules_of bytes.now addr)) }
 {
     let block = addr - HEADER_SIZE;
@@ -80,8 +81,8 @@ impl Scopes {
         steps: &mut Steps<L>,
     )
         requires { (queue : List ℕ) × AreCovered self.now bytes.now counts.old forms.now queue }
-        ensures counts { (queue : List ℕ) → AreCovered self.now bytes.now counts.old forms.now queue → LowersBy (words_inside forms.now bytes.now queue) counts.old counts.new }
-        ensures work { (queue : List ℕ) → AreCovered self.now bytes.now counts.old forms.now queue → steps.new ≤ steps.old + sum_by (λ addr. 3 + 2 * length (slots_of forms.now bytes.now addr)) queue }
+        ensures counts { TakesOff self.now bytes.now counts.old forms.now counts.new }
+        ensures work { TakesOffWithin self.now bytes.now counts.old forms.now steps.old steps.new }
     {
         let mut block = self.first;
         for _place in 0..self.waiting {
@@ -99,8 +100,8 @@ impl Scopes {
     ) -> Option<u32>
         requires chain { (queue : List ℕ) × IsChain self.now bytes.now queue }
         requires granules { length bytes.now ≤ 16 * length counts.now.counts }
-        ensures held { (queue : List ℕ) → IsChain self.now bytes.now queue → result ≡ first_held (λ addr. not (nat_eq (sum_by (slice_index counts.now.counts) (granules_of bytes.now addr)) 0)) queue }
-        ensures work { (queue : List ℕ) → IsChain self.now bytes.now queue → steps.new ≤ steps.old + sum_by (λ addr. 2 + length (granules_of bytes.now addr)) queue }
+        ensures held { FindsHeld self.now bytes.now counts.now result }
+        ensures work { FindsWithin self.now bytes.now steps.old steps.new }
     {
         let mut block = self.first;
         for _place in 0..self.waiting {
@@ -123,9 +124,9 @@ impl Scopes {
     ) -> Option<u32>
         requires covered { (queue : List ℕ) × AreCovered self.now bytes.now counts.old forms.now queue }
         requires granules { length bytes.now ≤ 16 * length counts.old.counts }
-        ensures answer { (queue : List ℕ) → AreCovered self.now bytes.now counts.old forms.now queue → result ≡ checked forms.now bytes.now counts.old.counts queue }
-        ensures counts { (queue : List ℕ) → AreCovered self.now bytes.now counts.old forms.now queue → LowersBy (words_inside forms.now bytes.now queue) counts.old counts.new }
-        ensures work { (queue : List ℕ) → AreCovered self.now bytes.now counts.old forms.now queue → steps.new ≤ steps.old + sum_by (λ addr. 5 + length (granules_of bytes.now addr) + 2 * length (slots_of forms.now bytes.now addr)) queue }
+        ensures answer { Checks self.now bytes.now counts.old forms.now result }
+        ensures counts { TakesOff self.now bytes.now counts.old forms.now counts.new }
+        ensures work { ChecksWithin self.now bytes.now counts.old forms.now steps.old steps.new }
     {
         self.take_off_all(bytes, counts, forms, steps);
         self.find_held(bytes, counts, steps)

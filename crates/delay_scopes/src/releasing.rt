@@ -4,6 +4,7 @@ ghost use Rattle.std.specs.Prelude.{◌+◌, ◌*◌, ◌≤◌, ℕ, List};
 ghost use Rattle.hs_base.specs.Place.{Block};
 ghost use Rattle.delay_scopes.specs.Check.{IsReleased};
 ghost use Rattle.delay_scopes.specs.Walks.{MayRelease};
+ghost use Rattle.delay_scopes.specs.Ends.{Releases, MayReleaseSome};
 
 use crate::scopes::Scopes;
 use byte_memory::{FlatBytes, Steps};
@@ -18,8 +19,8 @@ impl Scopes {
         bytes: &mut FlatBytes,
         steps: &mut Steps<L>,
     )
-        requires { (held : List Block) × (queue : List ℕ) × MayRelease self.now heap.old bytes.old held queue }
-        ensures released { (held : List Block) (queue : List ℕ) → MayRelease self.now heap.old bytes.old held queue → IsReleased heap.old heap.new bytes.old bytes.new held queue }
+        requires { MayReleaseSome self.now heap.old bytes.old }
+        ensures released { Releases self.now heap.old heap.new bytes.old bytes.new }
         ensures work { steps.new ≤ steps.old + 5 * self.now.waiting }
     {
         let mut block = self.first;

@@ -9,6 +9,8 @@ ghost use Rattle.delay_scopes.specs.Queue.{IsStart, KeepsQueue, KeepsSomeQueue, 
 ghost use Rattle.delay_scopes.specs.Freed.{AnswersFree, IsQueuedNow, linked_header};
 ghost use Rattle.delay_scopes.specs.Pointers.{LowersBy, words_inside};
 ghost use Rattle.delay_scopes.specs.Check.{IsReady, IsReadyForSome, IsReleased, answer_of, checked, no_scopes, work_of};
+ghost use Rattle.delay_scopes.specs.Ends.{AnswersEnd, EndLowers, EndNames, EndReleases, EndsWithin, Queues, closed, LinksLast};
+ghost use Rattle.heap_blocks.specs.Calls.{EachHeld};
 
 use adjusters::Adjuster;
 use byte_memory::{FlatBytes, Steps};
@@ -23,7 +25,7 @@ const OUTERMOST: u64 = 1;
 
 /// Says whether an object of a heap starts at an address. At most four steps.
 fn is_start<L: Ledger>(heap: &Heap, bytes: &FlatBytes, addr: u32, steps: &mut Steps<L>) -> bool
-    ensures start { (held : List Block) → Holds heap.now held → IsTrue result ↔ IsStart heap.now.base held addr }
+    ensures start { EachHeld heap.now (λ held. IsTrue result ↔ IsStart heap.now.base held addr) }
     ensures reach { heap.now.base + heap.now.len < 2 ^ 32 }
     ensures work { steps.new ≤ steps.old + 4 }
 {
@@ -101,10 +103,10 @@ impl Scopes {
         requires open { 0 < self.old.depth }
         requires reach { heap.now.base + heap.now.len ≤ length bytes.old }
         requires kept { KeepsSomeQueue self.old heap.now bytes.old }
-        ensures answer { (held : List Block) → Holds heap.now held → AnswersFree heap.now.base bytes.old held addr line result }
+        ensures answer { EachHeld heap.now (λ held. AnswersFree heap.now.base bytes.old held addr line result) }
 
         // A free that is good.
-        ensures queued { (held : List Block) (queue : List ℕ) → KeepsQueue self.old heap.now bytes.old held queue → OnOk result (KeepsQueue self.new heap.now bytes.new held (queue ++ addr ∷ [])) }
+        ensures queued { Queues self.old self.new heap.now bytes.old bytes.new addr result }
         ensures bytes { OnOk result (IsQueuedNow self.old bytes.old bytes.new addr line) }
         ensures depth { self.new.depth ≡ self.old.depth }
         ensures named { self.new.named ≡ self.old.named }
@@ -138,7 +140,7 @@ impl Scopes {
         requires room { self.old.waiting + 1 < 2 ^ 32 }
         ensures appended { self.new ≡ appended self.old block }
         ensures alone { self.old.waiting ≡ 0 → bytes.new ≡ bytes.old }
-        ensures link { 0 < self.old.waiting → header_at bytes.new self.old.last ≡ linked_header (header_at bytes.old self.old.last) block }
+        ensures link { LinksLast self.old bytes.old bytes.new block }
         ensures outside { 0 < self.old.waiting → ChangesOnly bytes.old bytes.new (self.old.last + 28) 4 }
         ensures work { steps.new ≤ steps.old + 1 }
     {
@@ -170,20 +172,20 @@ impl Scopes {
         requires ready { self.old.depth ≡ 1 → IsReadyForSome self.old heap.old bytes.old counts.old forms.now }
 
         // The end of an inner scope.
-        ensures inner { 1 < self.old.depth → (result ≡ Ok tt) × (self.new ≡ record self.old { depth = self.old.depth - 1 }) × (steps.new ≡ steps.old) }
+        ensures inner { 1 < self.old.depth → (result ≡ Ok tt) × (self.new ≡ closed self.old) × (steps.new ≡ steps.old) }
         ensures nothing { 1 < self.old.depth → (heap.new ≡ heap.old) × (bytes.new ≡ bytes.old) × (counts.new ≡ counts.old) }
 
         // The end of the outermost one, for each list of blocks that the heap holds and each queue.
-        ensures answer { (held : List Block) (queue : List ℕ) → self.old.depth ≡ 1 → IsReady self.old heap.old bytes.old counts.old forms.now held queue → result ≡ answer_of bytes.old (checked forms.now bytes.old counts.old.counts queue) }
-        ensures work { (held : List Block) (queue : List ℕ) → self.old.depth ≡ 1 → IsReady self.old heap.old bytes.old counts.old forms.now held queue → steps.new ≤ steps.old + work_of forms.now bytes.old queue }
-        ensures counts { (held : List Block) (queue : List ℕ) → self.old.depth ≡ 1 → IsReady self.old heap.old bytes.old counts.old forms.now held queue → LowersBy (words_inside forms.now bytes.old queue) counts.old counts.new }
+        ensures answer { AnswersEnd self.old heap.old bytes.old counts.old forms.now result }
+        ensures work { EndsWithin self.old heap.old bytes.old counts.old forms.now steps.old steps.new }
+        ensures counts { EndLowers self.old heap.old bytes.old counts.old forms.now counts.new }
 
         // With no object held.
         ensures closed { self.old.depth ≡ 1 → OnOk result (self.new ≡ no_scopes self.old.named) }
-        ensures released { (held : List Block) (queue : List ℕ) → self.old.depth ≡ 1 → IsReady self.old heap.old bytes.old counts.old forms.now held queue → OnOk result (IsReleased heap.old heap.new bytes.old bytes.new held queue) }
+        ensures released { EndReleases self.old heap.old bytes.old counts.old forms.now heap.new bytes.new result }
 
         // With one.
-        ensures named { (held : List Block) (queue : List ℕ) → self.old.depth ≡ 1 → IsReady self.old heap.old bytes.old counts.old forms.now held queue → OnErr result (self.new ≡ record self.old { named = checked forms.now bytes.old counts.old.counts queue }) }
+        ensures named { EndNames self.old heap.old bytes.old counts.old forms.now self.new result }
         ensures err { OnErr result ((heap.new ≡ heap.old) × (bytes.new ≡ bytes.old)) }
     {
         if self.depth > OUTERMOST {
