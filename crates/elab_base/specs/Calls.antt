@@ -3,7 +3,7 @@ use Rattle.std.specs.Prelude.{ℕ, cond, List, [], ◌∷◌, Option, Some, None
 use Rattle.c_decls.specs.declared.refusal.TypeKind.TheVariants.{Undeclared}
 use Rattle.c_decls.specs.Refusals.{Checked, refused}
 use Rattle.elaboration.specs.Context.{Context, Declared}
-use Rattle.elaboration.specs.Externals.{is_defined}
+use Rattle.elaboration.specs.Externals.{is_defined, calls_defined}
 
 -- its line, if there is one
 abbrev pub first_undefined : List Declared → List (ℕ × ℕ) → Option ℕ
@@ -14,3 +14,7 @@ first_undefined functions (call ∷ calls) =
 abbrev pub undeclared_at : Option ℕ → Context → Checked Context
 undeclared_at None c = Ok c
 undeclared_at (Some line) c = refused Undeclared line
+
+-- each function that is called has a body
+abbrev pub calls_are_defined : Context → Checked Context
+calls_are_defined c = calls_defined c.functions c.calls c

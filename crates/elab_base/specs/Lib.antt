@@ -6,3 +6,5 @@ pub mod MaybeNames
 pub mod Idle
 pub mod Calls
 pub mod Sets
+pub mod Outcomes
+pub mod Changes

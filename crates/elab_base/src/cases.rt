@@ -3,6 +3,7 @@
 ghost use Rattle.std.specs.Prelude.{◌≡◌, ◌++◌, ◌∷◌, [], IfOk, length, take, drop};
 ghost use Rattle.std.specs.List.{list_any};
 ghost use Rattle.std.specs.Ordering.{int_eq};
+ghost use Rattle.elab_base.specs.Changes.{with_case_at};
 
 use hs_base::NoMemory;
 use std::alloc::Global;
@@ -62,7 +63,7 @@ impl CaseList {
 
     /// Puts a case at a place, or behind all others where there are fewer. An error leaves the cases as they were, or none.
     pub fn insert(&mut self, place: usize, value: i128, label: u32) -> Result<(), NoMemory>
-        ensures { IfOk result (λ _. self.new ≡ take place self.old ++ ((value, label) ∷ drop place self.old)) }
+        ensures { IfOk result (λ _. self.new ≡ with_case_at place value label self.old) }
     {
         let place = place.min(self.cases.len());
         self.cases.insert(place, (value, label))?;

@@ -6,6 +6,7 @@ ghost use Rattle.std.specs.List.{sum_by};
 ghost use Rattle.elaboration.specs.Externals.{piece_length};
 ghost use Rattle.elab_base.specs.PlainPieces.{plain_piece};
 ghost use Rattle.elab_base.specs.Marks.{mark_of, cut};
+ghost use Rattle.elab_base.specs.Changes.{grown};
 
 use crate::pieces::{Piece, Pieces};
 use hs_base::NoMemory;
@@ -69,7 +70,7 @@ impl Code {
 
     /// Adds a piece.
     pub fn put(&mut self, piece: Piece) -> Result<(), NoMemory>
-        ensures { IfOk result (λ _. self.new ≡ record self.old { pieces = self.old.pieces ++ plain_piece piece ∷ [] }) }
+        ensures { IfOk result (λ _. self.new ≡ grown (plain_piece piece ∷ []) self.old) }
     {
         self.pieces.push(piece)
     }
@@ -142,7 +143,7 @@ impl Code {
 
     /// Adds other pieces at the end, in their order.
     pub fn append(&mut self, more: Pieces) -> Result<(), NoMemory>
-        ensures { IfOk result (λ _. self.new ≡ record self.old { pieces = self.old.pieces ++ more }) }
+        ensures { IfOk result (λ _. self.new ≡ grown more self.old) }
     {
         self.pieces.append(more)
     }

@@ -2,13 +2,16 @@
 
 ghost use Rattle.std.specs.Prelude.{◌≡◌, IfOk, unwrap_or};
 ghost use Rattle.c_types.specs.Types.{plain};
+ghost use Rattle.elaboration.specs.Conversions.{read_spot, valued_from, wanted_from, holds_all, convert_integer, convert_to, tested, write, size_or_zero};
+ghost use Rattle.elab_base.specs.PlainFound.{plain_spot, plain_found};
+ghost use Rattle.elab_base.specs.Changes.{coerced};
+ghost use Rattle.elab_base.specs.Outcomes.{Emits, Finds};
+ghost use Rattle.c_tree.specs.StatementView.{expr_view};
 ghost use Rattle.c_types.specs.TagTable.{size_in};
 ghost use Rattle.c_tree.specs.View.{expr_tree};
 ghost use Rattle.c_decls.specs.Refusals.{Meets};
 ghost use Rattle.c_decls.specs.Typed.{operand};
-ghost use Rattle.elaboration.specs.Conversions.{read_spot, valued_from, wanted_from, holds_all, convert_integer, convert_to, tested, write, size_or_zero};
 ghost use Rattle.elab_base.specs.Marks.{cut};
-ghost use Rattle.elab_base.specs.PlainFound.{plain_spot, plain_found};
 
 use crate::code::Mark;
 use crate::elaborator::Elaborator;
@@ -31,7 +34,7 @@ fn holds_all(kind: IntKind, source: IntKind) -> bool
 impl Elaborator {
     /// What a place of a type holds: a local is copied to a temporary, an object is loaded, an array is its address.
     pub fn read_spot(&mut self, line: Line, ty: &CType, spot: Spot) -> Result<Atom, NoMemory>
-        ensures { IfOk result (λ a. (self.new, a) ≡ read_spot line (plain ty.now) (plain_spot spot) self.old) }
+        ensures { Emits self.new result (read_spot line (plain ty.now) (plain_spot spot) self.old) }
     {
         match ty {
             CType::Int(ty) => match spot {
@@ -73,7 +76,7 @@ impl Elaborator {
     /// An expression that is elaborated, where it is evaluated (C99 6.3.2.1).
     #[tactic(auto, unfolding(elaboration::specs::Conversions::read_spot))]
     pub fn valued_from(&mut self, e: &Expr, found: Found) -> Result<Found, TypeError>
-        ensures { Meets (λ value. (self.new, plain_found value)) result (valued_from (expr_tree e.now.kind e.now.line) self.old (plain_found found)) }
+        ensures { Finds self.new result (valued_from (expr_view e.now) self.old (plain_found found)) }
     {
         let Found { typed, spot, fixed } = found;
         let is_place = typed.is_place;
@@ -97,7 +100,7 @@ impl Elaborator {
 
     /// An expression that is elaborated, where a value is wanted: an assignment to a struct or a union has none.
     pub fn wanted_from(&mut self, e: &Expr, found: Found) -> Result<Found, TypeError>
-        ensures { Meets (λ value. (self.new, plain_found value)) result (wanted_from (expr_tree e.now.kind e.now.line) self.old (plain_found found)) }
+        ensures { Finds self.new result (wanted_from (expr_view e.now) self.old (plain_found found)) }
     {
         if found.typed.has_no_value() {
             return refused(TypeKind::Operands, line_of(e));
@@ -114,7 +117,7 @@ impl Elaborator {
         source: IntType,
         a: Atom,
     ) -> Result<Atom, NoMemory>
-        ensures { IfOk result (λ b. (self.new, b) ≡ convert_integer line ty source a self.old) }
+        ensures { Emits self.new result (convert_integer line ty source a self.old) }
     {
         match a {
             Atom::Int(number) => Ok(Atom::Int(ty.kind().wrap(number))),
@@ -139,7 +142,7 @@ impl Elaborator {
         source: &CType,
         a: Atom,
     ) -> Result<Atom, NoMemory>
-        ensures { IfOk result (λ b. (self.new, b) ≡ convert_to line (cut before self.old.code) (operand (plain ty.now)) (operand (plain source.now)) a self.old) }
+        ensures { Emits self.new result (coerced line before (plain ty.now) (plain source.now) a self.old) }
     {
         match operand_of(ty) {
             Operand::Number(ty) => match operand_of(source) {
@@ -159,7 +162,7 @@ impl Elaborator {
 
     /// A value as an integer that is 0 or not.
     pub fn tested(&mut self, line: Line, ty: &CType, a: Atom) -> Result<Atom, NoMemory>
-        ensures { IfOk result (λ b. (self.new, b) ≡ tested line (plain ty.now) a self.old) }
+        ensures { Emits self.new result (tested line (plain ty.now) a self.old) }
     {
         match ty {
             CType::Pointer(_) => {

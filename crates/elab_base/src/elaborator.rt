@@ -1,10 +1,11 @@
 //! What is known at a place of a text, and the steps that change it.
 
-ghost use Rattle.std.specs.Prelude.{◌≡◌, ◌++◌, ◌∷◌, ◌+◌, [], IfOk};
+ghost use Rattle.std.specs.Prelude.{◌≡◌, ◌++◌, ◌∷◌, ◌+◌, [], IfOk, OnOk};
 ghost use Rattle.elaboration.specs.Context.{Context, Does, Here, first_context, asked, told, entered, left, emit, here, new_label, with_labels, integer_temporary, pointer_temporary, with_integer, with_pointer, anew, with_pieces};
+ghost use Rattle.elab_base.specs.Marks.{mark_of, cut};
+ghost use Rattle.elab_base.specs.Changes.{without_names};
 ghost use Rattle.c_types.specs.TagTable.{no_tags};
 ghost use Rattle.c_decls.specs.ScopeList.{no_scopes};
-ghost use Rattle.elab_base.specs.Marks.{mark_of, cut};
 
 use crate::code::{Code, Mark};
 use crate::names::{Declared, Variable, Walked};
@@ -104,8 +105,8 @@ impl Elaborator {
 
     /// Takes the scopes and the tags, until [`Elaborator::put_names`] puts others in their place.
     pub fn take_names(&mut self) -> Result<(Scopes, Tags), NoMemory>
-        ensures names { IfOk result (λ names. asked self.old ≡ record { scopes = names.0; tags = names.1 }) }
-        ensures rest { IfOk result (λ _. self.new ≡ told (record { scopes = no_scopes; tags = no_tags }) self.old) }
+        ensures names { IfOk result (λ n. asked self.old ≡ record { scopes = n.0; tags = n.1 }) }
+        ensures rest { IfOk result (λ _. self.new ≡ without_names self.old) }
     {
         let scopes = mem::replace(&mut self.scopes, Scopes::none(self.alloc));
         let tags = mem::replace(&mut self.tags, Tags::new(self.alloc)?);
@@ -159,7 +160,7 @@ impl Elaborator {
     /// The register of a new integer temporary.
     pub fn take_integer(&mut self) -> Result<u32, NoMemory>
         ensures register { IfOk result (λ r. r ≡ integer_temporary self.old.code.integers) }
-        ensures taken { IfOk result (λ _. self.new ≡ record self.old { code = with_integer self.old.code }) }
+        ensures taken { OnOk result (self.new ≡ record self.old { code = with_integer self.old.code }) }
     {
         self.code.take_integer()
     }
@@ -167,7 +168,7 @@ impl Elaborator {
     /// The register of a new pointer temporary.
     pub fn take_pointer(&mut self) -> Result<u32, NoMemory>
         ensures register { IfOk result (λ r. r ≡ pointer_temporary self.old.code.pointers) }
-        ensures taken { IfOk result (λ _. self.new ≡ record self.old { code = with_pointer self.old.code }) }
+        ensures taken { OnOk result (self.new ≡ record self.old { code = with_pointer self.old.code }) }
     {
         self.code.take_pointer()
     }

@@ -7,8 +7,10 @@ ghost use Rattle.c_decls.specs.Refusals.{Answers, Meets};
 ghost use Rattle.c_decls.specs.ScopeList.{named_in};
 ghost use Rattle.elaboration.specs.Declarations.{function_number, with_function, declared_function};
 ghost use Rattle.elaboration.specs.Externals.{begun, answer_of, params_of, is_defined, define, body_begun, calls_defined};
-ghost use Rattle.elab_base.specs.Calls.{first_undefined};
+ghost use Rattle.elab_base.specs.Calls.{first_undefined, calls_are_defined};
 ghost use Rattle.elab_base.specs.Idle.{body_closed};
+ghost use Rattle.elab_base.specs.Changes.{with_body};
+ghost use Rattle.elab_base.specs.Outcomes.{Becomes};
 
 use crate::code::Code;
 use crate::elaborator::Elaborator;
@@ -92,7 +94,7 @@ impl Elaborator {
 
     /// What the file scope declares a name as.
     pub fn find_in_file(&self, name: &[u8]) -> Option<&Named>
-        ensures { option_map (λ named. plain_named named.now) result ≡ named_in name.now self.now.scopes.file }
+        ensures { option_map (λ n. plain_named n.now) result ≡ named_in name.now self.now.scopes.file }
     {
         self.scopes.find_in_file(name)
     }
@@ -129,7 +131,7 @@ impl Elaborator {
 
     /// Declares a function, which has its number from now on (C99 6.7.5.3).
     pub fn declared_function(&mut self, line: Line, name: &[u8], ty: CType) -> Result<(), TypeError>
-        ensures { Meets (λ _. self.new) result (declared_function line name.now (plain ty) self.old) }
+        ensures { Becomes self.new result (declared_function line name.now (plain ty) self.old) }
     {
         let index = self.function_number(name)?;
         self.declared_as(line, name, Named::Function { ty, index })?;
@@ -146,7 +148,7 @@ impl Elaborator {
 
     /// The function of that number gets the next body, if it is there.
     fn define(&mut self, index: u32) -> Result<(), NoMemory>
-        ensures { IfOk result (λ _. self.new ≡ record self.old { functions = define index (length self.old.walked) (slice_get self.old.functions index) self.old.functions }) }
+        ensures { IfOk result (λ _. self.new ≡ with_body index self.old) }
     {
         let number = fit(self.walked.len())?;
         if let Some(function) = self.functions.get_mut(index as usize) {
@@ -170,7 +172,7 @@ impl Elaborator {
     /// The body of the function with that name and type ends, and no function runs behind it; the line is that of its
     /// declaration.
     pub fn end_body(&mut self, line: Line, name: &[u8], ty: &CType) -> Result<(), TypeError>
-        ensures { Meets (λ _. self.new) result (body_closed line name.now (plain ty.now) self.old) }
+        ensures { Becomes self.new result (body_closed line name.now (plain ty.now) self.old) }
     {
         let size = self.code.size()?;
         let total = u64::from(self.total).checked_add(size).ok_or(NoMemory)?;
@@ -191,7 +193,7 @@ impl Elaborator {
     /// Whether each function that is called has a body; else the first call of one without is refused.
     #[tactic(auto, using(crate::proofs::DefinedCalls::calls_are))]
     pub fn calls_defined(&self) -> Result<(), TypeError>
-        ensures { Answers (λ _. self.now) result (calls_defined self.now.functions self.now.calls self.now) }
+        ensures { Answers (λ _. self.now) result (calls_are_defined self.now) }
     {
         match first_undefined(&self.functions, &self.calls) {
             Some(line) => refused(TypeKind::Undeclared, line),

@@ -2,15 +2,17 @@
 
 ghost use Rattle.std.specs.Prelude.{◌≡◌, None, IfOk, option_copied, unwrap_or};
 ghost use Rattle.c_types.specs.Types.{plain};
-ghost use Rattle.c_types.specs.Layouts.{no_layout};
-ghost use Rattle.c_types.specs.TagTable.{layout_in};
 ghost use Rattle.c_decls.specs.Named.{plain_named};
-ghost use Rattle.c_decls.specs.Refusals.{Meets};
 ghost use Rattle.c_decls.specs.ScopeList.{named_in, innermost};
 ghost use Rattle.elaboration.specs.Context.{local_register};
 ghost use Rattle.elaboration.specs.Locals.{is_pointer, declared_as, next_is_memory, with_register, with_memory, counted, with_named, memory_param, register_param, function_param, prototype_param, with_param, local_in, with_local};
+ghost use Rattle.elab_base.specs.MaybeNames.{IsFree, given};
+ghost use Rattle.elab_base.specs.Changes.{layout_or_none};
+ghost use Rattle.elab_base.specs.Outcomes.{Becomes, Locates};
+ghost use Rattle.c_types.specs.Layouts.{no_layout};
+ghost use Rattle.c_types.specs.TagTable.{layout_in};
+ghost use Rattle.c_decls.specs.Refusals.{Meets};
 ghost use Rattle.elab_base.specs.PlainFound.{plain_spot};
-ghost use Rattle.elab_base.specs.MaybeNames.{IsFree};
 
 use crate::elaborator::Elaborator;
 use crate::found::Spot;
@@ -65,7 +67,7 @@ impl Elaborator {
     /// 6.7, 6.9.2).
     #[tactic(auto, using(crate::proofs::Twice::twice_is, crate::proofs::Twice::not_twice))]
     pub fn declared_as(&mut self, line: Line, name: &[u8], named: Named) -> Result<(), TypeError>
-        ensures { Meets (λ _. self.new) result (declared_as line name.now (plain_named named) self.old) }
+        ensures { Becomes self.new result (declared_as line name.now (plain_named named) self.old) }
     {
         match self.scopes.declare(name, named) {
             Ok(()) => Ok(()),
@@ -84,7 +86,7 @@ impl Elaborator {
 
     /// Adds a register.
     fn with_register(&mut self, name: Option<&[u8]>, ty: &CType) -> Result<(), NoMemory>
-        ensures { IfOk result (λ _. self.new ≡ with_register (option_copied name.entry) (plain ty.now) self.old) }
+        ensures { IfOk result (λ _. self.new ≡ with_register (given name.entry) (plain ty.now) self.old) }
     {
         let name = maybe_copied(self.alloc, name)?;
         let pointer = is_pointer(ty);
@@ -93,7 +95,7 @@ impl Elaborator {
 
     /// The layout of a memory local of a type.
     pub(crate) fn mem_layout(&self, ty: &CType) -> Result<Layout, NoMemory>
-        ensures { IfOk result (λ layout. layout ≡ unwrap_or (layout_in self.now.tags (plain ty.now)) no_layout) }
+        ensures { IfOk result (λ layout. layout ≡ layout_or_none self.now.tags (plain ty.now)) }
     {
         match layout_in(self.alloc, &self.tags, ty)? {
             Some(layout) => Ok(layout),
@@ -117,7 +119,7 @@ impl Elaborator {
     /// Declares a name, where there is one, that the innermost scope does not have.
     fn with_named(&mut self, name: Option<&[u8]>, named: Named) -> Result<(), NoMemory>
         requires { IsFree (option_copied name) self.old.scopes }
-        ensures { IfOk result (λ _. self.new ≡ with_named (option_copied name.entry) (plain_named named) self.old) }
+        ensures { IfOk result (λ _. self.new ≡ with_named (given name.entry) (plain_named named) self.old) }
     {
         match name {
             Some(name) => self.scopes.declare(name, named).map_err(|_| NoMemory),
@@ -128,7 +130,7 @@ impl Elaborator {
     /// Adds a parameter that is an object in memory: its register is stored there first.
     fn memory_param(&mut self, name: Option<&[u8]>, ty: CType) -> Result<(), NoMemory>
         requires { IsFree (option_copied name) self.old.scopes }
-        ensures { IfOk result (λ _. self.new ≡ memory_param (option_copied name.entry) (plain ty) self.old) }
+        ensures { IfOk result (λ _. self.new ≡ memory_param (given name.entry) (plain ty) self.old) }
     {
         let mem = self.running.mem_count()?;
         let register = local_register(self.running.local_count()?)?;
@@ -142,7 +144,7 @@ impl Elaborator {
     /// Adds a parameter that is kept in its register.
     fn register_param(&mut self, name: Option<&[u8]>, ty: CType) -> Result<(), NoMemory>
         requires { IsFree (option_copied name) self.old.scopes }
-        ensures { IfOk result (λ _. self.new ≡ register_param (option_copied name.entry) (plain ty) self.old) }
+        ensures { IfOk result (λ _. self.new ≡ register_param (given name.entry) (plain ty) self.old) }
     {
         let index = self.running.local_count()?;
         self.with_register(name, &ty)?;
@@ -152,7 +154,7 @@ impl Elaborator {
     /// Adds a parameter of the running function, which has a register.
     fn function_param(&mut self, name: Option<&[u8]>, ty: CType) -> Result<(), NoMemory>
         requires { IsFree (option_copied name) self.old.scopes }
-        ensures { IfOk result (λ _. self.new ≡ function_param (option_copied name.entry) (plain ty) self.old) }
+        ensures { IfOk result (λ _. self.new ≡ function_param (given name.entry) (plain ty) self.old) }
     {
         if self.next_is_memory(&ty) {
             self.memory_param(name, ty)
@@ -164,7 +166,7 @@ impl Elaborator {
     /// Adds a parameter of a prototype: its name stands for its type alone (C99 6.7.5.3).
     fn prototype_param(&mut self, name: Option<&[u8]>, ty: CType) -> Result<(), NoMemory>
         requires { IsFree (option_copied name) self.old.scopes }
-        ensures { IfOk result (λ _. self.new ≡ prototype_param (option_copied name.entry) (plain ty) self.old) }
+        ensures { IfOk result (λ _. self.new ≡ prototype_param (given name.entry) (plain ty) self.old) }
     {
         self.with_named(name, Named::Object { ty, index: 0 })
     }
@@ -172,7 +174,7 @@ impl Elaborator {
     /// Adds a parameter. A list inside another scope is that of a prototype (C99 6.2.1).
     pub fn with_param(&mut self, name: Option<&[u8]>, ty: CType) -> Result<(), NoMemory>
         requires { IsFree (option_copied name) self.old.scopes }
-        ensures { IfOk result (λ _. self.new ≡ with_param (option_copied name.entry) (plain ty) self.old) }
+        ensures { IfOk result (λ _. self.new ≡ with_param (given name.entry) (plain ty) self.old) }
     {
         if self.scopes.is_nested() {
             self.prototype_param(name, ty)?;
@@ -185,7 +187,7 @@ impl Elaborator {
     /// Adds a local to memory or to the registers, and says where it is.
     fn local_in(&mut self, memory: bool, name: &[u8], ty: CType) -> Result<Spot, NoMemory>
         requires { named_in name.now (innermost self.old.scopes) ≡ None }
-        ensures { IfOk result (λ spot. (self.new, plain_spot spot) ≡ local_in memory name.now (plain ty) self.old) }
+        ensures { Locates self.new result (local_in memory name.now (plain ty) self.old) }
     {
         if memory {
             let index = self.running.mem_count()?;
@@ -204,7 +206,7 @@ impl Elaborator {
     /// Adds a local that the innermost scope does not have, and says where it is.
     pub fn with_local(&mut self, name: &[u8], ty: CType) -> Result<Spot, NoMemory>
         requires { named_in name.now (innermost self.old.scopes) ≡ None }
-        ensures { IfOk result (λ spot. (self.new, plain_spot spot) ≡ with_local name.now (plain ty) self.old) }
+        ensures { Locates self.new result (with_local name.now (plain ty) self.old) }
     {
         let memory = self.next_is_memory(&ty);
         let spot = self.local_in(memory, name, ty)?;

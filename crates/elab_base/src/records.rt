@@ -1,12 +1,13 @@
 //! Structs and unions with braces: their tags are made, and get their members (C99 6.7.2.1, 6.7.2.3).
 
-ghost use Rattle.std.specs.Prelude.{◌≡◌, ◌<◌, ◌↔◌, None, All, IfOk, IsTrue, is_some, length, map, option_copied};
+ghost use Rattle.std.specs.Prelude.{◌≡◌, ◌<◌, ◌↔◌, None, All, IfOk, IsTrue, is_some, length, map, option_copied, Some};
 ghost use Rattle.c_types.specs.Types.{PlainType, plain};
 ghost use Rattle.c_types.specs.TagTable.{IsSizedIn, known, plain_pair, with_tag};
 ghost use Rattle.c_decls.specs.Refusals.{Meets};
 ghost use Rattle.c_decls.specs.ScopeList.{innermost, named_in, tag_name};
 ghost use Rattle.c_decls.specs.TypeNames as types;
 ghost use Rattle.elaboration.specs.Declarators.{unnamed, newly_named, begun, begun_as, complete, ended};
+ghost use Rattle.elab_base.specs.Outcomes.{Types, MakesType, Completes};
 
 use crate::elaborator::Elaborator;
 use crate::locals::copied;
@@ -84,7 +85,7 @@ fn make(tags: &mut Tags, sort: RecordSort, name: Items<u8>) -> Result<CType, NoM
 impl Elaborator {
     /// A struct or union without a name.
     fn unnamed(&mut self, sort: RecordSort) -> Result<CType, NoMemory>
-        ensures { IfOk result (λ ty. (self.new, plain ty) ≡ unnamed sort self.old) }
+        ensures { MakesType self.new result (unnamed sort self.old) }
     {
         let name = Items::new(self.alloc);
         make(&mut self.tags, sort, name)
@@ -94,7 +95,7 @@ impl Elaborator {
     fn newly_named(&mut self, sort: RecordSort, name: &[u8], tag: &[u8]) -> Result<CType, NoMemory>
         requires named { tag.now ≡ tag_name name.now }
         requires new { named_in tag.now (innermost self.old.scopes) ≡ None }
-        ensures { IfOk result (λ ty. (self.new, plain ty) ≡ newly_named sort name.now self.old) }
+        ensures { MakesType self.new result (newly_named sort name.now self.old) }
     {
         let copy = copied(self.alloc, name)?;
         let ty = make(&mut self.tags, sort, copy)?;
@@ -106,7 +107,7 @@ impl Elaborator {
     /// A named struct or union begins. Under the name of a tag nothing but a tag is declared; where something else were,
     /// there is no memory for another.
     fn begun_as(&mut self, sort: RecordSort, name: &[u8]) -> Result<CType, NoMemory>
-        ensures { IfOk result (λ ty. (self.new, plain ty) ≡ begun_as sort name.now (named_in (tag_name name.now) (innermost self.old.scopes)) self.old) }
+        ensures { MakesType self.new result (begun sort (Some name.now) self.old) }
     {
         let tag = tag_name(self.alloc, name)?;
         match self.scopes.find_innermost(tag.as_slice()) {
@@ -119,7 +120,7 @@ impl Elaborator {
     /// A struct or union with braces begins: a name that its scope does not have is declared; one that it has stands for
     /// what it was declared as (C99 6.7.2.3).
     pub fn begin_record(&mut self, sort: RecordSort, name: Option<&[u8]>) -> Result<CType, NoMemory>
-        ensures { IfOk result (λ ty. (self.new, plain ty) ≡ begun sort (option_copied name.entry) self.old) }
+        ensures { MakesType self.new result (begun sort (option_copied name.entry) self.old) }
     {
         match name {
             Some(name) => self.begun_as(sort, name),
@@ -135,7 +136,7 @@ impl Elaborator {
         tag: TagId,
         members: Items<(Items<u8>, CType)>,
     ) -> Result<(), TypeError>
-        ensures { (type : PlainType) → Meets (λ _. (self.new, type)) result (complete line tag type self.old (map plain_pair members)) }
+        ensures { Completes line tag (map plain_pair members) self.old self.new result }
     {
         if is_complete(&self.tags, tag) {
             return refused(TypeKind::DeclaredTwice, line);
@@ -159,7 +160,7 @@ impl Elaborator {
         ty: &CType,
         members: Items<(Items<u8>, CType)>,
     ) -> Result<CType, TypeError>
-        ensures { Meets (λ whole. (self.new, plain whole)) result (ended line sort (plain ty.now) self.old (map plain_pair members)) }
+        ensures { Types self.new result (ended line sort (plain ty.now) self.old (map plain_pair members)) }
     {
         match (sort, ty) {
             (RecordSort::Struct, CType::Struct(tag)) => {

@@ -1,10 +1,11 @@
 //! The running function.
 
-ghost use Rattle.std.specs.Prelude.{◌≡◌, ◌++◌, ◌∷◌, ◌+◌, [], None, Some, IfOk, length, take, drop, nat_eq, is_some};
+ghost use Rattle.std.specs.Prelude.{◌≡◌, ◌++◌, ◌∷◌, ◌+◌, [], None, Some, IfOk, length, take, drop, nat_eq, is_some, OnOk};
 ghost use Rattle.std.specs.List.{list_any};
 ghost use Rattle.std.specs.Ordering.{int_eq};
 ghost use Rattle.c_types.specs.Types.{plain};
 ghost use Rattle.elaboration.specs.Context.{Running as PlainRunning, running_at};
+ghost use Rattle.elab_base.specs.Changes.{with_case_in};
 
 use crate::cases::CaseList;
 use crate::number_set::NumberSet;
@@ -144,7 +145,7 @@ impl Running {
 
     /// Adds a format.
     pub fn add_format(&mut self, bytes: Items<u8>) -> Result<(), NoMemory>
-        ensures { IfOk result (λ _. self.new ≡ record self.old { formats = self.old.formats ++ bytes ∷ [] }) }
+        ensures { OnOk result (self.new ≡ record self.old { formats = self.old.formats ++ bytes ∷ [] }) }
     {
         self.formats.push(bytes)?;
         Ok(())
@@ -166,7 +167,7 @@ impl Running {
 
     /// Puts a case at a place among those of the running switch.
     pub fn add_case(&mut self, place: usize, value: i128, label: u32) -> Result<(), NoMemory>
-        ensures { IfOk result (λ _. self.new ≡ record self.old { cases = take place self.old.cases ++ ((value, label) ∷ drop place self.old.cases) }) }
+        ensures { IfOk result (λ _. self.new ≡ with_case_in place value label self.old) }
     {
         self.cases.insert(place, value, label)
     }

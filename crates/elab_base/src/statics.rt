@@ -2,10 +2,12 @@
 
 ghost use Rattle.std.specs.Prelude.{◌≡◌, ◌++◌, ◌∷◌, ◌+◌, [], IfOk, length, is_some, slice_get};
 ghost use Rattle.hs_base.specs.Place.{block_size};
-ghost use Rattle.c_decls.specs.Refusals.{Meets};
 ghost use Rattle.elaboration.specs.Calls.{with_format};
 ghost use Rattle.elaboration.specs.Operations.{static_size};
 ghost use Rattle.elaboration.specs.Rules.{is_inner, with_static, with_literal};
+ghost use Rattle.elab_base.specs.Changes.{with_call};
+ghost use Rattle.elab_base.specs.Outcomes.{Becomes, Gives};
+ghost use Rattle.c_decls.specs.Refusals.{Meets};
 
 use crate::elaborator::Elaborator;
 use crate::numbers::fit;
@@ -33,7 +35,7 @@ impl Elaborator {
 
     /// Counts the block of a static of so many bytes, unless the statics would be too large together.
     pub fn with_static(&mut self, line: Line, size: u64) -> Result<(), TypeError>
-        ensures { Meets (λ _. self.new) result (with_static line size self.old) }
+        ensures { Becomes self.new result (with_static line size self.old) }
     {
         let block = block_size(size)?;
         let bytes = u64::from(self.static_bytes)
@@ -48,7 +50,7 @@ impl Elaborator {
 
     /// Adds a string literal that stands for an object, and answers its static (C99 6.4.5).
     pub fn with_literal(&mut self, line: Line, bytes: Items<u8>) -> Result<u32, TypeError>
-        ensures { Meets (λ static. (self.new, static)) result (with_literal line bytes self.old) }
+        ensures { Gives self.new result (with_literal line bytes self.old) }
     {
         let size = (bytes.len() as u64).checked_add(1).ok_or(NoMemory)?;
         self.with_static(line, size)?;
@@ -79,7 +81,7 @@ impl Elaborator {
 
     /// Keeps a call of a declared function with its line.
     pub fn keep_call(&mut self, function: u32, line: Line) -> Result<(), NoMemory>
-        ensures { IfOk result (λ _. self.new ≡ record self.old { calls = self.old.calls ++ (function, line) ∷ [] }) }
+        ensures { IfOk result (λ _. self.new ≡ with_call function line self.old) }
     {
         self.calls.push((function, line))?;
         Ok(())

@@ -3,6 +3,7 @@
 ghost use Rattle.std.specs.Prelude.{◌≡◌, ◌++◌, Some, None, [], IfOk, length, is_some};
 ghost use Rattle.elaboration.specs.Context.{with_pieces};
 ghost use Rattle.elaboration.specs.Statements.{has_case, with_case, no_cases};
+ghost use Rattle.elab_base.specs.Changes.{with_cases, with_default};
 
 use crate::cases::CaseList;
 use crate::elaborator::Elaborator;
@@ -48,7 +49,7 @@ impl Elaborator {
 
     /// The default of the running switch.
     pub fn set_default(&mut self, label: u32)
-        ensures { self.new ≡ record self.old { running = record self.old.running { otherwise = Some label } } }
+        ensures { self.new ≡ with_default label self.old }
     {
         self.running.set_default(label);
     }
@@ -70,7 +71,7 @@ impl Elaborator {
     pub fn swap_cases(&mut self, cases: Cases) -> Cases
         ensures cases { result.cases ≡ self.old.running.cases }
         ensures otherwise { result.otherwise ≡ self.old.running.otherwise }
-        ensures with { self.new ≡ record self.old { running = record self.old.running { cases = cases.cases; otherwise = cases.otherwise } } }
+        ensures with { self.new ≡ with_cases cases.cases cases.otherwise self.old }
     {
         self.running.swap_cases(cases)
     }

@@ -2,9 +2,11 @@
 
 ghost use Rattle.std.specs.Prelude.{◌≡◌, IfOk, is_some, slice_get};
 ghost use Rattle.c_types.specs.Types.{plain};
-ghost use Rattle.c_decls.specs.Refusals.{Meets};
 ghost use Rattle.c_decls.specs.ScopeList.{named_in};
 ghost use Rattle.elaboration.specs.Declarations.{variable_number_of, with_new_variable, with_variable, start_of, started_variable};
+ghost use Rattle.elab_base.specs.Changes.{with_start, variable_number};
+ghost use Rattle.elab_base.specs.Outcomes.{Becomes};
+ghost use Rattle.c_decls.specs.Refusals.{Meets};
 
 use crate::elaborator::Elaborator;
 use crate::locals::copied;
@@ -18,7 +20,7 @@ use hs_base::{Line, NoMemory};
 impl Elaborator {
     /// The number of a variable: that of its first declaration.
     pub fn variable_number(&self, name: &[u8]) -> Result<u32, NoMemory>
-        ensures { IfOk result (λ index. index ≡ variable_number_of self.now (named_in name.now self.now.scopes.file)) }
+        ensures { IfOk result (λ index. index ≡ variable_number name.now self.now) }
     {
         match self.find_in_file(name) {
             Some(Named::Object { index, .. }) => Ok(*index),
@@ -36,7 +38,7 @@ impl Elaborator {
 
     /// Adds a variable, whose block is counted with it.
     fn with_new_variable(&mut self, line: Line, name: &[u8], ty: &CType) -> Result<(), TypeError>
-        ensures { Meets (λ _. self.new) result (with_new_variable line name.now (plain ty.now) self.old) }
+        ensures { Becomes self.new result (with_new_variable line name.now (plain ty.now) self.old) }
     {
         let size = self.size_or_zero(ty)?;
         self.with_static(line, u64::from(size))?;
@@ -58,7 +60,7 @@ impl Elaborator {
         name: &[u8],
         ty: &CType,
     ) -> Result<(), TypeError>
-        ensures { Meets (λ _. self.new) result (with_variable line index name.now (plain ty.now) self.old) }
+        ensures { Becomes self.new result (with_variable line index name.now (plain ty.now) self.old) }
     {
         if (index as usize) < self.variables.len() {
             Ok(())
@@ -79,7 +81,7 @@ impl Elaborator {
 
     /// Gives the variable of that number what it holds first, if it is there.
     pub fn start_variable(&mut self, index: u32, start: Start)
-        ensures { self.new ≡ record self.old { variables = started_variable index start (slice_get self.old.variables index) self.old.variables } }
+        ensures { self.new ≡ with_start index start self.old }
     {
         if let Some(variable) = self.variables.get_mut(index as usize) {
             variable.set_start(start);
