@@ -1,13 +1,13 @@
 //! Statements, and the definitions of functions.
 
-ghost use Rattle.std.specs.Prelude.{◌≡◌, IfOk, option_copied};
+ghost use Rattle.std.specs.Prelude.{◌≡◌, IfOk, option_copied, OnOk};
 ghost use Rattle.c_tree.specs.StatementView.{trees, init_tree, init_view, maybe, maybe_expr, suffix_view, entry_view, start_view, stmt_tree, stmt_view, body_view};
 ghost use Rattle.c_tree.specs.Forms as form;
 ghost use Rattle.c_tree.specs.Scopes.{params_of, suffix_params};
 ghost use Rattle.c_tree.specs.Tree.{Node, none, ◌▹◌};
 ghost use Rattle.c_tree.specs.View.{declarator_tree, base_tree};
 ghost use Rattle.elaboration.specs.Addressed.{taken, left_scope, left_part, params_taken, addressed_in};
-ghost use Rattle.elab_addressed.specs.Turns.{in_turn, settled, inside, is_scope_kind, kind_params};
+ghost use Rattle.elab_addressed.specs.Turns.{in_turn, settled, inside, is_scope_kind, kind_params, Settles, addressed_by, with_params_behind, maybe_init, settled_inside, with_params_of, with_suffix_params};
 
 use crate::expressions::{declarator, expr, params, specs};
 use crate::taken::Taken;
@@ -47,7 +47,7 @@ fn init(state: &mut Taken, init: &Init) -> Result<(), NoMemory>
 #[cycle(inits)]
 #[tactic(auto, unfolding(c_tree::specs::StatementView::init_tree, elaboration::specs::Addressed::taken, elaboration::specs::Addressed::left, c_tree::specs::Grammar::shape, c_tree::specs::Scopes::is_scope), using(crate::proofs::TreeParts::init_list_is))]
 fn init_parts(state: &mut Taken, line: Line, kind: &InitKind) -> Result<(), NoMemory>
-    ensures { IfOk result (λ _. settled state.old state.new ≡ taken (init_tree kind.now line) state.old) }
+    ensures { Settles state.old state.new result (taken (init_tree kind.now line) state.old) }
 {
     match kind {
         InitKind::Expr(e) => expr(state, e),
@@ -70,7 +70,7 @@ fn inits(state: &mut Taken, list: &[Init]) -> Result<(), NoMemory>
 /// An initializer that may be left out.
 #[tactic(auto, unfolding(elaboration::specs::Addressed::taken, elaboration::specs::Addressed::left, c_tree::specs::Grammar::shape, c_tree::specs::Scopes::is_scope))]
 fn maybe_init(state: &mut Taken, one: Option<&Init>) -> Result<(), NoMemory>
-    ensures { IfOk result (λ _. state.new ≡ taken (maybe form.MaybeInit init_view (option_copied one.entry)) state.old) }
+    ensures { IfOk result (λ _. state.new ≡ taken (maybe_init (option_copied one.entry)) state.old) }
 {
     let Some(one) = one else {
         return Ok(());
@@ -119,7 +119,7 @@ fn for_start(state: &mut Taken, start: &ForStart) -> Result<(), NoMemory>
 /// What stands in that.
 #[tactic(auto, unfolding(elaboration::specs::Addressed::taken, elaboration::specs::Addressed::left, c_tree::specs::Grammar::shape, c_tree::specs::Scopes::is_scope), using(crate::proofs::TreeParts::names_is))]
 fn start_parts(state: &mut Taken, start: &ForStart) -> Result<(), NoMemory>
-    ensures { IfOk result (λ _. settled state.old state.new ≡ taken (start_view start.now) state.old) }
+    ensures { Settles state.old state.new result (taken (start_view start.now) state.old) }
 {
     match start {
         ForStart::Names(words, list) => {
@@ -171,7 +171,7 @@ fn statement(state: &mut Taken, stmt: &Stmt) -> Result<(), NoMemory>
 #[cycle(statements)]
 #[tactic(auto, using(crate::proofs::ScopeEnds::back_is))]
 fn branch(state: &mut Taken, body: &Stmt) -> Result<(), NoMemory>
-    ensures { IfOk result (λ _. state.new ≡ left_scope state.old (taken (stmt_view body.now) state.old)) }
+    ensures { OnOk result (state.new ≡ left_scope state.old (taken (stmt_view body.now) state.old)) }
 {
     let typedef = state.is_typedef();
     let depth = state.depth();
@@ -197,7 +197,7 @@ fn items(state: &mut Taken, list: &[Stmt]) -> Result<(), NoMemory>
 #[cycle(statements)]
 #[tactic(auto, unfolding(c_tree::specs::StatementView::stmt_tree, elaboration::specs::Addressed::taken, elaboration::specs::Addressed::left, c_tree::specs::Grammar::shape, c_tree::specs::Scopes::is_scope), using(crate::proofs::TreeParts::block_is, crate::proofs::TreeParts::delay_is, crate::proofs::TreeParts::if_is, crate::proofs::TreeParts::if_else_is, crate::proofs::TreeParts::names_is))]
 fn stmt_parts(state: &mut Taken, line: Line, kind: &StmtKind) -> Result<(), NoMemory>
-    ensures { IfOk result (λ _. settled state.old state.new ≡ settled state.old (inside (stmt_tree kind.now line) state.old)) }
+    ensures { Settles state.old state.new result (settled_inside (stmt_tree kind.now line) state.old) }
 {
     match kind {
         StmtKind::Empty | StmtKind::Break | StmtKind::Continue => Ok(()),
@@ -242,7 +242,7 @@ fn stmt_parts(state: &mut Taken, line: Line, kind: &StmtKind) -> Result<(), NoMe
 #[cycle(parameters)]
 #[tactic(auto, using(crate::proofs::DefinedParams::pointer_params, crate::proofs::DefinedParams::direct_params))]
 fn defined_params(state: &mut Taken, declarator: &Declarator) -> Result<(), NoMemory>
-    ensures { IfOk result (λ _. state.new ≡ params_taken (params_of (declarator_tree declarator.now)) state.old) }
+    ensures { IfOk result (λ _. state.new ≡ with_params_of declarator.now state.old) }
 {
     match declarator {
         Declarator::Pointer(_, _, target) => defined_params(state, target),
@@ -254,7 +254,7 @@ fn defined_params(state: &mut Taken, declarator: &Declarator) -> Result<(), NoMe
 #[cycle(parameters)]
 #[tactic(auto, using(crate::proofs::DefinedParams::nothing_params, crate::proofs::DefinedParams::name_params, crate::proofs::DefinedParams::parens_params))]
 fn base_params(state: &mut Taken, base: &Base, list: &[Suffix]) -> Result<(), NoMemory>
-    ensures { IfOk result (λ _. state.new ≡ params_taken (params_of (Node form.Direct (base_tree base.now ▹ Node form.Suffixes (trees suffix_view list.now) ▹ none))) state.old) }
+    ensures { IfOk result (λ _. state.new ≡ with_params_behind base.now list.now state.old) }
 {
     match base {
         Base::Nothing => Ok(()),
@@ -266,7 +266,7 @@ fn base_params(state: &mut Taken, base: &Base, list: &[Suffix]) -> Result<(), No
 /// The parameters of the first of some suffixes.
 #[tactic(auto, using(crate::proofs::DefinedParams::first_is, crate::proofs::DefinedParams::none_is))]
 fn first_params(state: &mut Taken, list: &[Suffix]) -> Result<(), NoMemory>
-    ensures { IfOk result (λ _. state.new ≡ params_taken (suffix_params (Node form.Suffixes (trees suffix_view list.now) ▹ none)) state.old) }
+    ensures { IfOk result (λ _. state.new ≡ with_suffix_params list.now state.old) }
 {
     if list.len() > 0 {
         return kind_params(state, &list[0].kind);
@@ -303,7 +303,7 @@ pub fn addressed_in(
     body: &[Stmt],
     _end: Line,
 ) -> Result<Vec<u32>, NoMemory>
-    ensures { IfOk result (λ list. list.items ≡ addressed_in (declarator_tree declarator.now) (body_view body.now _end)) }
+    ensures { IfOk result (λ list. list.items ≡ addressed_by declarator.now body.now _end) }
 {
     let mut state = Taken::nothing(alloc);
     defined_params(&mut state, declarator)?;

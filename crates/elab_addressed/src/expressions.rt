@@ -5,7 +5,7 @@ ghost use Rattle.c_tree.specs.Scopes.{has_typedef};
 ghost use Rattle.c_tree.specs.View.{expr_tree, spec_tree, tag_tree, enumerator_tree, declarator_tree, base_tree, suffix_tree};
 ghost use Rattle.c_tree.specs.StatementView.{trees, expr_view, specs_view, typename_view, tag_view, member_view, suffix_view, param_view};
 ghost use Rattle.elaboration.specs.Addressed.{taken, left_scope};
-ghost use Rattle.elab_addressed.specs.Turns.{in_turn, settled, behind_operator};
+ghost use Rattle.elab_addressed.specs.Turns.{in_turn, settled, behind_operator, Settles, prototype_taken};
 ghost use Rattle.elab_addressed.specs.Words.{is_typedef_word};
 
 use crate::taken::{Taken, plain_name};
@@ -41,7 +41,7 @@ pub(crate) fn expr(state: &mut Taken, e: &Expr) -> Result<(), NoMemory>
 #[cycle(walk)]
 #[tactic(auto, unfolding(c_tree::specs::View::expr_tree, elaboration::specs::Addressed::taken, elaboration::specs::Addressed::left, c_tree::specs::Grammar::shape, c_tree::specs::Scopes::is_scope), using(crate::proofs::TreeParts::str_is, crate::proofs::TreeParts::call_is, crate::proofs::TreeParts::sizeof_is, crate::proofs::TreeParts::cast_is, crate::proofs::Addresses::unary_is))]
 fn expr_parts(state: &mut Taken, line: u32, kind: &ExprKind) -> Result<(), NoMemory>
-    ensures { IfOk result (λ _. settled state.old state.new ≡ taken (expr_tree kind.now line) state.old) }
+    ensures { Settles state.old state.new result (taken (expr_tree kind.now line) state.old) }
 {
     match kind {
         ExprKind::Name(_) | ExprKind::Int(_) | ExprKind::Char(_) | ExprKind::Str(_) => Ok(()),
@@ -191,7 +191,7 @@ fn in_tag(state: &mut Taken, tag: &Tag) -> Result<(), NoMemory>
 #[cycle(walk)]
 #[tactic(auto, unfolding(c_tree::specs::View::tag_tree, elaboration::specs::Addressed::taken, elaboration::specs::Addressed::left, c_tree::specs::Grammar::shape, c_tree::specs::Scopes::is_scope), using(crate::proofs::TreeParts::record_is, crate::proofs::TreeParts::enum_is))]
 fn tag_parts(state: &mut Taken, line: u32, kind: &TagKind) -> Result<(), NoMemory>
-    ensures { IfOk result (λ _. settled state.old state.new ≡ taken (tag_tree kind.now line) state.old) }
+    ensures { Settles state.old state.new result (taken (tag_tree kind.now line) state.old) }
 {
     match kind {
         TagKind::Record(_, _) | TagKind::Enum(_) => Ok(()),
@@ -278,7 +278,7 @@ pub(crate) fn declarator(state: &mut Taken, declarator: &Declarator) -> Result<(
 #[cycle(walk)]
 #[tactic(auto, unfolding(c_tree::specs::View::declarator_tree, elaboration::specs::Addressed::taken, elaboration::specs::Addressed::left, c_tree::specs::Grammar::shape, c_tree::specs::Scopes::is_scope), using(crate::proofs::TreeParts::pointer_is, crate::proofs::TreeParts::direct_is))]
 fn declarator_parts(state: &mut Taken, declarator: &Declarator) -> Result<(), NoMemory>
-    ensures { IfOk result (λ _. settled state.old state.new ≡ taken (declarator_tree declarator.now) state.old) }
+    ensures { Settles state.old state.new result (taken (declarator_tree declarator.now) state.old) }
 {
     match declarator {
         Declarator::Pointer(_, _, target) => self::declarator(state, target),
@@ -333,7 +333,7 @@ fn suffix(state: &mut Taken, suffix: &Suffix) -> Result<(), NoMemory>
 #[cycle(walk)]
 #[tactic(auto, unfolding(c_tree::specs::View::suffix_tree, elaboration::specs::Addressed::taken, elaboration::specs::Addressed::left, c_tree::specs::Grammar::shape, c_tree::specs::Scopes::is_scope), using(crate::proofs::TreeParts::params_is, crate::proofs::TreeParts::array_none, crate::proofs::TreeParts::array_some))]
 fn suffix_parts(state: &mut Taken, line: u32, kind: &SuffixKind) -> Result<(), NoMemory>
-    ensures { IfOk result (λ _. settled state.old state.new ≡ taken (suffix_tree kind.now line) state.old) }
+    ensures { Settles state.old state.new result (taken (suffix_tree kind.now line) state.old) }
 {
     match kind {
         SuffixKind::Array(Some(length)) => expr(state, length),
@@ -346,7 +346,7 @@ fn suffix_parts(state: &mut Taken, line: u32, kind: &SuffixKind) -> Result<(), N
 #[cycle(walk)]
 #[tactic(auto, using(crate::proofs::ScopeEnds::turns_back))]
 fn param_list(state: &mut Taken, list: &[Param]) -> Result<(), NoMemory>
-    ensures { IfOk result (λ _. settled state.old state.new ≡ left_scope state.old (in_turn (trees param_view list.now) state.old)) }
+    ensures { Settles state.old state.new result (prototype_taken list.now state.old) }
 {
     let depth = state.depth();
     params(state, list)?;
