@@ -1,6 +1,5 @@
 //! What the rules of types say of expressions and names, with what these declare (C99 6.5, 6.6, 6.7.2).
 
-ghost use Rattle.std.specs.Prelude.{◌≡◌};
 ghost use Rattle.c_types.specs.Types.{plain};
 ghost use Rattle.c_tree.specs.View.{spec_tree};
 ghost use Rattle.c_tree.specs.StatementView.{expr_view};
@@ -11,6 +10,10 @@ ghost use Rattle.c_typing.specs.Layers.{plain_layer};
 ghost use Rattle.elaboration.specs.Context.{asked};
 ghost use Rattle.elaboration.specs.Declarators as plain;
 ghost use Rattle.elab_types.specs.Steps.{with_told, typed_in, wanted_in, array_layer};
+ghost use Rattle.elab_base.specs.Outcomes.{Types, Gives};
+ghost use Rattle.std.specs.Prelude.{◌≡◌};
+ghost use Rattle.elab_types.specs.Outcomes.{FindsLayer};
+ghost use Rattle.elab_types.specs.Parts.{type_of_word};
 
 use c_decls::{Constant, Scopes, TypeError, Typed, line_of};
 use c_tree::{Expr, Spec};
@@ -42,7 +45,7 @@ pub fn wanted(state: &mut Elaborator, e: &Expr) -> Result<Typed, TypeError>
 
 /// An expression that must be constant; it is gone through whole first (C99 6.6).
 pub fn constant(state: &mut Elaborator, e: &Expr) -> Result<Constant, TypeError>
-    ensures { Meets (λ k. (state.new, k)) result (plain.constant (expr_view e.now) state.old) }
+    ensures { Gives state.new result (plain.constant (expr_view e.now) state.old) }
 {
     let x = wanted(state, e)?;
     let constant = constant_from(line_of(e), &x)?;
@@ -51,7 +54,7 @@ pub fn constant(state: &mut Elaborator, e: &Expr) -> Result<Constant, TypeError>
 
 /// The layer of an array whose length is given (C99 6.7.5.2).
 pub(crate) fn array_layer(state: &mut Elaborator, line: Line, e: &Expr) -> Result<Layer, TypeError>
-    ensures { Meets (λ layer. (state.new, plain_layer layer)) result (array_layer line (expr_view e.now) state.old) }
+    ensures { FindsLayer state.new result (array_layer line (expr_view e.now) state.old) }
 {
     let x = wanted(state, e)?;
     let length = array_length(line_of(e), &x)?;
@@ -60,7 +63,7 @@ pub(crate) fn array_layer(state: &mut Elaborator, line: Line, e: &Expr) -> Resul
 
 /// A tag without braces, or the name of a type, at a line (C99 6.7.2).
 pub fn special_type(state: &mut Elaborator, line: Line, word: &Spec) -> Result<CType, TypeError>
-    ensures { Meets (λ ty. (state.new, plain ty)) result (plain.with_type (special_type line (spec_tree word.now) (asked state.old)) state.old) }
+    ensures { Types state.new result (type_of_word line word.now state.old) }
 {
     let alloc = state.alloc();
     let (mut scopes, mut tags) = state.swap_asked(Scopes::none(alloc), Tags::new(alloc)?);

@@ -4,9 +4,12 @@ ghost use Rattle.std.specs.Prelude.{◌≡◌, pos, option_copied, option_map};
 ghost use Rattle.c_types.specs.Types.{plain};
 ghost use Rattle.c_tree.specs.View.{enumerator_tree};
 ghost use Rattle.c_tree.specs.StatementView.{trees};
-ghost use Rattle.c_decls.specs.Refusals.{Meets};
 ghost use Rattle.elaboration.specs.Declarators as plain;
 ghost use Rattle.elab_types.specs.Steps.{enum_body, enumerator_by, enumerator_step, held};
+ghost use Rattle.elab_base.specs.Outcomes.{Becomes, Types, Gives};
+ghost use Rattle.c_decls.specs.Refusals.{Meets};
+ghost use Rattle.elab_types.specs.Parts.{all_enumerators, enum_of};
+ghost use Rattle.elab_base.specs.MaybeNames.{given};
 
 use crate::asked::constant;
 use c_decls::{Named, TypeError, tag_name};
@@ -22,7 +25,7 @@ fn enumerator(
     name: &[u8],
     value: i128,
 ) -> Result<i128, TypeError>
-    ensures { Meets (λ next. (state.new, next)) result (plain.enumerator line name.now value state.old) }
+    ensures { Gives state.new result (plain.enumerator line name.now value state.old) }
 {
     let value = IntKind::I32.wrap(value);
     let named = Named::Constant {
@@ -41,7 +44,7 @@ fn enumerator_by(
     value: Option<&Expr>,
     next: i128,
 ) -> Result<i128, TypeError>
-    ensures { Meets (λ next. (state.new, next)) result (enumerator_by line name.now (held (option_copied value.entry)) next state.old) }
+    ensures { Gives state.new result (enumerator_by line name.now (held (given value.entry)) next state.old) }
 {
     match value {
         Some(value) => {
@@ -64,7 +67,7 @@ fn inside(value: &Option<Box<Expr>>) -> Option<&Expr>
 
 /// Declares an enumerator of the tree.
 fn enumerator_of(state: &mut Elaborator, part: &Enumerator, next: i128) -> Result<i128, TypeError>
-    ensures { Meets (λ next. (state.new, next)) result (enumerator_step (enumerator_tree part.now) next state.old) }
+    ensures { Gives state.new result (enumerator_step (enumerator_tree part.now) next state.old) }
 {
     let value = inside(&part.value);
     enumerator_by(state, part.line, part.name.as_slice(), value, next)
@@ -73,7 +76,7 @@ fn enumerator_of(state: &mut Elaborator, part: &Enumerator, next: i128) -> Resul
 /// Declares the enumerators in braces; each without a value is one more than the one before it.
 #[tactic(auto, using(crate::proofs::Enumerators::enumerators_next))]
 fn enumerators(state: &mut Elaborator, list: &[Enumerator]) -> Result<(), TypeError>
-    ensures { Meets (λ _. state.new) result (plain.enumerators (trees enumerator_tree list.now) (pos 0) state.old) }
+    ensures { Becomes state.new result (all_enumerators list.now state.old) }
 {
     let mut next = 0i128;
     for part in list {
@@ -85,7 +88,7 @@ fn enumerators(state: &mut Elaborator, list: &[Enumerator]) -> Result<(), TypeEr
 /// Declares an enum, which has a name that its scope does not have, or none: its type is int.
 #[tactic(auto, using(crate::proofs::Enumerators::tag_declared))]
 fn enum_named(state: &mut Elaborator, line: Line, name: Option<&[u8]>) -> Result<CType, TypeError>
-    ensures { Meets (λ ty. (state.new, plain ty)) result (plain.enum_named line (option_copied name.entry) state.old) }
+    ensures { Types state.new result (plain.enum_named line (given name.entry) state.old) }
 {
     if let Some(name) = name {
         let tag = tag_name(state.alloc(), name)?;
@@ -102,7 +105,7 @@ pub(crate) fn enum_body(
     name: Option<&[u8]>,
     list: &[Enumerator],
 ) -> Result<CType, TypeError>
-    ensures { Meets (λ ty. (state.new, plain ty)) result (enum_body line (option_copied name.entry) (trees enumerator_tree list.now) state.old) }
+    ensures { Types state.new result (enum_of line (given name.entry) list.now state.old) }
 {
     enumerators(state, list)?;
     enum_named(state, line, name)

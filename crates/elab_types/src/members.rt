@@ -4,6 +4,8 @@ ghost use Rattle.std.specs.Prelude.{◌≡◌, option_copied};
 ghost use Rattle.c_types.specs.Types.{plain};
 ghost use Rattle.c_decls.specs.Refusals.{Meets};
 ghost use Rattle.elaboration.specs.Declarators.{with_member, member};
+ghost use Rattle.elab_base.specs.Outcomes.{Gives};
+ghost use Rattle.elab_base.specs.MaybeNames.{given};
 
 use crate::member_table::MemberTable;
 use c_decls::{TypeError, TypeKind, has_no_size, is_function, refused};
@@ -18,7 +20,7 @@ fn with_member(
     ty: CType,
     before: MemberTable,
 ) -> Result<MemberTable, TypeError>
-    ensures { Meets (λ all. all) result (with_member line (option_copied name.entry) (plain ty) before) }
+    ensures { Meets (λ all. all) result (with_member line (given name.entry) (plain ty) before) }
 {
     let Some(name) = name else {
         return Ok(before);
@@ -40,7 +42,7 @@ pub(crate) fn member(
     ty: CType,
     before: MemberTable,
 ) -> Result<MemberTable, TypeError>
-    ensures { Meets (λ all. (state.now, all)) result (member line (option_copied name.entry) (plain ty) before state.now) }
+    ensures { Gives state.now result (member line (given name.entry) (plain ty) before state.now) }
 {
     if is_function(&ty) {
         return refused(TypeKind::LeftOut, line);

@@ -2,8 +2,10 @@
 
 ghost use Rattle.std.specs.Prelude.{◌≡◌, option_copied};
 ghost use Rattle.c_types.specs.Types.{plain};
-ghost use Rattle.c_decls.specs.Refusals.{Meets};
 ghost use Rattle.elaboration.specs.Declarators as plain;
+ghost use Rattle.elab_base.specs.Outcomes.{Types};
+ghost use Rattle.c_decls.specs.Refusals.{Meets};
+ghost use Rattle.elab_base.specs.MaybeNames.{given};
 
 use c_decls::{TypeError, TypeKind, is_function, is_record, is_void, refused};
 use c_types::CType;
@@ -28,7 +30,7 @@ pub(crate) fn param(
     name: Option<&Items<u8>>,
     ty: CType,
 ) -> Result<CType, TypeError>
-    ensures { Meets (λ ty. (state.new, plain ty)) result (plain.param line (option_copied name.entry) (plain ty) state.old) }
+    ensures { Types state.new result (plain.param line (given name.entry) (plain ty) state.old) }
 {
     if is_void(&ty) {
         return refused(TypeKind::Incomplete, line);

@@ -3,11 +3,15 @@
 ghost use Rattle.std.specs.Prelude.{◌≡◌, [], map, option_copied};
 ghost use Rattle.c_types.specs.Types.{plain, plain_list};
 ghost use Rattle.c_tree.specs.View.{spec_tree, tag_tree, declarator_tree, base_tree};
-ghost use Rattle.c_tree.specs.StatementView.{trees, specs_view, member_view, suffix_view, param_view};
+ghost use Rattle.c_tree.specs.StatementView.{trees, specs_view, member_view, suffix_view, param_view, tag_view};
 ghost use Rattle.c_decls.specs.Refusals.{Meets};
 ghost use Rattle.c_typing.specs.Layers.{plain_layer, plain_layers};
 ghost use Rattle.elaboration.specs.Declarators as plain;
 ghost use Rattle.elab_types.specs.Steps.{record_body, members_by, member_by, param_by, behind};
+ghost use Rattle.elab_types.specs.Outcomes.{FindsLayers, FindsLayer, FindsMore, FindsTypes};
+ghost use Rattle.elab_base.specs.Outcomes.{Types, Gives};
+ghost use Rattle.elab_types.specs.Parts.{member_named, members_named, layers_behind, members_of, param_of, record_of, type_of_words};
+ghost use Rattle.elab_base.specs.MaybeNames.{given};
 
 use crate::asked::{array_layer, special_type};
 use crate::enums::enum_body;
@@ -39,7 +43,7 @@ fn bytes(name: &Option<Items<u8>>) -> Option<&[u8]>
 #[cycle(walk)]
 #[tactic(auto, unfolding(elaboration::specs::Declarators::specs))]
 pub fn specs(state: &mut Elaborator, specs: &Specs) -> Result<CType, TypeError>
-    ensures { Meets (λ ty. (state.new, plain ty)) result (plain.specs (specs_view specs.now) state.old) }
+    ensures { Types state.new result (plain.specs (specs_view specs.now) state.old) }
 {
     words_type(state, specs.line, &specs.words)
 }
@@ -47,7 +51,7 @@ pub fn specs(state: &mut Elaborator, specs: &Specs) -> Result<CType, TypeError>
 /// The type that the words of specs at a line say: a tag or the name of a type says it alone.
 #[cycle(walk)]
 fn words_type(state: &mut Elaborator, line: Line, words: &[Spec]) -> Result<CType, TypeError>
-    ensures { Meets (λ ty. (state.new, plain ty)) result (plain.words_type line (trees spec_tree words.now) (trees spec_tree words.now) state.old) }
+    ensures { Types state.new result (type_of_words line words.now state.old) }
 {
     for word in words {
         if is_special(word) {
@@ -61,7 +65,7 @@ fn words_type(state: &mut Elaborator, line: Line, words: &[Spec]) -> Result<CTyp
 #[cycle(walk)]
 #[tactic(auto, unfolding(c_tree::specs::View::spec_tree, elaboration::specs::Declarators::tag_type))]
 fn one_type(state: &mut Elaborator, line: Line, word: &Spec) -> Result<CType, TypeError>
-    ensures { Meets (λ ty. (state.new, plain ty)) result (plain.tag_type line (spec_tree word.now) state.old) }
+    ensures { Types state.new result (plain.tag_type line (spec_tree word.now) state.old) }
 {
     match word {
         Spec::Tag(tag) => tag_type(state, line, tag, word),
@@ -74,7 +78,7 @@ fn one_type(state: &mut Elaborator, line: Line, word: &Spec) -> Result<CType, Ty
 #[tactic(auto, using(crate::proofs::Nodes::record_is, crate::proofs::Nodes::enum_is), unfolding(c_tree::specs::View::tag_tree, elaboration::specs::Declarators::tag_type))]
 fn tag_type(state: &mut Elaborator, line: Line, tag: &Tag, word: &Spec) -> Result<CType, TypeError>
     requires { spec_tree word.now ≡ tag_tree tag.now.kind tag.now.line }
-    ensures { Meets (λ ty. (state.new, plain ty)) result (plain.tag_type line (tag_tree tag.now.kind tag.now.line) state.old) }
+    ensures { Types state.new result (plain.tag_type line (tag_view tag.now) state.old) }
 {
     match &tag.kind {
         TagKind::RecordBody(sort, name, list) => {
@@ -98,7 +102,7 @@ fn record_body(
     sort: RecordSort,
     name: Option<&[u8]>,
 ) -> Result<CType, TypeError>
-    ensures { Meets (λ ty. (state.new, plain ty)) result (record_body line sort (option_copied name.entry) (trees member_view list.now) state.old) }
+    ensures { Types state.new result (record_of line sort (given name.entry) list.now state.old) }
 {
     let ty = state.begin_record(sort, name)?;
     let all = members(state, list)?;
@@ -109,7 +113,7 @@ fn record_body(
 /// The members in braces.
 #[cycle(walk)]
 fn members(state: &mut Elaborator, list: &[Member]) -> Result<MemberTable, TypeError>
-    ensures { Meets (λ all. (state.new, all)) result (plain.members (trees member_view list.now) [] state.old) }
+    ensures { Gives state.new result (plain.members (trees member_view list.now) [] state.old) }
 {
     let mut all = MemberTable::new(state.alloc());
     for part in list {
@@ -125,8 +129,7 @@ fn members_by(
     part: &Member,
     before: MemberTable,
 ) -> Result<MemberTable, TypeError>
-    ensures { Meets (λ all. (state.new, all)) result
-        (members_by part.now.line (specs_view part.now.specs) (trees declarator_tree part.now.declarators.items) before state.old) }
+    ensures { Gives state.new result (members_of part.now before state.old) }
 {
     let base = specs(state, &part.specs)?;
     member_names(state, &part.declarators, part.line, &base, before)
@@ -141,8 +144,7 @@ fn member_names(
     base: &CType,
     before: MemberTable,
 ) -> Result<MemberTable, TypeError>
-    ensures { Meets (λ all. (state.new, all)) result
-        (plain.member_names line (plain base.now) (trees declarator_tree list.now) before state.old) }
+    ensures { Gives state.new result (members_named line (plain base.now) list.now before state.old) }
 {
     let mut all = before;
     for declarator in list {
@@ -160,8 +162,7 @@ fn member_by(
     base: &CType,
     before: MemberTable,
 ) -> Result<MemberTable, TypeError>
-    ensures { Meets (λ all. (state.new, all)) result
-        (member_by line (plain base.now) (declarator_tree declarator.now) before state.old) }
+    ensures { Gives state.new result (member_named line (plain base.now) declarator.now before state.old) }
 {
     let found = layers(state, declarator)?;
     let ty = with_layers(state.alloc(), state.tags(), found, *base)?;
@@ -172,7 +173,7 @@ fn member_by(
 #[cycle(walk)]
 #[tactic(auto, unfolding(elaboration::specs::Declarators::layers, c_tree::specs::View::declarator_tree), using(c_typing::proofs::LayerLists::layer_pushed))]
 pub fn layers(state: &mut Elaborator, declarator: &Declarator) -> Result<Vec<Layer>, TypeError>
-    ensures { Meets (λ layers. (state.new, plain_layers layers.items)) result (plain.layers (declarator_tree declarator.now) state.old) }
+    ensures { FindsLayers state.new result (plain.layers (declarator_tree declarator.now) state.old) }
 {
     match declarator {
         Declarator::Pointer(line, _, target) => {
@@ -191,7 +192,7 @@ pub fn layers(state: &mut Elaborator, declarator: &Declarator) -> Result<Vec<Lay
 #[cycle(walk)]
 #[tactic(auto, unfolding(elaboration::specs::Declarators::layers, c_tree::specs::View::base_tree))]
 fn base_layers(state: &mut Elaborator, base: &Base) -> Result<Vec<Layer>, TypeError>
-    ensures { Meets (λ layers. (state.new, plain_layers layers.items)) result (plain.layers (base_tree base.now) state.old) }
+    ensures { FindsLayers state.new result (plain.layers (base_tree base.now) state.old) }
 {
     match base {
         Base::Nothing | Base::Name(_) => Ok(Vec::new(state.alloc())),
@@ -206,8 +207,7 @@ fn suffix_layers(
     list: &[Suffix],
     before: Vec<Layer>,
 ) -> Result<Vec<Layer>, TypeError>
-    ensures { Meets (λ layers. (state.new, map plain_layer layers.items)) result
-        (behind (map plain_layer before.items) (plain.suffix_layers (trees suffix_view list.now) state.old)) }
+    ensures { FindsMore state.new result (layers_behind before.items list.now state.old) }
 {
     let mut all = before;
     for suffix in list {
@@ -220,7 +220,7 @@ fn suffix_layers(
 #[cycle(walk)]
 #[tactic(auto, using(crate::proofs::Nodes::params_is, crate::proofs::Nodes::array_is), unfolding(elaboration::specs::Declarators::suffix_layer, c_decls::specs::Expressions::line_of, c_tree::specs::View::suffix_tree, c_tree::specs::View::held_trees))]
 fn suffix_layer(state: &mut Elaborator, suffix: &Suffix) -> Result<Layer, TypeError>
-    ensures { Meets (λ layer. (state.new, plain_layer layer)) result (plain.suffix_layer (suffix_view suffix.now) state.old) }
+    ensures { FindsLayer state.new result (plain.suffix_layer (suffix_view suffix.now) state.old) }
 {
     let line = suffix.line;
     match &suffix.kind {
@@ -242,7 +242,7 @@ fn suffix_layer(state: &mut Elaborator, suffix: &Suffix) -> Result<Layer, TypeEr
 /// The types of parameters, each declared behind those before it.
 #[cycle(walk)]
 fn params(state: &mut Elaborator, list: &[Param]) -> Result<Vec<CType>, TypeError>
-    ensures { Meets (λ types. (state.new, plain_list types.items)) result (plain.params (trees param_view list.now) state.old) }
+    ensures { FindsTypes state.new result (plain.params (trees param_view list.now) state.old) }
 {
     let mut types = Vec::new(state.alloc());
     for part in list {
@@ -254,8 +254,7 @@ fn params(state: &mut Elaborator, list: &[Param]) -> Result<Vec<CType>, TypeErro
 /// The type of a parameter, which is declared; an array next to its name is a pointer.
 #[cycle(walk)]
 fn param_by(state: &mut Elaborator, part: &Param) -> Result<CType, TypeError>
-    ensures { Meets (λ ty. (state.new, plain ty)) result
-        (param_by part.now.line (specs_view part.now.specs) (declarator_tree part.now.declarator) state.old) }
+    ensures { Types state.new result (param_of part.now state.old) }
 {
     let base = specs(state, &part.specs)?;
     let found = layers(state, &part.declarator)?;
