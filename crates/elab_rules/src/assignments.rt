@@ -1,7 +1,6 @@
 //! Assignments, and what reads a place and writes it (C99 6.5.2.4, 6.5.3.1, 6.5.16).
 
 ghost use Rattle.std.specs.Prelude.{◌≡◌, IfOk, Ok};
-ghost use Rattle.c_types.specs.Types.{plain};
 ghost use Rattle.c_tree.specs.StatementView.{expr_view};
 ghost use Rattle.c_decls.specs.Expressions.{line_of};
 ghost use Rattle.c_decls.specs.PlaceRules.{held_place};
@@ -12,7 +11,10 @@ ghost use Rattle.elab_base.specs.PlainFound.{plain_spot, plain_found};
 ghost use Rattle.elab_rules.specs.Behind.{Behind};
 ghost use Rattle.elaboration.specs.Context.{Code};
 ghost use Rattle.elaboration.specs.Conversions.{Unknown, found_as, atom_of};
-ghost use Rattle.elaboration.specs.Assignments.{record_assigned, set_to, scalar_assigned, old_value, change_place, changed_by, stepped};
+ghost use Rattle.elaboration.specs.Assignments.{scalar_assigned, old_value, stepped};
+ghost use Rattle.elab_base.specs.Outcomes.{Emits, Finds, Yields, at};
+ghost use Rattle.c_types.specs.Types.{plain};
+ghost use Rattle.elab_rules.specs.Steps.{AssignsScalar, change_place, changed_by, changing, record_assigned, set_to};
 
 use crate::copies::copied;
 use crate::pointers::changed_to;
@@ -32,7 +34,7 @@ pub fn record_assigned(
     target: Found,
     e: Found,
 ) -> Result<Found, TypeError>
-    ensures { Meets (λ whole. (state.new, plain_found whole)) result (record_assigned line right (plain_found target) (state.old, plain_found e)) }
+    ensures { Finds state.new result (record_assigned line right target e state.old) }
 {
     let (to, from) = (target.atom(), e.atom());
     let typed = assigned(line, right, state.tags(), target.typed, e.typed)?;
@@ -54,7 +56,7 @@ fn set_to(
     spot: Spot,
     value: &Found,
 ) -> Result<Found, NoMemory>
-    ensures { IfOk result (λ whole. (state.new, plain_found whole) ≡ set_to line (cut before state.old.code) (plain_typed typed) (found_as (plain_typed typed) (plain_spot spot) Unknown) (state.old, plain_found value.now)) }
+    ensures { Yields state.new result (set_to line before typed spot value.now state.old) }
 {
     let converted = state.convert(line, before, &typed.ty, &value.typed.ty, value.atom())?;
     state.write(line, &typed.ty, spot, converted)?;
@@ -71,7 +73,7 @@ pub fn scalar_assigned(
     target: Found,
     e: Found,
 ) -> Result<Found, TypeError>
-    ensures { (code : Code) → mark_of code ≡ before → Behind code.pieces state.old.code.pieces → Meets (λ whole. (state.new, plain_found whole)) result (scalar_assigned line code (expr_view tree.now) (plain_found target) (state.old, plain_found e)) }
+    ensures { AssignsScalar line before tree.now target e state.old state.new result }
 {
     let spot = target.spot;
     let copy = copied(state.alloc(), &e.typed)?;
@@ -82,7 +84,7 @@ pub fn scalar_assigned(
 
 /// What a place that is read and written holds must be a value (C99 6.3.2.1).
 pub fn changing(state: &Elaborator, tree: &Expr, found: Found) -> Result<Found, TypeError>
-    ensures { Meets (λ same. plain_found same) result (then (held_place (line_of (expr_view tree.now)) state.now.tags (plain_typed found.typed)) (λ _. Ok (plain_found found))) }
+    ensures { Meets plain_found result (changing tree.now found state.now) }
 {
     let Found { typed, spot, fixed } = found;
     let typed = held_place(line_of(tree), state.tags(), typed)?;
@@ -91,7 +93,7 @@ pub fn changing(state: &Elaborator, tree: &Expr, found: Found) -> Result<Found, 
 
 /// What a place that is read and written holds.
 pub fn old_value(state: &mut Elaborator, line: Line, place: &Found) -> Result<Atom, NoMemory>
-    ensures { IfOk result (λ a. (state.new, a) ≡ old_value line (state.old, plain_found place.now)) }
+    ensures { Emits state.new result (old_value line (at state.old place.now)) }
 {
     state.read_spot(line, &place.typed.ty, place.spot)
 }
@@ -106,7 +108,7 @@ fn change_place(
     old: Atom,
     y: &Found,
 ) -> Result<Atom, NoMemory>
-    ensures { IfOk result (λ a. (state.new, a) ≡ change_place line op (plain_typed typed.now) (found_as (plain_typed typed.now) (plain_spot spot) Unknown) old (plain_typed y.now.typed) (atom_of (plain_spot y.now.spot)) state.old) }
+    ensures { Emits state.new result (change_place line op typed.now spot old y.now state.old) }
 {
     let value = changed_to(state, line, op, &typed.ty, old, &y.typed.ty, y.atom())?;
     state.write(line, &typed.ty, spot, value)?;
@@ -123,7 +125,7 @@ pub fn changed_by(
     old: Atom,
     y: Found,
 ) -> Result<Found, TypeError>
-    ensures { Meets (λ whole. (state.new, plain_found whole)) result (changed_by line op keeps_old (plain_found target) old (state.old, plain_found y)) }
+    ensures { Finds state.new result (changed_by line op keeps_old target old y state.old) }
 {
     let spot = target.spot;
     let typed = changed(line, op, state.tags(), target.typed, &y.typed)?;
@@ -143,7 +145,7 @@ pub fn stepped(
     keeps_old: bool,
     target: Found,
 ) -> Result<Found, TypeError>
-    ensures { Meets (λ whole. (state.new, plain_found whole)) result (stepped line op keeps_old (state.old, plain_found target)) }
+    ensures { Finds state.new result (stepped line op keeps_old (at state.old target)) }
 {
     let old = old_value(state, line, &target)?;
     let one = Found::valued(Typed::int(), Atom::Int(1));

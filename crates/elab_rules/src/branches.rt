@@ -4,13 +4,15 @@ ghost use Rattle.std.specs.Prelude.{◌≡◌, ◌+◌, IfOk};
 ghost use Rattle.c_types.specs.Types.{plain};
 ghost use Rattle.c_tree.specs.declared.operator.BinaryOp.TheVariants as b;
 ghost use Rattle.c_tree.specs.StatementView.{expr_view};
-ghost use Rattle.c_decls.specs.Refusals.{Meets};
 ghost use Rattle.c_decls.specs.Typed.{plain_typed, operand};
 ghost use Rattle.elab_base.specs.Marks.{cut};
 ghost use Rattle.elab_base.specs.PlainFound.{plain_spot, plain_found};
 ghost use Rattle.elaboration.specs.Context.{new_label};
-ghost use Rattle.elaboration.specs.Conversions.{Found as PlainFound, code_line, tested, tested_value};
-ghost use Rattle.elaboration.specs.Rules.{set_again, compare_again, and_then, and_ends, and_ended, or_else, or_ends, or_ended, chosen_by, choose_first, choose_last, choice_spot, chosen};
+ghost use Rattle.elaboration.specs.Conversions.{Found as PlainFound, code_line, tested_value};
+ghost use Rattle.elaboration.specs.Rules.{set_again, compare_again, and_ends, and_ended, or_ends, or_ended, choose_last, choice_spot, chosen};
+ghost use Rattle.elab_base.specs.Outcomes.{Emits, Finds, at};
+ghost use Rattle.c_decls.specs.Refusals.{Meets};
+ghost use Rattle.elab_rules.specs.Steps.{AndEnds, Chooses, OrEnds, and_then, choose_first, chosen_by, or_else, tested};
 
 use c_decls::{TypeError, Typed, binary, line_of};
 use c_tree::{BinaryOp, Expr};
@@ -34,14 +36,14 @@ pub(crate) fn tested_atom(
     ty: &CType,
     value: Atom,
 ) -> Result<Atom, NoMemory>
-    ensures { IfOk result (λ a. (state.new, a) ≡ tested (code_line (expr_view tree.now)) (plain ty.now) value state.old) }
+    ensures { Emits state.new result (tested tree.now ty.now value state.old) }
 {
     state.tested(line_of(tree), ty, value)
 }
 
 /// A value of that tree as an integer that is 0 or not.
 pub fn tested_value(state: &mut Elaborator, tree: &Expr, found: &Found) -> Result<Atom, NoMemory>
-    ensures { IfOk result (λ a. (state.new, a) ≡ tested_value (expr_view tree.now) (state.old, plain_found found.now)) }
+    ensures { Emits state.new result (tested_value (expr_view tree.now) (at state.old found.now)) }
 {
     tested_atom(state, tree, &found.typed.ty, found.atom())
 }
@@ -78,7 +80,7 @@ pub fn and_then(
     found: &Found,
 ) -> Result<u32, NoMemory>
     ensures label { IfOk result (λ label. label ≡ new_label state.old) }
-    ensures code { IfOk result (λ _. state.new ≡ and_then line (expr_view tree.now) (state.old, plain_found found.now)) }
+    ensures code { IfOk result (λ _. state.new ≡ and_then line tree.now found.now state.old) }
 {
     let truth = tested_value(state, tree, found)?;
     let label = state.take_labels(2)?;
@@ -93,7 +95,7 @@ fn and_ends(
     false_label: u32,
     truth: Atom,
 ) -> Result<Atom, NoMemory>
-    ensures { IfOk result (λ a. (state.new, a) ≡ and_ends line false_label (state.old, truth)) }
+    ensures { Emits state.new result (and_ends line false_label (state.old, truth)) }
 {
     let end = next_label(false_label)?;
     let to = state.take_integer()?;
@@ -114,7 +116,7 @@ pub fn and_ended(
     x: Typed,
     y: Found,
 ) -> Result<Found, TypeError>
-    ensures { (left : PlainFound) → left.typed ≡ plain_typed x → Meets (λ whole. (state.new, plain_found whole)) result (and_ended line false_label (expr_view tree.now) left (state.old, plain_found y)) }
+    ensures { AndEnds line false_label tree.now x y state.old state.new result }
 {
     let value = y.atom();
     let ty = y.typed.ty;
@@ -133,7 +135,7 @@ pub fn or_else(
     found: &Found,
 ) -> Result<(u32, Atom), NoMemory>
     ensures label { IfOk result (λ r. r.0 ≡ new_label state.old + 1) }
-    ensures code { IfOk result (λ r. (state.new, r.1) ≡ or_else line (expr_view tree.now) (state.old, plain_found found.now)) }
+    ensures code { IfOk result (λ r. (state.new, r.1) ≡ or_else line tree.now found.now state.old) }
 {
     let truth = tested_value(state, tree, found)?;
     let next = state.take_labels(2)?;
@@ -156,7 +158,7 @@ pub fn or_ended(
     x: Typed,
     y: Found,
 ) -> Result<Found, TypeError>
-    ensures { (left : PlainFound) → left.typed ≡ plain_typed x → Meets (λ whole. (state.new, plain_found whole)) result (or_ended line end (expr_view tree.now) to left (state.old, plain_found y)) }
+    ensures { OrEnds line end tree.now to x y state.old state.new result }
 {
     let value = y.atom();
     let ty = y.typed.ty;
@@ -176,7 +178,7 @@ fn chosen_by(
     source: &Typed,
     value: Atom,
 ) -> Result<Atom, NoMemory>
-    ensures { IfOk result (λ a. (state.new, a) ≡ chosen_by line (cut before state.old.code) (plain ty.now) (plain_typed source.now) (state.old, value)) }
+    ensures { Emits state.new result (chosen_by line before ty.now source.now value state.old) }
 {
     match ty {
         CType::Int(_) => {
@@ -209,7 +211,7 @@ pub fn choose_first(
     ty: &CType,
     x: &Found,
 ) -> Result<Atom, NoMemory>
-    ensures { IfOk result (λ a. (state.new, a) ≡ choose_first line other (cut before state.old.code) (plain ty.now) (state.old, plain_found x.now)) }
+    ensures { Emits state.new result (choose_first line other before ty.now x.now state.old) }
 {
     let end = next_label(other)?;
     let to = chosen_by(state, line, before, ty, &x.typed, x.atom())?;
@@ -244,7 +246,7 @@ pub fn chosen(
     x: Typed,
     y: Found,
 ) -> Result<Found, TypeError>
-    ensures { (tested first : PlainFound) → tested.typed ≡ plain_typed test.now → first.typed ≡ plain_typed x → Meets (λ whole. (state.new, plain_found whole)) result (chosen line end (cut before state.old.code) to tested first (state.old, plain_found y)) }
+    ensures { Chooses line end before to test.now x y state.old state.new result }
 {
     let value = y.atom();
     let ty = y.typed.ty;

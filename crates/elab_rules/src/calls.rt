@@ -7,6 +7,8 @@ ghost use Rattle.c_decls.specs.Named.{PlainNamed, plain_named};
 ghost use Rattle.elab_base.specs.PlainFound.{plain_spot};
 ghost use Rattle.elaboration.specs.Calls.{Argument as PlainArgument, atoms_of, element_layout, lib_name, printing, call_built_in, call_named};
 ghost use Rattle.elab_rules.specs.PlainArguments.{plain_argument, called_of, register_for, spot_of};
+ghost use Rattle.elab_base.specs.Outcomes.{Emits, Locates};
+ghost use Rattle.elab_rules.specs.Steps.{CallsBuiltIn, CallsNamed};
 
 use c_decls::{BuiltIn, Named, Typed};
 use c_types::{CType, Layout, Tags};
@@ -126,7 +128,7 @@ fn atom_at(atoms: &[Atom], place: usize) -> Atom
 
 /// A new temporary for a result, by its type; void needs none.
 fn result_register(state: &mut Elaborator, ty: &CType) -> Result<Option<u32>, NoMemory>
-    ensures { IfOk result (λ to. (state.new, to) ≡ register_for (plain ty.now) state.old) }
+    ensures { Emits state.new result (register_for (plain ty.now) state.old) }
 {
     match ty {
         CType::Int(_) => Ok(Some(state.take_integer()?)),
@@ -156,7 +158,7 @@ fn printing(
     format: Items<u8>,
     atoms: Items<Atom>,
 ) -> Result<Spot, NoMemory>
-    ensures { IfOk result (λ spot. (state.new, plain_spot spot) ≡ printing line format atoms state.old) }
+    ensures { Locates state.new result (printing line format atoms state.old) }
 {
     let number = state.format_count()?;
     state.add_format(format)?;
@@ -186,7 +188,7 @@ fn call_built_in(
     format: Option<Items<u8>>,
     atoms: Vec<Atom>,
 ) -> Result<Spot, NoMemory>
-    ensures { (arguments : List PlainArgument) → atoms_of arguments ≡ atoms.items → IfOk result (λ spot. (state.new, plain_spot spot) ≡ call_built_in line name (plain answer.now) (plain wanted.now) format arguments state.old) }
+    ensures { CallsBuiltIn line name answer.now wanted.now format atoms.items state.old state.new result }
 {
     let alloc = state.alloc();
     match name {
@@ -239,7 +241,7 @@ pub fn call_named(
     format: Option<Items<u8>>,
     atoms: Vec<Atom>,
 ) -> Result<Spot, NoMemory>
-    ensures { (name : Option PlainNamed) (arguments : List PlainArgument) → called_of name ≡ called → atoms_of arguments ≡ atoms.items → IfOk result (λ spot. (state.new, plain_spot spot) ≡ call_named line name (plain answer.now) (plain wanted.now) format arguments state.old) }
+    ensures { CallsNamed line called answer.now wanted.now format atoms.items state.old state.new result }
 {
     match called {
         Called::Function(index) => {

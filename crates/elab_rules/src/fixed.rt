@@ -4,7 +4,8 @@ ghost use Rattle.std.specs.Prelude.{◌≡◌, ◌*◌, IfOk};
 ghost use Rattle.c_types.specs.Types.{plain};
 ghost use Rattle.c_decls.specs.Typed.{operand};
 ghost use Rattle.elab_base.specs.PlainFound.{plain_fixed, plain_found};
-ghost use Rattle.elaboration.specs.Operations.{moved_by, moved_times, fixed_sum_of, fixed_sum};
+ghost use Rattle.elaboration.specs.Operations.{moved_by, moved_times, fixed_sum};
+ghost use Rattle.elab_rules.specs.Steps.{Fixes, fixed_sum_of};
 
 use c_decls::{Folded, Operand, operand_of};
 use c_tree::BinaryOp;
@@ -13,7 +14,7 @@ use hs_base::NoMemory;
 
 /// An address moved by a distance: it is not fixed where it leaves its object, or moves null.
 pub fn moved_by(state: &Elaborator, distance: i128, fixed: Fixed) -> Result<Fixed, NoMemory>
-    ensures { IfOk result (λ moved. plain_fixed moved ≡ moved_by state.now distance (plain_fixed fixed)) }
+    ensures { Fixes result (moved_by state.now distance (plain_fixed fixed)) }
 {
     match fixed {
         Fixed::Unknown => Ok(Fixed::Unknown),
@@ -43,7 +44,7 @@ fn moved_times(
     folded: Folded,
     fixed: Fixed,
 ) -> Result<Fixed, NoMemory>
-    ensures { IfOk result (λ moved. plain_fixed moved ≡ moved_times state.now down size folded (plain_fixed fixed)) }
+    ensures { Fixes result (moved_times state.now down size folded (plain_fixed fixed)) }
 {
     match folded {
         Folded::Is(number) => {
@@ -60,7 +61,7 @@ fn moved_times(
 
 /// The address that a sum or a difference of a pointer and an integer is.
 fn fixed_sum_of(state: &Elaborator, down: bool, x: &Found, y: &Found) -> Result<Fixed, NoMemory>
-    ensures { IfOk result (λ sum. plain_fixed sum ≡ fixed_sum_of state.now down (operand (plain x.now.typed.ty)) (operand (plain y.now.typed.ty)) (plain_found x.now) (plain_found y.now)) }
+    ensures { Fixes result (fixed_sum_of state.now down x.now y.now) }
 {
     match operand_of(&x.typed.ty) {
         Operand::PointerTo(target) => match operand_of(&y.typed.ty) {
@@ -84,7 +85,7 @@ fn fixed_sum_of(state: &Elaborator, down: bool, x: &Found, y: &Found) -> Result<
 /// The address that an operator's result is.
 #[tactic(auto, unfolding(elaboration::specs::Operations::fixed_sum))]
 pub fn fixed_sum(state: &Elaborator, op: BinaryOp, x: &Found, y: &Found) -> Result<Fixed, NoMemory>
-    ensures { IfOk result (λ sum. plain_fixed sum ≡ fixed_sum state.now op (plain_found x.now) (plain_found y.now)) }
+    ensures { Fixes result (fixed_sum state.now op (plain_found x.now) (plain_found y.now)) }
 {
     match op {
         BinaryOp::Add => fixed_sum_of(state, false, x, y),

@@ -1,8 +1,10 @@
 //! Operators on integers (C99 6.5.3.3, 6.5.5 to 6.5.12).
 
 ghost use Rattle.std.specs.Prelude.{◌≡◌, IfOk};
-ghost use Rattle.elaboration.specs.Operations.{convert_both, work, on_integers, before_integer};
+ghost use Rattle.elaboration.specs.Operations.{on_integers, before_integer};
 ghost use Rattle.elab_rules.specs.PlainWorking.{plain_working};
+ghost use Rattle.elab_base.specs.Outcomes.{Emits};
+ghost use Rattle.elab_rules.specs.Steps.{convert_both, work};
 
 use crate::working::{Working, works};
 use c_decls::{common_type, promoted};
@@ -28,7 +30,7 @@ fn convert_both(
     to_right: IntType,
     y: Integer,
 ) -> Result<(Atom, Atom), NoMemory>
-    ensures { IfOk result (λ both. (state.new, both.0, both.1) ≡ convert_both line to_left x.ty x.atom to_right y.ty y.atom state.old) }
+    ensures { IfOk result (λ r. (state.new, r.0, r.1) ≡ convert_both line to_left x to_right y state.old) }
 {
     let left = state.convert_integer(line, to_left, x.ty, x.atom)?;
     let right = state.convert_integer(line, to_right, y.ty, y.atom)?;
@@ -43,7 +45,7 @@ fn work(
     x: Integer,
     y: Integer,
 ) -> Result<Atom, NoMemory>
-    ensures { IfOk result (λ a. (state.new, a) ≡ work line (plain_working working) x.ty x.atom y.ty y.atom state.old) }
+    ensures { Emits state.new result (work line working x y state.old) }
 {
     match working {
         Working::Calculates(op) => {
@@ -81,7 +83,7 @@ pub fn on_integers(
     y_type: IntType,
     y: Atom,
 ) -> Result<Atom, NoMemory>
-    ensures { IfOk result (λ a. (state.new, a) ≡ on_integers line op x_type x y_type y state.old) }
+    ensures { Emits state.new result (on_integers line op x_type x y_type y state.old) }
 {
     let left = Integer {
         ty: x_type,
@@ -103,7 +105,7 @@ pub fn before_integer(
     ty: IntType,
     x: Atom,
 ) -> Result<Atom, NoMemory>
-    ensures { IfOk result (λ a. (state.new, a) ≡ before_integer line op ty x state.old) }
+    ensures { Emits state.new result (before_integer line op ty x state.old) }
 {
     let promoted = promoted(ty);
     let operand = state.convert_integer(line, promoted, ty, x)?;

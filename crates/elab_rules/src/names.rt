@@ -2,11 +2,13 @@
 
 ghost use Rattle.std.specs.Prelude.{◌≡◌, IfOk, option_map};
 ghost use Rattle.c_decls.specs.Named.{plain_named};
-ghost use Rattle.c_decls.specs.Refusals.{Meets};
 ghost use Rattle.c_decls.specs.Typed.{plain_typed};
 ghost use Rattle.elab_base.specs.PlainFound.{plain_found};
-ghost use Rattle.elaboration.specs.Rules.{constant_found, object_found, built_in_found, name_found, literal_found};
+ghost use Rattle.elaboration.specs.Rules.{constant_found, object_found, built_in_found, literal_found};
 ghost use Rattle.elaboration.specs.Expressions.{address_answer};
+ghost use Rattle.elab_base.specs.Outcomes.{Finds, at};
+ghost use Rattle.c_decls.specs.Refusals.{Meets};
+ghost use Rattle.elab_rules.specs.Steps.{name_found};
 
 use c_decls::{Folded, Named, TypeError, Typed, address};
 use core_tree::Atom;
@@ -60,7 +62,7 @@ fn built_in_found(typed: Typed) -> Found
 
 /// A name that has a type: a local in a register, an object, or a constant.
 pub fn name_found(typed: Typed, inner: bool, named: Option<&Named>) -> Result<Found, NoMemory>
-    ensures { IfOk result (λ found. plain_found found ≡ name_found (plain_typed typed) inner (option_map (λ n. plain_named n.now) named.entry)) }
+    ensures { IfOk result (λ found. plain_found found ≡ name_found typed inner named.entry) }
 {
     match named {
         Some(Named::Register { index, .. }) => {
@@ -85,7 +87,7 @@ pub fn name_found(typed: Typed, inner: bool, named: Option<&Named>) -> Result<Fo
 
 /// A string literal that has a static.
 pub fn literal_found(state: &Elaborator, typed: Typed, object: u32) -> Found
-    ensures { (state.now, plain_found result) ≡ literal_found (plain_typed typed) (state.now, object) }
+    ensures { at state.now result ≡ literal_found (plain_typed typed) (state.now, object) }
 {
     let _ = state;
     Found {
@@ -97,7 +99,7 @@ pub fn literal_found(state: &Elaborator, typed: Typed, object: u32) -> Found
 
 /// `&` of a place.
 pub fn address_of(state: &Elaborator, line: Line, found: Found) -> Result<Found, TypeError>
-    ensures { Meets (λ whole. (state.now, plain_found whole)) result (address_answer line state.now (plain_found found)) }
+    ensures { Finds state.now result (address_answer line state.now (plain_found found)) }
 {
     let value = found.atom();
     Ok(Found {

@@ -1,14 +1,15 @@
 //! Operators before a value and between two, and casts (C99 6.5.3 to 6.5.12).
 
-ghost use Rattle.std.specs.Prelude.{◌≡◌, IfOk};
 ghost use Rattle.c_types.specs.Types.{plain};
 ghost use Rattle.c_tree.specs.StatementView.{expr_view};
-ghost use Rattle.c_decls.specs.Refusals.{Meets};
-ghost use Rattle.c_decls.specs.Typed.{plain_typed};
 ghost use Rattle.elab_base.specs.Marks.{cut};
 ghost use Rattle.elab_base.specs.PlainFound.{plain_found};
-ghost use Rattle.elab_rules.specs.Negated.{negated};
-ghost use Rattle.elaboration.specs.Rules.{applied, between, cast_to, cast_fixed};
+ghost use Rattle.elaboration.specs.Rules.{applied, cast_fixed};
+ghost use Rattle.elab_base.specs.Outcomes.{Emits, Finds};
+ghost use Rattle.std.specs.Prelude.{◌≡◌, IfOk};
+ghost use Rattle.c_decls.specs.Refusals.{Meets};
+ghost use Rattle.c_decls.specs.Typed.{plain_typed};
+ghost use Rattle.elab_rules.specs.Steps.{between, cast_to, negated};
 
 use crate::branches::tested_atom;
 use crate::fixed::fixed_sum;
@@ -30,7 +31,7 @@ fn negated(
     ty: &CType,
     value: Atom,
 ) -> Result<Atom, NoMemory>
-    ensures { IfOk result (λ a. (state.new, a) ≡ negated line (expr_view tree.now) (plain ty.now) value state.old) }
+    ensures { Emits state.new result (negated line tree.now ty.now value state.old) }
 {
     let truth = tested_atom(state, tree, ty, value)?;
     let to = state.take_integer()?;
@@ -46,7 +47,7 @@ pub fn applied(
     tree: &Expr,
     e: Found,
 ) -> Result<Found, TypeError>
-    ensures { Meets (λ whole. (state.new, plain_found whole)) result (applied line op (expr_view tree.now) state.old (plain_found e)) }
+    ensures { Finds state.new result (applied line op (expr_view tree.now) state.old (plain_found e)) }
 {
     let value = e.atom();
     let ty = e.typed.ty;
@@ -79,7 +80,7 @@ pub fn between(
     x: Found,
     y: Found,
 ) -> Result<Found, TypeError>
-    ensures { Meets (λ whole. (state.new, plain_found whole)) result (between line op (cut before state.old.code) state.old (plain_found x) (plain_found y)) }
+    ensures { Finds state.new result (between line op before x y state.old) }
 {
     let fixed = fixed_sum(state, op, &x, &y)?;
     let (left, right) = (x.atom(), y.atom());
@@ -110,7 +111,7 @@ pub fn cast_to(
     before: Mark,
     e: Found,
 ) -> Result<Found, TypeError>
-    ensures { Meets (λ whole. (state.new, plain_found whole)) result (cast_to line (plain ty) (cut before state.old.code) state.old (plain_found e)) }
+    ensures { Finds state.new result (cast_to line ty before e state.old) }
 {
     let typed = cast(line, ty, &e.typed)?;
     let value = state.convert(line, before, &ty, &e.typed.ty, e.atom())?;

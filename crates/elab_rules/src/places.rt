@@ -2,11 +2,13 @@
 
 ghost use Rattle.std.specs.Prelude.{◌≡◌, IfOk};
 ghost use Rattle.c_types.specs.Types.{plain};
-ghost use Rattle.c_decls.specs.Refusals.{Meets};
 ghost use Rattle.c_decls.specs.Typed.{plain_typed, operand};
 ghost use Rattle.elab_base.specs.PlainFound.{plain_found};
 ghost use Rattle.elaboration.specs.Operations.{offset_of};
-ghost use Rattle.elaboration.specs.Rules.{member_of, target_of, indexed, dotted, pointed};
+ghost use Rattle.elaboration.specs.Rules.{target_of, indexed, dotted, pointed};
+ghost use Rattle.elab_base.specs.Outcomes.{Finds, Yields};
+ghost use Rattle.c_decls.specs.Refusals.{Meets};
+ghost use Rattle.elab_rules.specs.Steps.{member_of};
 
 use crate::fixed::{fixed_sum, moved_by};
 use crate::pointers::{combined, member_address, offset_of};
@@ -19,7 +21,7 @@ use hs_base::{Line, NoMemory};
 /// `e[f]`: the place at the sum of a pointer and an integer.
 #[tactic(auto, using(crate::proofs::Cuts::cut_here))]
 pub fn indexed(state: &mut Elaborator, line: Line, x: Found, y: Found) -> Result<Found, TypeError>
-    ensures { Meets (λ whole. (state.new, plain_found whole)) result (indexed line state.old (plain_found x) (plain_found y)) }
+    ensures { Finds state.new result (indexed line state.old (plain_found x) (plain_found y)) }
 {
     let fixed = fixed_sum(state, BinaryOp::Add, &x, &y)?;
     let (left, right) = (x.atom(), y.atom());
@@ -51,7 +53,7 @@ fn member_of(
     typed: Typed,
     e: &Found,
 ) -> Result<Found, NoMemory>
-    ensures { IfOk result (λ whole. (state.new, plain_found whole) ≡ member_of line offset (plain_typed typed) state.old (plain_found e.now)) }
+    ensures { Yields state.new result (member_of line offset typed e.now state.old) }
 {
     let fixed = moved_by(state, i128::from(offset), e.fixed)?;
     let address = member_address(state, line, offset, e.atom())?;
@@ -64,7 +66,7 @@ fn member_of(
 
 /// `e.name`
 pub fn dotted(state: &mut Elaborator, line: Line, name: &[u8], e: Found) -> Result<Found, TypeError>
-    ensures { Meets (λ whole. (state.new, plain_found whole)) result (dotted line name.now state.old (plain_found e)) }
+    ensures { Finds state.new result (dotted line name.now state.old (plain_found e)) }
 {
     let typed = dot(state.alloc(), line, name, state.tags(), &e.typed)?;
     let offset = offset_of(state.tags(), name, &e.typed.ty);
@@ -89,7 +91,7 @@ pub fn pointed(
     name: &[u8],
     e: Found,
 ) -> Result<Found, TypeError>
-    ensures { Meets (λ whole. (state.new, plain_found whole)) result (pointed line name.now state.old (plain_found e)) }
+    ensures { Finds state.new result (pointed line name.now state.old (plain_found e)) }
 {
     let typed = arrow(state.alloc(), line, name, state.tags(), &e.typed)?;
     let offset = offset_behind(state, name, &e);

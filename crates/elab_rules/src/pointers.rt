@@ -5,8 +5,10 @@ ghost use Rattle.c_types.specs.Types.{plain};
 ghost use Rattle.c_types.specs.TagTable.{members_in};
 ghost use Rattle.c_decls.specs.Typed.{operand, plain_operand};
 ghost use Rattle.elab_base.specs.Marks.{cut};
-ghost use Rattle.elaboration.specs.Operations.{move_pointer, between_pointers, pointer_beside, beside_integer, combine, change, changed_to, offset_of, offset_among, member_address, working};
+ghost use Rattle.elaboration.specs.Operations.{changed_to, offset_of, offset_among, member_address, working};
 ghost use Rattle.elab_rules.specs.PlainWorking.{plain_working};
+ghost use Rattle.elab_base.specs.Outcomes.{Emits};
+ghost use Rattle.elab_rules.specs.Steps.{beside_integer, between_pointers, change, combine, move_pointer, pointer_beside};
 
 use crate::integers::on_integers;
 use crate::working::{Working, works};
@@ -27,7 +29,7 @@ fn move_pointer(
     pointer: Atom,
     number: Atom,
 ) -> Result<Atom, NoMemory>
-    ensures { IfOk result (λ a. (state.new, a) ≡ move_pointer line op (plain target.now) pointer number state.old) }
+    ensures { Emits state.new result (move_pointer line op target.now pointer number state.old) }
 {
     let size = i128::from(state.size_or_zero(target)?);
     let to = state.take_pointer()?;
@@ -48,7 +50,7 @@ fn between_pointers(
     left: Atom,
     right: Atom,
 ) -> Result<Atom, NoMemory>
-    ensures { IfOk result (λ a. (state.new, a) ≡ between_pointers line (plain_working working) (plain target.now) left right state.old) }
+    ensures { Emits state.new result (between_pointers line working target.now left right state.old) }
 {
     match working {
         Working::Compares(op) => {
@@ -75,7 +77,7 @@ fn pointer_beside(
     pointer: Atom,
     number: Atom,
 ) -> Result<Atom, NoMemory>
-    ensures { IfOk result (λ a. (state.new, a) ≡ pointer_beside line op (working op) (cut before state.old.code) (plain target.now) pointer number state.old) }
+    ensures { Emits state.new result (pointer_beside line op before target.now pointer number state.old) }
 {
     match works(op) {
         Working::Compares(test) => {
@@ -99,7 +101,7 @@ fn beside_integer(
     number: Atom,
     pointer: Atom,
 ) -> Result<Atom, NoMemory>
-    ensures { IfOk result (λ a. (state.new, a) ≡ beside_integer line op (working op) (plain target.now) number pointer state.old) }
+    ensures { Emits state.new result (beside_integer line op target.now number pointer state.old) }
 {
     match works(op) {
         Working::Compares(test) => {
@@ -124,7 +126,7 @@ pub fn combined(
     y_type: &CType,
     y: Atom,
 ) -> Result<Atom, NoMemory>
-    ensures { IfOk result (λ a. (state.new, a) ≡ combine line op (cut before state.old.code) (operand (plain x_type.now)) (operand (plain y_type.now)) x y state.old) }
+    ensures { Emits state.new result (combine line op before x_type.now y_type.now x y state.old) }
 {
     match operand_of(x_type) {
         Operand::Number(left) => match operand_of(y_type) {
@@ -151,7 +153,7 @@ pub fn changed_to(
     y_type: &CType,
     y: Atom,
 ) -> Result<Atom, NoMemory>
-    ensures { IfOk result (λ a. (state.new, a) ≡ change line op (operand (plain ty.now)) (operand (plain y_type.now)) old y state.old) }
+    ensures { Emits state.new result (change line op ty.now y_type.now old y state.old) }
 {
     match operand_of(ty) {
         Operand::Number(left) => match operand_of(y_type) {
@@ -198,7 +200,7 @@ pub fn member_address(
     offset: u32,
     address: Atom,
 ) -> Result<Atom, NoMemory>
-    ensures { IfOk result (λ a. (state.new, a) ≡ member_address line offset address state.old) }
+    ensures { Emits state.new result (member_address line offset address state.old) }
 {
     let to = state.take_pointer()?;
     state.emit(line, StmKind::Off(to, address, i128::from(offset)))?;
