@@ -1,3 +1,4 @@
 pub mod NumbersBy
 pub mod StaticsBy
 pub mod PlainNames
+pub mod Programs

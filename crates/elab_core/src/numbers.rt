@@ -3,7 +3,7 @@
 ghost use Rattle.std.specs.Prelude.{◌≡◌, ◌+◌, List, IfOk, option_map};
 ghost use Rattle.elaboration.specs.Context.{Piece as PlainPiece};
 ghost use Rattle.elaboration.specs.Resolving.{register_by, static_by, function_by, atom_by, atoms_by};
-ghost use Rattle.elab_core.specs.NumbersBy.{point_at, numbers_by};
+ghost use Rattle.elab_core.specs.NumbersBy.{point_at, numbers_by, AreAtoms, IsAtom, register_in};
 
 use core_tree::Atom;
 use elab_base::Declared;
@@ -78,7 +78,7 @@ impl Numbers<'_> {
 
     /// An operand.
     pub(crate) fn atom(&self, atom: Atom) -> Result<Atom, NoMemory>
-        ensures { (pieces : List PlainPiece) → IfOk result (λ r. r ≡ atom_by (numbers_by self.now pieces) atom) }
+        ensures { IsAtom self.now atom result }
     {
         match atom {
             Atom::Reg(register) => Ok(Atom::Reg(self.register(register)?)),
@@ -91,7 +91,7 @@ impl Numbers<'_> {
 
     /// Operands in turn.
     pub(crate) fn atoms(&self, atoms: Items<Atom>) -> Result<Items<Atom>, NoMemory>
-        ensures { (pieces : List PlainPiece) → IfOk result (λ r. r ≡ atoms_by (numbers_by self.now pieces) atoms) }
+        ensures { AreAtoms self.now atoms result }
     {
         let mut numbered = Items::new(self.alloc);
         for atom in atoms.as_slice() {
@@ -102,7 +102,7 @@ impl Numbers<'_> {
 
     /// A register, where there is one.
     pub(crate) fn maybe_register(&self, register: Option<u32>) -> Result<Option<u32>, NoMemory>
-        ensures { IfOk result (λ r. r ≡ option_map (register_by self.now.locals self.now.integers) register) }
+        ensures { IfOk result (λ r. r ≡ option_map (register_in self.now) register) }
     {
         match register {
             Some(register) => Ok(Some(self.register(register)?)),

@@ -3,6 +3,7 @@
 ghost use Rattle.std.specs.Prelude.{◌≡◌, ◌++◌, None, IfOk, length, map, replicate};
 ghost use Rattle.elaboration.specs.Context.{Context};
 ghost use Rattle.elaboration.specs.Resolving.{variable_static, literal_static, function_of, core_of};
+ghost use Rattle.elab_core.specs.Programs.{AreFunctions, IsFunction, WithVariables, nameless};
 
 use crate::names::plain_name;
 use crate::numbers::Numbers;
@@ -16,7 +17,7 @@ use std::alloc::Global;
 
 /// Adds registers without names.
 fn with_registers(registers: Vec<Reg>, count: u32, pointer: bool) -> Result<Vec<Reg>, NoMemory>
-    ensures { IfOk result (λ r. r.items ≡ registers.items ++ replicate count (record { name = None; pointer = pointer })) }
+    ensures { IfOk result (λ r. r.items ≡ registers.items ++ nameless count pointer) }
 {
     let mut registers = registers;
     for made in 0..count {
@@ -36,7 +37,7 @@ fn function(
     functions: &[Declared],
     walked: Walked,
 ) -> Result<Func, NoMemory>
-    ensures { (c : Context) → length c.variables ≡ variables → c.functions ≡ functions.now → IfOk result (λ r. r ≡ function_of c walked) }
+    ensures { IsFunction variables functions.now walked result }
 {
     let (name, params, running, code) = walked.into_parts();
     let (line, locals, mems, formats) = running.into_parts();
@@ -74,7 +75,7 @@ fn all_functions(
     functions: &[Declared],
     walked: Vec<Walked>,
 ) -> Result<Items<Func>, NoMemory>
-    ensures { (c : Context) → length c.variables ≡ variables → c.functions ≡ functions.now → IfOk result (λ r. r ≡ map (function_of c) walked.items) }
+    ensures { AreFunctions variables functions.now walked.items result }
 {
     let mut all = Items::new(alloc);
     for one in walked {
@@ -89,7 +90,7 @@ fn all_variables(
     count: u32,
     variables: Vec<Variable>,
 ) -> Result<Items<Static>, NoMemory>
-    ensures { (c : Context) → length c.variables ≡ count → IfOk result (λ r. r ≡ map (variable_static c) variables.items) }
+    ensures { WithVariables count (λ c. IfOk result (λ r. r ≡ map (variable_static c) variables.items)) }
 {
     let mut all = Items::new(alloc);
     for one in variables {

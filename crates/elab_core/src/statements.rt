@@ -4,7 +4,7 @@ ghost use Rattle.std.specs.Prelude.{◌≡◌, List, IfOk, map};
 ghost use Rattle.elaboration.specs.Context.{Piece as PlainPiece};
 ghost use Rattle.elaboration.specs.Resolving.{numbered, body_of};
 ghost use Rattle.elab_base.specs.PlainPieces.{plain_piece};
-ghost use Rattle.elab_core.specs.NumbersBy.{IsPlaced, numbers_by};
+ghost use Rattle.elab_core.specs.NumbersBy.{IsPlaced, numbers_by, IsBody, IsNumbered};
 
 use crate::numbers::Numbers;
 use core_tree::{Stm, StmKind};
@@ -15,7 +15,7 @@ impl Numbers<'_> {
     /// A statement that calculates.
     #[tactic(auto, unfolding(elaboration::specs::Resolving::numbered))]
     fn calculated(&self, kind: StmKind) -> Result<StmKind, NoMemory>
-        ensures { (pieces : List PlainPiece) → IsPlaced self.now.points.now self.now.total pieces → IfOk result (λ r. r ≡ numbered (numbers_by self.now pieces) kind) }
+        ensures { IsNumbered self.now kind result }
     {
         match kind {
             StmKind::Set(r, a) => Ok(StmKind::Set(self.register(r)?, self.atom(a)?)),
@@ -54,7 +54,7 @@ impl Numbers<'_> {
     /// A statement that reads or writes memory.
     #[tactic(auto, unfolding(elaboration::specs::Resolving::numbered))]
     fn accessed(&self, kind: StmKind) -> Result<StmKind, NoMemory>
-        ensures { (pieces : List PlainPiece) → IsPlaced self.now.points.now self.now.total pieces → IfOk result (λ r. r ≡ numbered (numbers_by self.now pieces) kind) }
+        ensures { IsNumbered self.now kind result }
     {
         match kind {
             StmKind::Load(k, r, p) => Ok(StmKind::Load(k, self.register(r)?, self.atom(p)?)),
@@ -70,7 +70,7 @@ impl Numbers<'_> {
     /// A statement that goes elsewhere.
     #[tactic(auto, unfolding(elaboration::specs::Resolving::numbered))]
     fn jumped(&self, kind: StmKind) -> Result<StmKind, NoMemory>
-        ensures { (pieces : List PlainPiece) → IsPlaced self.now.points.now self.now.total pieces → IfOk result (λ r. r ≡ numbered (numbers_by self.now pieces) kind) }
+        ensures { IsNumbered self.now kind result }
     {
         match kind {
             StmKind::Jump(l) => Ok(StmKind::Jump(self.point(l))),
@@ -88,7 +88,7 @@ impl Numbers<'_> {
     /// A statement that calls.
     #[tactic(auto, unfolding(elaboration::specs::Resolving::numbered))]
     fn called(&self, kind: StmKind) -> Result<StmKind, NoMemory>
-        ensures { (pieces : List PlainPiece) → IsPlaced self.now.points.now self.now.total pieces → IfOk result (λ r. r ≡ numbered (numbers_by self.now pieces) kind) }
+        ensures { IsNumbered self.now kind result }
     {
         match kind {
             StmKind::Call(f, r, args) => {
@@ -124,7 +124,7 @@ impl Numbers<'_> {
     /// The statements among pieces.
     #[tactic(auto, using(crate::proofs::Bodies::body_more))]
     pub(crate) fn body(&self, pieces: Vec<Piece>) -> Result<Items<Stm>, NoMemory>
-        ensures { (all : List PlainPiece) → IsPlaced self.now.points.now self.now.total all → IfOk result (λ body. body ≡ body_of (numbers_by self.now all) (map plain_piece pieces.items)) }
+        ensures { IsBody self.now (map plain_piece pieces.items) result }
     {
         let mut body = Items::new(self.alloc);
         for piece in pieces {

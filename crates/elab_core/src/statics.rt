@@ -4,6 +4,7 @@ ghost use Rattle.std.specs.Prelude.{◌≡◌, IfOk, length, map};
 ghost use Rattle.elaboration.specs.Context.{Context};
 ghost use Rattle.elaboration.specs.Resolving.{start_by, variable_static, literal_static};
 ghost use Rattle.elab_core.specs.StaticsBy.{pointer_by};
+ghost use Rattle.elab_core.specs.Programs.{WithVariables};
 
 use crate::names::plain_name;
 use crate::numbers::static_number;
@@ -56,7 +57,7 @@ pub(crate) fn variable(
     variables: u32,
     variable: Variable,
 ) -> Result<Static, NoMemory>
-    ensures { (c : Context) → length c.variables ≡ variables → IfOk result (λ r. r ≡ variable_static c variable) }
+    ensures { WithVariables variables (λ c. IfOk result (λ r. r ≡ variable_static c variable)) }
 {
     let (name, layout, first) = variable.into_parts();
     let first = match first {
