@@ -1,7 +1,9 @@
 -- The arguments of a call, one by one.
 use Rattle.std.specs.Prelude.{ℕ, zero, suc, List, ◌++◌, Option, Some, None, Ok}
 use Rattle.c_types.specs.Types.{PlainType, PlainTypes, Void}
+use Rattle.c_tree.specs.declared.tree.Expr.{Expr}
 use Rattle.c_tree.specs.Tree.{Tree}
+use Rattle.c_tree.specs.StatementView.{trees, expr_view}
 use Rattle.c_decls.specs.Refusals.{Checked, then}
 use Rattle.c_decls.specs.Typed.{PlainTyped}
 use Rattle.c_decls.specs.Callees.{Callee, NoFunction}
@@ -10,7 +12,7 @@ use Rattle.c_decls.specs.Expressions.{typed, literal}
 use Rattle.elaboration.specs.Context.{Context, With, asked}
 use Rattle.elaboration.specs.Conversions.{Found, atom_in, convert}
 use Rattle.elaboration.specs.Calls.{Argument, first_type, rest_types, argument_from}
-use Rattle.elaboration.specs.Expressions.{format_argument, is_printf, value_of}
+use Rattle.elaboration.specs.Expressions.{format_argument, is_printf, value_of, arguments, parameters}
 
 -- whose argument it is, by its place: only the first of `printf` is a format
 abbrev pub target_at : ℕ → Callee → Callee
@@ -26,6 +28,15 @@ types_from (suc place) params = rest_types (types_from place params)
 abbrev pub argument : ℕ → Callee → PlainTypes → Tree → Context → With Argument
 argument line target params tree c =
     then (format_argument (is_printf target tree) c (typed tree (asked c)) (value_of tree (first_type params) c)) (λ d. Ok (argument_from line params c.code d.0 d.1))
+
+-- the argument at a place of a call
+abbrev pub argument_at : ℕ → ℕ → Callee → Tree → Context → With Argument
+argument_at line place target tree c =
+    argument line (target_at place target) (types_from place (parameters target)) tree c
+
+-- all arguments of a call
+abbrev pub all_arguments : ℕ → Callee → List Expr → Context → With (List Argument)
+all_arguments line target list c = arguments line target (parameters target) (trees expr_view list) c
 
 -- an argument as it is
 abbrev pub as_it_is : Context × Found → With Argument

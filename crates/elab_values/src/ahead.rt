@@ -5,8 +5,10 @@ ghost use Rattle.c_types.specs.Types.{plain};
 ghost use Rattle.c_tree.specs.StatementView.{expr_view};
 ghost use Rattle.c_decls.specs.Typed.{plain_typed};
 ghost use Rattle.elab_base.specs.Marks.{cut};
-ghost use Rattle.elab_base.specs.PlainFound.{plain_found};
 ghost use Rattle.elaboration.specs.Rules.{ahead, tells_equal, is_pointer_ahead, left_operand, choice_ahead};
+ghost use Rattle.elab_base.specs.Outcomes.{Yields, at};
+ghost use Rattle.elab_base.specs.PlainFound.{plain_found};
+ghost use Rattle.elab_values.specs.Leaves.{left_of, type_before};
 
 use c_decls::{Operand, TypeError, Typed, operand_of};
 use c_tree::{BinaryOp, Expr};
@@ -57,7 +59,7 @@ pub(crate) fn left_operand(
     right: &Expr,
     left: Found,
 ) -> Result<Found, NoMemory>
-    ensures { IfOk result (λ e. (state.new, plain_found e) ≡ left_operand op (cut before state.old.code) (expr_view right.now) (state.old, plain_found left)) }
+    ensures { Yields state.new result (left_of op before (expr_view right.now) (at state.old left)) }
 {
     if !tells_equal(op) || !left.typed.is_null_constant() {
         return Ok(left);
@@ -81,7 +83,7 @@ pub(crate) fn type_ahead(
     test: &Typed,
     x: &Typed,
 ) -> Result<CType, NoMemory>
-    ensures { IfOk result (λ ty. plain ty ≡ choice_ahead line (plain_typed test.now) (plain_typed x.now) (ahead (expr_view last.now) state.now)) }
+    ensures { IfOk result (λ ty. plain ty ≡ type_before line test.now x.now last.now state.now) }
 {
     let Some(y) = ahead(state, last)? else {
         return Ok(CType::Void);

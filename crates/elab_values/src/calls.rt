@@ -9,11 +9,13 @@ ghost use Rattle.c_decls.specs.Refusals.{Meets};
 ghost use Rattle.c_decls.specs.Typed.{plain_typed};
 ghost use Rattle.c_decls.specs.TypeNames.{Context as Names};
 ghost use Rattle.c_typing.specs.Callee.{plain_callee};
-ghost use Rattle.elab_base.specs.PlainFound.{plain_found};
 ghost use Rattle.elab_rules.specs.PlainArguments.{plain_argument, called_of};
 ghost use Rattle.elab_values.specs.Arguments.{format_of};
 ghost use Rattle.elaboration.specs.Calls.{types_of, atoms_of};
 ghost use Rattle.elaboration.specs.Expressions.{callee_name, call_answer};
+ghost use Rattle.elab_base.specs.Outcomes.{Finds};
+ghost use Rattle.elab_base.specs.PlainFound.{plain_found};
+ghost use Rattle.elab_values.specs.Outcomes.{FindsCall, FindsFormat, call_of, plain_arguments};
 
 use c_decls::{TypeError, Typed};
 use c_tree::{Expr, ExprKind};
@@ -43,7 +45,7 @@ pub(crate) fn format_typed(
     line: Line,
     kind: &ExprKind,
 ) -> Result<Option<Typed>, TypeError>
-    ensures { (names : Names) → Meets (λ typed. option_map plain_typed typed) result (format_of (expr_tree kind.now line) names) }
+    ensures { FindsFormat (expr_tree kind.now line) result }
 {
     match kind {
         ExprKind::Str(parts) => {
@@ -64,8 +66,8 @@ struct Values {
 
 /// Takes arguments apart.
 fn taken_apart(alloc: Global, arguments: Vec<Argument>) -> Result<Values, NoMemory>
-    ensures types { IfOk result (λ sides. map plain_typed sides.types.items ≡ types_of (map plain_argument arguments.items)) }
-    ensures atoms { IfOk result (λ sides. sides.atoms.items ≡ atoms_of (map plain_argument arguments.items)) }
+    ensures types { IfOk result (λ r. map plain_typed r.types.items ≡ types_of (plain_arguments arguments)) }
+    ensures atoms { IfOk result (λ r. r.atoms.items ≡ atoms_of (plain_arguments arguments)) }
 {
     let mut types = Vec::new(alloc);
     let mut atoms = Vec::new(alloc);
@@ -86,7 +88,7 @@ pub(crate) fn call_answer(
     arguments: &[Expr],
     values: Vec<Argument>,
 ) -> Result<Found, TypeError>
-    ensures { (name : Option PlainNamed) → called_of name ≡ named → Meets (λ e. (state.new, plain_found e)) result (call_answer line name (plain_callee callee) (plain wanted.now) (trees expr_view arguments.now) state.old (map plain_argument values.items)) }
+    ensures { FindsCall named state.new result (λ n. call_of line n callee (plain wanted.now) arguments.now values state.old) }
 {
     let alloc = state.alloc();
     let literal = first_literal(alloc, arguments)?;

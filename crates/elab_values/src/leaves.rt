@@ -2,13 +2,15 @@
 
 ghost use Rattle.std.specs.Prelude.{◌≡◌, Ok, IfOk};
 ghost use Rattle.c_tree.specs.View.{literal_leaves};
-ghost use Rattle.c_decls.specs.Refusals.{Meets};
 ghost use Rattle.c_decls.specs.ScopeList.{found as declaration};
 ghost use Rattle.c_decls.specs.Typed.{constant};
 ghost use Rattle.c_decls.specs.Expressions as types;
 ghost use Rattle.elab_base.specs.PlainFound.{plain_found};
 ghost use Rattle.elaboration.specs.Rules.{constant_found};
 ghost use Rattle.elaboration.specs.Expressions.{name_answer, literal_answer};
+ghost use Rattle.elab_base.specs.Outcomes.{Finds};
+ghost use Rattle.c_decls.specs.Refusals.{Meets};
+ghost use Rattle.elab_values.specs.Leaves.{character_found, integer_found, literal_value, name_value};
 
 use c_decls::{TypeError, Typed};
 use c_typing::{char_constant, int_constant, joined, named, string};
@@ -19,7 +21,7 @@ use std::alloc::Global;
 
 /// A name.
 pub(crate) fn name(state: &Elaborator, line: Line, name: &[u8]) -> Result<Found, TypeError>
-    ensures { Meets (λ e. (state.now, plain_found e)) result (name_answer line name.now (declaration state.now.scopes name.now) state.now) }
+    ensures { Finds state.now result (name_value line name.now state.now) }
 {
     let declared = state.scopes().find(name);
     let typed = named(state.alloc(), line, declared)?;
@@ -28,14 +30,14 @@ pub(crate) fn name(state: &Elaborator, line: Line, name: &[u8]) -> Result<Found,
 
 /// An integer constant.
 pub(crate) fn integer(bytes: &[u8]) -> Result<Found, NoMemory>
-    ensures { IfOk result (λ e. plain_found e ≡ constant_found (constant (types.int_constant bytes.now))) }
+    ensures { IfOk result (λ e. plain_found e ≡ integer_found bytes.now) }
 {
     Ok(constant_found(Typed::constant(int_constant(bytes)?)))
 }
 
 /// A character constant.
 pub(crate) fn character(alloc: Global, bytes: &[u8]) -> Result<Found, NoMemory>
-    ensures { IfOk result (λ e. plain_found e ≡ constant_found (constant (types.char_constant bytes.now))) }
+    ensures { IfOk result (λ e. plain_found e ≡ character_found bytes.now) }
 {
     Ok(constant_found(Typed::constant(char_constant(alloc, bytes)?)))
 }
@@ -46,7 +48,7 @@ pub(crate) fn literal(
     line: Line,
     parts: &[Items<u8>],
 ) -> Result<Found, TypeError>
-    ensures { Meets (λ e. (state.new, plain_found e)) result (literal_answer line (types.joined (literal_leaves parts.now)) state.old) }
+    ensures { Finds state.new result (literal_value line parts.now state.old) }
 {
     let alloc = state.alloc();
     let bytes = joined(alloc, parts)?;

@@ -8,17 +8,20 @@ ghost use Rattle.c_tree.specs.declared.operator.UnaryOp.TheVariants as u;
 ghost use Rattle.c_tree.specs.Words as w;
 ghost use Rattle.c_tree.specs.Forms as f;
 ghost use Rattle.c_tree.specs.Tree.{Leaf, At, Node, none, ◌▹◌};
-ghost use Rattle.c_tree.specs.View.{expr_tree};
 ghost use Rattle.c_tree.specs.StatementView.{trees, expr_view, typename_view};
 ghost use Rattle.c_decls.specs.Refusals.{Meets, then};
 ghost use Rattle.c_typing.specs.Callee.{plain_callee};
-ghost use Rattle.elab_base.specs.PlainFound.{plain_found};
 ghost use Rattle.elab_rules.specs.PlainArguments.{plain_argument};
-ghost use Rattle.elab_values.specs.Arguments.{target_at, types_from, argument, loose_argument, printed_argument, taken_argument};
-ghost use Rattle.elab_values.specs.Forms.{before_value, between_values, changed_place};
+ghost use Rattle.elab_values.specs.Arguments.{target_at, types_from, argument, loose_argument, printed_argument, taken_argument, all_arguments, argument_at};
+ghost use Rattle.elab_values.specs.Forms.{before_value, between_values, changed_place, callee_of, cast_value, changing_place, comma_values, stepped_place, unused_value};
 ghost use Rattle.elaboration.specs.Assignments.{stepped};
 ghost use Rattle.elaboration.specs.Conversions.{unused};
 ghost use Rattle.elaboration.specs.Expressions.{found, arguments, value_of, callee, cast_operand, changing, comma_answer, parameters};
+ghost use Rattle.elab_base.specs.Outcomes.{Finds};
+ghost use Rattle.c_tree.specs.View.{expr_tree};
+ghost use Rattle.elab_base.specs.PlainFound.{plain_found};
+ghost use Rattle.elab_values.specs.Outcomes.{Calls, Takes, TakesAll};
+ghost use Rattle.elab_values.specs.Trees.{arrow_tree, assign_tree, binary_tree, call_tree, cast_tree, choice_tree, dot_tree, index_tree, unary_tree};
 
 use crate::ahead::{left_operand, type_ahead};
 use crate::calls::{call_answer, called_name, format_typed};
@@ -46,7 +49,7 @@ use hs_base::Line;
 #[cycle(walk)]
 #[tactic(auto, unfolding(elaboration::specs::Expressions::found, c_tree::specs::View::expr_tree), using(crate::proofs::Steps::call_is, crate::proofs::Steps::sizeof_expr_is, crate::proofs::Steps::sizeof_type_is))]
 pub fn found(state: &mut Elaborator, tree: &Expr, wanted: &CType) -> Result<Found, TypeError>
-    ensures { Meets (λ e. (state.new, plain_found e)) result (found (expr_view tree.now) (plain wanted.now) state.old) }
+    ensures { Finds state.new result (found (expr_view tree.now) (plain wanted.now) state.old) }
 {
     let line = tree.line;
     match &tree.kind {
@@ -81,7 +84,7 @@ pub fn found(state: &mut Elaborator, tree: &Expr, wanted: &CType) -> Result<Foun
 /// As [`found`].
 #[cycle(walk)]
 pub fn value_of(state: &mut Elaborator, tree: &Expr, wanted: &CType) -> Result<Found, TypeError>
-    ensures { Meets (λ e. (state.new, plain_found e)) result (value_of (expr_view tree.now) (plain wanted.now) state.old) }
+    ensures { Finds state.new result (value_of (expr_view tree.now) (plain wanted.now) state.old) }
 {
     let e = found(state, tree, wanted)?;
     state.wanted_from(tree, e)
@@ -95,7 +98,7 @@ pub fn value_of(state: &mut Elaborator, tree: &Expr, wanted: &CType) -> Result<F
 /// As [`found`].
 #[cycle(walk)]
 pub fn unused_of(state: &mut Elaborator, tree: &Expr, wanted: &CType) -> Result<Found, TypeError>
-    ensures { Meets (λ e. (state.new, plain_found e)) result (unused (expr_view tree.now) (found (expr_view tree.now) (plain wanted.now) state.old)) }
+    ensures { Finds state.new result (unused_value (expr_view tree.now) (plain wanted.now) state.old) }
 {
     let e = found(state, tree, wanted)?;
     state.valued_from(tree, e)
@@ -104,7 +107,7 @@ pub fn unused_of(state: &mut Elaborator, tree: &Expr, wanted: &CType) -> Result<
 /// The operand of a cast to a type; to void no value is used (C99 6.5.4).
 #[cycle(walk)]
 fn cast_operand(state: &mut Elaborator, ty: &CType, tree: &Expr) -> Result<Found, TypeError>
-    ensures { Meets (λ e. (state.new, plain_found e)) result (cast_operand (plain ty.now) (expr_view tree.now) (found (expr_view tree.now) (plain ty.now) state.old)) }
+    ensures { Finds state.new result (cast_value (plain ty.now) (expr_view tree.now) state.old) }
 {
     if is_void(ty) {
         unused_of(state, tree, ty)
@@ -116,7 +119,7 @@ fn cast_operand(state: &mut Elaborator, ty: &CType, tree: &Expr) -> Result<Found
 /// An operand that is read and written.
 #[cycle(walk)]
 fn place_of(state: &mut Elaborator, tree: &Expr) -> Result<Found, TypeError>
-    ensures { Meets (λ e. (state.new, plain_found e)) result (changing (expr_view tree.now) (found (expr_view tree.now) Void state.old)) }
+    ensures { Finds state.new result (changing_place (expr_view tree.now) state.old) }
 {
     let e = found(state, tree, &CType::Void)?;
     changing(state, tree, e)
@@ -126,7 +129,7 @@ fn place_of(state: &mut Elaborator, tree: &Expr) -> Result<Found, TypeError>
 #[cycle(walk)]
 #[tactic(auto, unfolding(elaboration::specs::Expressions::found))]
 fn element(state: &mut Elaborator, line: Line, e: &Expr, g: &Expr) -> Result<Found, TypeError>
-    ensures { Meets (λ whole. (state.new, plain_found whole)) result (found (Node f.Index (At line ▹ expr_view e.now ▹ expr_view g.now ▹ none)) Void state.old) }
+    ensures { Finds state.new result (found (index_tree line e.now g.now) Void state.old) }
 {
     let x = value_of(state, e, &CType::Void)?;
     let y = value_of(state, g, &CType::Void)?;
@@ -137,7 +140,7 @@ fn element(state: &mut Elaborator, line: Line, e: &Expr, g: &Expr) -> Result<Fou
 #[cycle(walk)]
 #[tactic(auto, unfolding(elaboration::specs::Expressions::found))]
 fn dot(state: &mut Elaborator, line: Line, e: &Expr, name: &[u8]) -> Result<Found, TypeError>
-    ensures { Meets (λ whole. (state.new, plain_found whole)) result (found (Node f.Dot (At line ▹ expr_view e.now ▹ Leaf (w.Name name.now) ▹ none)) Void state.old) }
+    ensures { Finds state.new result (found (dot_tree line e.now name.now) Void state.old) }
 {
     let x = found(state, e, &CType::Void)?;
     dotted(state, line, name, x)
@@ -147,7 +150,7 @@ fn dot(state: &mut Elaborator, line: Line, e: &Expr, name: &[u8]) -> Result<Foun
 #[cycle(walk)]
 #[tactic(auto, unfolding(elaboration::specs::Expressions::found))]
 fn arrow(state: &mut Elaborator, line: Line, e: &Expr, name: &[u8]) -> Result<Found, TypeError>
-    ensures { Meets (λ whole. (state.new, plain_found whole)) result (found (Node f.Arrow (At line ▹ expr_view e.now ▹ Leaf (w.Name name.now) ▹ none)) Void state.old) }
+    ensures { Finds state.new result (found (arrow_tree line e.now name.now) Void state.old) }
 {
     let x = value_of(state, e, &CType::Void)?;
     pointed(state, line, name, x)
@@ -162,7 +165,7 @@ fn step(
     keeps_old: bool,
     e: &Expr,
 ) -> Result<Found, TypeError>
-    ensures { Meets (λ whole. (state.new, plain_found whole)) result (then (changing (expr_view e.now) (found (expr_view e.now) Void state.old)) (λ d. stepped line op keeps_old d)) }
+    ensures { Finds state.new result (stepped_place line op keeps_old (expr_view e.now) state.old) }
 {
     let x = place_of(state, e)?;
     stepped(state, line, op, keeps_old, x)
@@ -171,7 +174,7 @@ fn step(
 /// An operator before an operand (C99 6.5.3)
 #[cycle(walk)]
 fn in_front(state: &mut Elaborator, line: Line, op: UnaryOp, e: &Expr) -> Result<Found, TypeError>
-    ensures { Meets (λ whole. (state.new, plain_found whole)) result (found (Node (f.Unary op) (At line ▹ expr_view e.now ▹ none)) Void state.old) }
+    ensures { Finds state.new result (found (unary_tree line op e.now) Void state.old) }
 {
     match op {
         UnaryOp::Address => address(state, line, e),
@@ -188,7 +191,7 @@ fn beside(
     e: &Expr,
     g: &Expr,
 ) -> Result<Found, TypeError>
-    ensures { Meets (λ whole. (state.new, plain_found whole)) result (found (Node (f.Binary op) (At line ▹ expr_view e.now ▹ expr_view g.now ▹ none)) Void state.old) }
+    ensures { Finds state.new result (found (binary_tree line op e.now g.now) Void state.old) }
 {
     match op {
         BinaryOp::And => and(state, line, e, g),
@@ -206,7 +209,7 @@ fn written(
     e: &Expr,
     g: &Expr,
 ) -> Result<Found, TypeError>
-    ensures { Meets (λ whole. (state.new, plain_found whole)) result (found (Node (f.Assign op) (At line ▹ expr_view e.now ▹ expr_view g.now ▹ none)) Void state.old) }
+    ensures { Finds state.new result (found (assign_tree line op e.now g.now) Void state.old) }
 {
     match op {
         AssignOp::Plain => assign(state, line, e, g),
@@ -218,7 +221,7 @@ fn written(
 #[cycle(walk)]
 #[tactic(auto, unfolding(elaboration::specs::Expressions::found))]
 fn address(state: &mut Elaborator, line: Line, e: &Expr) -> Result<Found, TypeError>
-    ensures { Meets (λ whole. (state.new, plain_found whole)) result (found (Node (f.Unary u.Address) (At line ▹ expr_view e.now ▹ none)) Void state.old) }
+    ensures { Finds state.new result (found (unary_tree line u.Address e.now) Void state.old) }
 {
     let x = found(state, e, &CType::Void)?;
     address_of(state, line, x)
@@ -227,7 +230,7 @@ fn address(state: &mut Elaborator, line: Line, e: &Expr) -> Result<Found, TypeEr
 /// An operator before a value, other than `&` (C99 6.5.3)
 #[cycle(walk)]
 fn unary(state: &mut Elaborator, line: Line, op: UnaryOp, e: &Expr) -> Result<Found, TypeError>
-    ensures { Meets (λ whole. (state.new, plain_found whole)) result (before_value line op (expr_view e.now) state.old) }
+    ensures { Finds state.new result (before_value line op (expr_view e.now) state.old) }
 {
     let x = value_of(state, e, &CType::Void)?;
     applied(state, line, op, e, x)
@@ -237,7 +240,7 @@ fn unary(state: &mut Elaborator, line: Line, op: UnaryOp, e: &Expr) -> Result<Fo
 #[cycle(walk)]
 #[tactic(auto, unfolding(elaboration::specs::Expressions::found))]
 fn cast(state: &mut Elaborator, line: Line, ty: &TypeName, e: &Expr) -> Result<Found, TypeError>
-    ensures { Meets (λ whole. (state.new, plain_found whole)) result (found (Node f.Cast (At line ▹ typename_view ty.now ▹ expr_view e.now ▹ none)) Void state.old) }
+    ensures { Finds state.new result (found (cast_tree line ty.now e.now) Void state.old) }
 {
     let before = state.mark();
     let ty = typename(state, ty)?;
@@ -249,7 +252,7 @@ fn cast(state: &mut Elaborator, line: Line, ty: &TypeName, e: &Expr) -> Result<F
 #[cycle(walk)]
 #[tactic(auto, unfolding(elaboration::specs::Expressions::found))]
 fn and(state: &mut Elaborator, line: Line, e: &Expr, g: &Expr) -> Result<Found, TypeError>
-    ensures { Meets (λ whole. (state.new, plain_found whole)) result (found (Node (f.Binary b.And) (At line ▹ expr_view e.now ▹ expr_view g.now ▹ none)) Void state.old) }
+    ensures { Finds state.new result (found (binary_tree line b.And e.now g.now) Void state.old) }
 {
     let x = value_of(state, e, &CType::Void)?;
     let label = and_then(state, line, e, &x)?;
@@ -261,7 +264,7 @@ fn and(state: &mut Elaborator, line: Line, e: &Expr, g: &Expr) -> Result<Found, 
 #[cycle(walk)]
 #[tactic(auto, unfolding(elaboration::specs::Expressions::found))]
 fn or(state: &mut Elaborator, line: Line, e: &Expr, g: &Expr) -> Result<Found, TypeError>
-    ensures { Meets (λ whole. (state.new, plain_found whole)) result (found (Node (f.Binary b.Or) (At line ▹ expr_view e.now ▹ expr_view g.now ▹ none)) Void state.old) }
+    ensures { Finds state.new result (found (binary_tree line b.Or e.now g.now) Void state.old) }
 {
     let x = value_of(state, e, &CType::Void)?;
     let ends = or_else(state, line, e, &x)?;
@@ -278,7 +281,7 @@ fn binary(
     e: &Expr,
     g: &Expr,
 ) -> Result<Found, TypeError>
-    ensures { Meets (λ whole. (state.new, plain_found whole)) result (between_values line op (expr_view e.now) (expr_view g.now) state.old) }
+    ensures { Finds state.new result (between_values line op (expr_view e.now) (expr_view g.now) state.old) }
 {
     let before = state.mark();
     let x = value_of(state, e, &CType::Void)?;
@@ -298,7 +301,7 @@ fn choose(
     g: &Expr,
     h: &Expr,
 ) -> Result<Found, TypeError>
-    ensures { Meets (λ whole. (state.new, plain_found whole)) result (found (Node f.Cond (At line ▹ expr_view e.now ▹ expr_view g.now ▹ expr_view h.now ▹ none)) Void state.old) }
+    ensures { Finds state.new result (found (choice_tree line e.now g.now h.now) Void state.old) }
 {
     let test = value_of(state, e, &CType::Void)?;
     let other = and_then(state, line, e, &test)?;
@@ -316,7 +319,7 @@ fn choose(
 #[cycle(walk)]
 #[tactic(auto, unfolding(elaboration::specs::Expressions::found))]
 fn assign(state: &mut Elaborator, line: Line, e: &Expr, g: &Expr) -> Result<Found, TypeError>
-    ensures { Meets (λ whole. (state.new, plain_found whole)) result (found (Node (f.Assign a.Plain) (At line ▹ expr_view e.now ▹ expr_view g.now ▹ none)) Void state.old) }
+    ensures { Finds state.new result (found (assign_tree line a.Plain e.now g.now) Void state.old) }
 {
     let target = found(state, e, &CType::Void)?;
     let before = state.mark();
@@ -337,7 +340,7 @@ fn change(
     e: &Expr,
     g: &Expr,
 ) -> Result<Found, TypeError>
-    ensures { Meets (λ whole. (state.new, plain_found whole)) result (changed_place line op (expr_view e.now) (expr_view g.now) state.old) }
+    ensures { Finds state.new result (changed_place line op (expr_view e.now) (expr_view g.now) state.old) }
 {
     let target = place_of(state, e)?;
     let old = old_value(state, line, &target)?;
@@ -348,7 +351,7 @@ fn change(
 /// `e, g` (C99 6.5.17)
 #[cycle(walk)]
 fn comma(state: &mut Elaborator, e: &Expr, g: &Expr) -> Result<Found, TypeError>
-    ensures { Meets (λ whole. (state.new, plain_found whole)) result (then (unused (expr_view e.now) (found (expr_view e.now) Void state.old)) (λ d. then (unused (expr_view g.now) (found (expr_view g.now) Void d.0)) (λ r. Ok (comma_answer r)))) }
+    ensures { Finds state.new result (comma_values (expr_view e.now) (expr_view g.now) state.old) }
 {
     unused_of(state, e, &CType::Void)?;
     let last = unused_of(state, g, &CType::Void)?;
@@ -369,7 +372,7 @@ fn call(
     function: &Expr,
     wanted: &CType,
 ) -> Result<Found, TypeError>
-    ensures { Meets (λ whole. (state.new, plain_found whole)) result (found (Node f.Call (At line ▹ expr_view function.now ▹ Node f.Arguments (trees expr_view list.now) ▹ none)) (plain wanted.now) state.old) }
+    ensures { Finds state.new result (found (call_tree line function.now list.now) (plain wanted.now) state.old) }
 {
     let named = called_name(state, function.line, &function.kind);
     let target = callee(state, function)?;
@@ -381,7 +384,7 @@ fn call(
 #[cycle(walk)]
 #[tactic(auto, unfolding(c_tree::specs::View::expr_tree))]
 fn callee(state: &mut Elaborator, tree: &Expr) -> Result<Callee, TypeError>
-    ensures { Meets (λ target. (state.new, plain_callee target)) result (callee (expr_view tree.now) state.old (found (expr_view tree.now) Void state.old)) }
+    ensures { Calls state.new result (callee_of (expr_view tree.now) state.old) }
 {
     match &tree.kind {
         ExprKind::Name(name) => {
@@ -403,7 +406,7 @@ fn arguments(
     target: &Callee,
     list: &[Expr],
 ) -> Result<Vec<Argument>, TypeError>
-    ensures { Meets (λ values. (state.new, map plain_argument values.items)) result (arguments line (plain_callee target.now) (parameters (plain_callee target.now)) (trees expr_view list.now) state.old) }
+    ensures { TakesAll state.new result (all_arguments line (plain_callee target.now) list.now state.old) }
 {
     let mut values = Vec::new(state.alloc());
     for (place, e) in list.iter().enumerate() {
@@ -428,7 +431,7 @@ fn argument(
     place: usize,
     e: &Expr,
 ) -> Result<Argument, TypeError>
-    ensures { Meets (λ value. (state.new, plain_argument value)) result (argument line (target_at place (plain_callee target.now)) (types_from place (parameters (plain_callee target.now))) (expr_view e.now) state.old) }
+    ensures { Takes state.new result (argument_at line place (plain_callee target.now) (expr_view e.now) state.old) }
 {
     match target {
         Callee::Takes(signature) => match param_at(signature, place) {
@@ -449,7 +452,7 @@ fn argument(
 /// An argument that no parameter takes.
 #[cycle(walk)]
 fn loose_argument(state: &mut Elaborator, e: &Expr) -> Result<Argument, TypeError>
-    ensures { Meets (λ value. (state.new, plain_argument value)) result (loose_argument (expr_view e.now) state.old) }
+    ensures { Takes state.new result (loose_argument (expr_view e.now) state.old) }
 {
     let x = value_of(state, e, &CType::Void)?;
     let atom = x.atom();
@@ -462,7 +465,7 @@ fn loose_argument(state: &mut Elaborator, e: &Expr) -> Result<Argument, TypeErro
 /// The first argument of `printf`: where it is string literals they are no object, but a format.
 #[cycle(walk)]
 fn printed_argument(state: &mut Elaborator, e: &Expr) -> Result<Argument, TypeError>
-    ensures { Meets (λ value. (state.new, plain_argument value)) result (printed_argument (expr_view e.now) state.old) }
+    ensures { Takes state.new result (printed_argument (expr_view e.now) state.old) }
 {
     match format_typed(state.alloc(), e.line, &e.kind)? {
         Some(typed) => Ok(Argument {
@@ -481,7 +484,7 @@ fn taken_argument(
     ty: &CType,
     e: &Expr,
 ) -> Result<Argument, TypeError>
-    ensures { Meets (λ value. (state.new, plain_argument value)) result (taken_argument line (plain ty.now) (expr_view e.now) state.old) }
+    ensures { Takes state.new result (taken_argument line (plain ty.now) (expr_view e.now) state.old) }
 {
     let before = state.mark();
     let x = value_of(state, e, ty)?;
