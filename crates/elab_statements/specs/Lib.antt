@@ -8,3 +8,6 @@ pub mod GivenLengths
 pub mod PlainAround
 pub mod Held
 pub mod Switches
+pub mod Initializing
+pub mod Declaring
+pub mod Stepping

@@ -3,9 +3,11 @@
 ghost use Rattle.std.specs.Prelude.{◌≡◌};
 ghost use Rattle.c_types.specs.Types.{plain};
 ghost use Rattle.c_tree.specs.StatementView.{body_view};
-ghost use Rattle.c_decls.specs.Refusals.{Meets};
-ghost use Rattle.elaboration.specs.Externals.{last_answer, body_ended, body, defined};
+ghost use Rattle.elaboration.specs.Externals.{last_answer, body_ended};
 ghost use Rattle.elab_base.specs.Idle.{idled};
+ghost use Rattle.elab_base.specs.Outcomes.{Becomes};
+ghost use Rattle.c_decls.specs.Refusals.{Meets};
+ghost use Rattle.elab_statements.specs.Declaring.{body, defined};
 
 use crate::around::Around;
 use crate::statements::items;
@@ -40,7 +42,7 @@ fn body_ended(
     ty: &CType,
     end: Line,
 ) -> Result<(), TypeError>
-    ensures { Meets (λ _. state.new) result (idled (body_ended line name.now (plain ty.now) end state.old)) }
+    ensures { Becomes state.new result (idled (body_ended line name.now (plain ty.now) end state.old)) }
 {
     let value = last_answer(state.running().answer());
     state.emit(end, StmKind::Return(value))?;
@@ -56,7 +58,7 @@ fn body(
     list: &[Stmt],
     end: Line,
 ) -> Result<(), TypeError>
-    ensures { Meets (λ _. state.new) result (idled (body line name.now (plain ty.now) (body_view list.now end) state.old)) }
+    ensures { Becomes state.new result (body line name.now ty.now list.now end state.old) }
 {
     items(state, list, Around::body())?;
     body_ended(state, line, name, ty, end)
@@ -71,7 +73,7 @@ pub(crate) fn defined(
     list: &[Stmt],
     end: Line,
 ) -> Result<(), TypeError>
-    ensures { Meets (λ _. state.new) result (idled (defined line name.now (plain ty) (body_view list.now end) state.old)) }
+    ensures { Becomes state.new result (defined line name.now ty list.now end state.old) }
 {
     if !is_function(&ty) {
         return refused(TypeKind::LeftOut, line);

@@ -3,11 +3,11 @@
 ghost use Rattle.std.specs.Prelude.{◌≡◌, false, length, map};
 ghost use Rattle.c_types.specs.Types.{plain};
 ghost use Rattle.c_tree.specs.StatementView.{trees, init_view};
-ghost use Rattle.c_decls.specs.Refusals.{Meets};
 ghost use Rattle.elaboration.specs.Initializers as rules;
-ghost use Rattle.elab_statements.specs.Braces.{in_braces};
 ghost use Rattle.elab_statements.specs.PlainParts.{plain_part};
-ghost use Rattle.elab_statements.specs.PlainTarget.{plain_target};
+ghost use Rattle.elab_statements.specs.PlainTarget.{plain_target, Fills};
+ghost use Rattle.c_decls.specs.Refusals.{Meets};
+ghost use Rattle.elab_statements.specs.Initializing.{elements, in_braces, in_order, initialize, members};
 
 use crate::parts::{Part, part_at, parts_of, takes_braces};
 use crate::targets::Target;
@@ -35,8 +35,7 @@ pub fn initialize(
     offset: u32,
     target: Target,
 ) -> Result<Target, TypeError>
-    ensures { Meets (λ filled. (state.new, plain_target filled)) result
-        (rules.initialize (init_view init.now) in_scalar (plain ty.now) offset (plain_target target) state.old) }
+    ensures { Fills state.new result (initialize init.now in_scalar ty.now offset target state.old) }
 {
     match &init.kind {
         InitKind::Expr(e) => by_expression(state, e, line_of(e), ty, offset, target),
@@ -58,8 +57,7 @@ fn list_of(
     offset: u32,
     target: Target,
 ) -> Result<Target, TypeError>
-    ensures { Meets (λ filled. (state.new, plain_target filled)) result
-        (in_braces line (trees init_view list.now) in_scalar (plain ty.now) offset (plain_target target) state.old) }
+    ensures { Fills state.new result (in_braces line list.now in_scalar ty.now offset target state.old) }
 {
     if takes_braces(ty, in_scalar) {
         in_order(state, list, line, ty, offset, target)
@@ -80,8 +78,7 @@ fn in_order(
     offset: u32,
     target: Target,
 ) -> Result<Target, TypeError>
-    ensures { Meets (λ filled. (state.new, plain_target filled)) result
-        (rules.initialize_parts line (trees init_view list.now) (rules.is_scalar_type (plain ty.now)) (rules.parts_of state.old (length list.now) (plain ty.now) offset) (plain_target target) state.old) }
+    ensures { Fills state.new result (in_order line list.now ty.now offset target state.old) }
 {
     let alloc = state.alloc();
     match ty {
@@ -119,8 +116,7 @@ fn elements(
     size: u32,
     target: Target,
 ) -> Result<Target, TypeError>
-    ensures { Meets (λ filled. (state.new, plain_target filled)) result
-        (rules.initialize_parts line (trees init_view list.now) in_scalar (rules.elements (length list.now) count offset size (plain element.now)) (plain_target target) state.old) }
+    ensures { Fills state.new result (elements line list.now in_scalar count offset size element.now target state.old) }
 {
     let mut filled = target;
     let mut left = count;
@@ -146,8 +142,7 @@ fn members(
     parts: &[Part],
     target: Target,
 ) -> Result<Target, TypeError>
-    ensures { Meets (λ filled. (state.new, plain_target filled)) result
-        (rules.initialize_parts line (trees init_view list.now) false (map plain_part parts.now) (plain_target target) state.old) }
+    ensures { Fills state.new result (members line list.now parts.now target state.old) }
 {
     let mut filled = target;
     for (place, init) in list.iter().enumerate() {

@@ -3,11 +3,13 @@
 ghost use Rattle.std.specs.Prelude.{true, []};
 ghost use Rattle.c_tree.specs.View.{declarator_tree};
 ghost use Rattle.c_tree.specs.StatementView.{specs_view, names_view, body_view, decl_view};
+ghost use Rattle.elaboration.specs.Declarations.{declaration};
+ghost use Rattle.elaboration.specs.Externals.{begun, external};
+ghost use Rattle.elab_base.specs.Idle.{idled};
+ghost use Rattle.elab_base.specs.Outcomes.{Becomes};
 ghost use Rattle.c_decls.specs.Refusals.{Meets};
 ghost use Rattle.elaboration.specs.Context.{Context};
-ghost use Rattle.elaboration.specs.Declarations.{declaration};
-ghost use Rattle.elaboration.specs.Externals.{begun, definition, external};
-ghost use Rattle.elab_base.specs.Idle.{idled};
+ghost use Rattle.elab_statements.specs.Declaring.{definition, file_names};
 
 use crate::bodies::defined;
 use crate::names::declaration;
@@ -28,7 +30,7 @@ fn definition(
     list: &[Stmt],
     end: Line,
 ) -> Result<(), TypeError>
-    ensures { Meets (λ _. state.new) result (idled (definition line (specs_view words.now) (declarator_tree declarator.now) (body_view list.now end) state.old)) }
+    ensures { Becomes state.new result (definition line words.now declarator.now list.now end state.old) }
 {
     let base = specs(state, words)?;
     let layers = layers(state, declarator)?;
@@ -46,7 +48,7 @@ fn file_names(
     words: &Specs,
     names: &[(Declarator, Option<Init>)],
 ) -> Result<(), TypeError>
-    ensures { Meets (λ _. state.new) result (idled (declaration true line (specs_view words.now) (names_view names.now) (begun line [] state.old))) }
+    ensures { Becomes state.new result (file_names line words.now names.now state.old) }
 {
     state.begin_external(line, Vec::new(state.alloc()))?;
     declaration(state, true, line, words, names)?;
@@ -57,7 +59,7 @@ fn file_names(
 /// An external declaration, from its begin to its end, behind which no function runs.
 #[tactic(auto, unfolding(elaboration::specs::Externals::external))]
 pub(crate) fn external(state: &mut Elaborator, decl: &Decl) -> Result<(), TypeError>
-    ensures { Meets (λ _. state.new) result (idled (external (decl_view decl.now) state.old)) }
+    ensures { Becomes state.new result (idled (external (decl_view decl.now) state.old)) }
 {
     match decl {
         Decl::Function {

@@ -2,12 +2,15 @@
 
 ghost use Rattle.std.specs.Prelude.{option_copied, ◌≡◌, Some, None};
 ghost use Rattle.c_tree.specs.StatementView.{expr_view};
-ghost use Rattle.c_decls.specs.Refusals.{Meets};
 ghost use Rattle.c_types.specs.Types.{plain};
-ghost use Rattle.elaboration.specs.Statements.{evaluated, maybe_evaluated, condition, leaves_if_zero, maybe_leaves, return_value, return_of, return_from};
+ghost use Rattle.elaboration.specs.Statements.{evaluated, maybe_evaluated, condition, leaves_if_zero, maybe_leaves, return_from};
 ghost use Rattle.elab_base.specs.Marks.{cut};
-ghost use Rattle.elab_base.specs.PlainFound.{plain_found};
 ghost use Rattle.elab_statements.specs.Held.{held};
+ghost use Rattle.elab_base.specs.Outcomes.{Becomes, Gives, at};
+ghost use Rattle.c_decls.specs.Refusals.{Meets};
+ghost use Rattle.elab_base.specs.PlainFound.{plain_found};
+ghost use Rattle.elab_base.specs.MaybeNames.{given};
+ghost use Rattle.elab_statements.specs.Stepping.{return_of, return_value};
 
 use crate::jumps::returned;
 use c_decls::{TypeError, TypeKind, is_scalar, is_void, line_of, refused};
@@ -22,7 +25,7 @@ use hs_base::Line;
 
 /// An expression as a statement: its value is not used (C99 6.8.3).
 pub(crate) fn evaluated(state: &mut Elaborator, e: &Expr) -> Result<(), TypeError>
-    ensures { Meets (λ _. state.new) result (evaluated (expr_view e.now) state.old) }
+    ensures { Becomes state.new result (evaluated (expr_view e.now) state.old) }
 {
     opened(state, e)?;
     unused_of(state, e, &CType::Void)?;
@@ -32,7 +35,7 @@ pub(crate) fn evaluated(state: &mut Elaborator, e: &Expr) -> Result<(), TypeErro
 
 /// The same where there may be none.
 pub(crate) fn maybe_evaluated(state: &mut Elaborator, e: Option<&Expr>) -> Result<(), TypeError>
-    ensures { Meets (λ _. state.new) result (maybe_evaluated (held (option_copied e.entry)) state.old) }
+    ensures { Becomes state.new result (maybe_evaluated (held (given e.entry)) state.old) }
 {
     match e {
         Some(e) => evaluated(state, e),
@@ -42,7 +45,7 @@ pub(crate) fn maybe_evaluated(state: &mut Elaborator, e: Option<&Expr>) -> Resul
 
 /// A condition, as an integer that is 0 or not (C99 6.8.4.1, 6.8.5).
 fn condition(state: &mut Elaborator, e: &Expr) -> Result<Atom, TypeError>
-    ensures { Meets (λ truth. (state.new, truth)) result (condition (expr_view e.now) state.old) }
+    ensures { Gives state.new result (condition (expr_view e.now) state.old) }
 {
     opened(state, e)?;
     let found = value_of(state, e, &CType::Void)?;
@@ -61,7 +64,7 @@ pub(crate) fn leaves_if_zero(
     label: u32,
     e: &Expr,
 ) -> Result<(), TypeError>
-    ensures { Meets (λ _. state.new) result (leaves_if_zero line label (expr_view e.now) state.old) }
+    ensures { Becomes state.new result (leaves_if_zero line label (expr_view e.now) state.old) }
 {
     let truth = condition(state, e)?;
     state.emit(line, StmKind::Zero(truth, label))?;
@@ -75,7 +78,7 @@ pub(crate) fn maybe_leaves(
     label: u32,
     e: Option<&Expr>,
 ) -> Result<(), TypeError>
-    ensures { Meets (λ _. state.new) result (maybe_leaves line label (held (option_copied e.entry)) state.old) }
+    ensures { Becomes state.new result (maybe_leaves line label (held (given e.entry)) state.old) }
 {
     match e {
         Some(e) => leaves_if_zero(state, line, label, e),
@@ -94,7 +97,7 @@ fn return_value(
     before: Mark,
     found: &Found,
 ) -> Result<(), TypeError>
-    ensures { Meets (λ _. state.new) result (return_value line delays (expr_view e.now) (plain ty.now) (cut before state.old.code) (state.old, plain_found found.now)) }
+    ensures { Becomes state.new result (return_value line delays e.now ty.now before found.now state.old) }
 {
     let value = state.convert(line, before, ty, &found.typed.ty, found.atom())?;
     closed(state, e)?;
@@ -111,7 +114,7 @@ fn return_of(
     e: &Expr,
     ty: &CType,
 ) -> Result<(), TypeError>
-    ensures { Meets (λ _. state.new) result (return_of line delays (expr_view e.now) (plain ty.now) state.old) }
+    ensures { Becomes state.new result (return_of line delays e.now ty.now state.old) }
 {
     opened(state, e)?;
     let before = state.mark();
@@ -132,7 +135,7 @@ pub(crate) fn return_from(
     delays: u32,
     e: Option<&Expr>,
 ) -> Result<(), TypeError>
-    ensures { Meets (λ _. state.new) result (return_from line delays (held (option_copied e.entry)) state.old) }
+    ensures { Becomes state.new result (return_from line delays (held (given e.entry)) state.old) }
 {
     let ty = *state.running().answer();
     match e {

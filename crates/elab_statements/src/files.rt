@@ -2,11 +2,14 @@
 
 ghost use Rattle.std.specs.Prelude.{◌≡◌, option_copied};
 ghost use Rattle.c_types.specs.Types.{plain};
-ghost use Rattle.c_decls.specs.Refusals.{Meets};
 ghost use Rattle.elaboration.specs.Declarations as rules;
 ghost use Rattle.elab_statements.specs.GivenLengths.{held};
 ghost use Rattle.elab_statements.specs.PlainTarget.{plain_target};
 ghost use Rattle.elab_statements.specs.PlainStorage.{plain_storage};
+ghost use Rattle.elab_base.specs.Outcomes.{Becomes};
+ghost use Rattle.c_decls.specs.Refusals.{Meets};
+ghost use Rattle.elab_base.specs.MaybeNames.{given};
+ghost use Rattle.elab_statements.specs.Declaring.{file_name, file_object, file_value, fill_variable};
 
 use crate::braces::initialize;
 use crate::targets::Target;
@@ -22,7 +25,7 @@ use std::alloc::Global;
 
 /// A function has no initializer; one that it has is gone through, and refused.
 fn no_initializer(state: &mut Elaborator, init: Option<&Init>) -> Result<(), TypeError>
-    ensures { Meets (λ _. state.new) result (rules.no_initializer (held (option_copied init.entry)) state.old) }
+    ensures { Becomes state.new result (rules.no_initializer (held (given init.entry)) state.old) }
 {
     match init {
         None => Ok(()),
@@ -51,7 +54,7 @@ fn fill_variable(
     ty: &CType,
     init: Option<&Init>,
 ) -> Result<(), TypeError>
-    ensures { Meets (λ _. state.new) result (rules.fill_variable line index (plain ty.now) (held (option_copied init.entry)) state.old) }
+    ensures { Becomes state.new result (fill_variable line index ty.now init.entry state.old) }
 {
     match init {
         None => Ok(()),
@@ -77,7 +80,7 @@ fn file_object(
     ty: CType,
     init: Option<&Init>,
 ) -> Result<(), TypeError>
-    ensures { Meets (λ _. state.new) result (rules.file_object line name.now (plain ty) (held (option_copied init.entry)) state.old) }
+    ensures { Becomes state.new result (file_object line name.now ty init.entry state.old) }
 {
     let index = state.variable_number(name)?;
     if has_no_size(state.tags(), &ty) {
@@ -96,7 +99,7 @@ fn file_value(
     ty: CType,
     init: Option<&Init>,
 ) -> Result<(), TypeError>
-    ensures { Meets (λ _. state.new) result (rules.file_value line name.now (plain ty) (held (option_copied init.entry)) state.old) }
+    ensures { Becomes state.new result (file_value line name.now ty init.entry state.old) }
 {
     if is_function(&ty) {
         state.declared_function(line, name, ty)?;
@@ -115,7 +118,7 @@ pub(crate) fn file_name(
     ty: CType,
     init: Option<&Init>,
 ) -> Result<(), TypeError>
-    ensures { Meets (λ _. state.new) result (rules.file_name line (plain_storage storage) name.now (plain ty) (held (option_copied init.entry)) state.old) }
+    ensures { Becomes state.new result (file_name line storage name.now ty init.entry state.old) }
 {
     match storage {
         Storage::Typedef => state.declared_as(line, name, Named::Typedef { ty }),

@@ -1,8 +1,9 @@
 //! Jumps out of statements, and the ends of loops (C99 6.8.5, 6.8.6).
 
 ghost use Rattle.std.specs.Prelude.{◌≡◌, ◌-◌, IfOk};
-ghost use Rattle.c_decls.specs.Refusals.{Meets};
 ghost use Rattle.elaboration.specs.Statements.{leaves, leave_to, returned, looped};
+ghost use Rattle.elab_base.specs.Outcomes.{Becomes};
+ghost use Rattle.c_decls.specs.Refusals.{Meets};
 
 use c_decls::{TypeError, TypeKind, refused};
 use core_tree::{Atom, StmKind};
@@ -29,7 +30,7 @@ pub(crate) fn leave_to(
     delays: u32,
     exit: Option<(u32, u32)>,
 ) -> Result<(), TypeError>
-    ensures { Meets (λ _. state.new) result (leave_to line delays exit state.old) }
+    ensures { Becomes state.new result (leave_to line delays exit state.old) }
 {
     match exit {
         None => refused(TypeKind::StrayBreak, line),

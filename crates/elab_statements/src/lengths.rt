@@ -7,7 +7,8 @@ ghost use Rattle.c_tree.specs.StatementView.{expr_view, init_view};
 ghost use Rattle.c_decls.specs.Refusals.{Meets};
 ghost use Rattle.c_typing.specs.Layers.{plain_layer, plain_layers};
 ghost use Rattle.elaboration.specs.Initializers as rules;
-ghost use Rattle.elab_statements.specs.GivenLengths.{held, given_behind, with_given};
+ghost use Rattle.elab_statements.specs.GivenLengths.{held, given_behind, with_given, layers_with_init, length_by_init, length_by_text};
+ghost use Rattle.elab_base.specs.MaybeNames.{given};
 
 use crate::strings::is_character;
 use c_decls::TypeError;
@@ -20,7 +21,7 @@ use std::alloc::Global;
 /// The length that an expression gives: for characters the bytes of a string and a zero.
 #[tactic(auto, unfolding(c_tree::specs::View::expr_tree))]
 fn text_length(alloc: Global, element: &CType, e: &Expr) -> Result<u128, NoMemory>
-    ensures { IfOk result (λ length. length ≡ rules.text_length (plain element.now) (rules.text (expr_view e.now))) }
+    ensures { IfOk result (λ n. n ≡ length_by_text element.now e.now) }
 {
     match &e.kind {
         ExprKind::Str(literals) if is_character(element) => {
@@ -34,7 +35,7 @@ fn text_length(alloc: Global, element: &CType, e: &Expr) -> Result<u128, NoMemor
 /// The length that an initializer gives: that of a string, or how many initializers stand in its braces.
 #[tactic(auto, using(crate::proofs::Forms::length_of_expr, crate::proofs::Forms::length_of_list))]
 fn init_length(alloc: Global, element: &CType, init: &Init) -> Result<Option<u128>, NoMemory>
-    ensures { IfOk result (λ length. length ≡ rules.given_length (plain element.now) (init_view init.now ▹ none)) }
+    ensures { IfOk result (λ n. n ≡ length_by_init element.now init.now) }
 {
     match &init.kind {
         InitKind::Expr(e) => Ok(Some(text_length(alloc, element, e)?)),
@@ -50,7 +51,7 @@ fn given_length(
     base: &CType,
     init: Option<&Init>,
 ) -> Result<Option<u128>, NoMemory>
-    ensures { IfOk result (λ length. length ≡ given_behind layers (plain base.now) (held (option_copied init.entry))) }
+    ensures { IfOk result (λ n. n ≡ given_behind layers (plain base.now) (held (given init.entry))) }
 {
     match init {
         Some(init) if layers == 1 => init_length(alloc, base, init),
@@ -83,7 +84,7 @@ pub fn with_init_layers(
     init: Option<&Init>,
     base: CType,
 ) -> Result<CType, TypeError>
-    ensures { Meets plain result (rules.with_init_layers tags.now (plain_layers layers.items) (held (option_copied init.entry)) (plain base)) }
+    ensures { Meets plain result (layers_with_init tags.now layers (given init.entry) base) }
 {
     let given = given_length(alloc, layers.len(), &base, init)?;
     let mut layers = layers;

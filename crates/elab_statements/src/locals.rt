@@ -2,11 +2,13 @@
 
 ghost use Rattle.std.specs.Prelude.{◌≡◌, IfOk, option_copied};
 ghost use Rattle.c_types.specs.Types.{plain};
-ghost use Rattle.c_decls.specs.Refusals.{Meets};
 ghost use Rattle.elab_base.specs.PlainFound.{plain_spot};
 ghost use Rattle.elaboration.specs.Declarations as rules;
 ghost use Rattle.elab_statements.specs.GivenLengths.{held};
 ghost use Rattle.elab_statements.specs.PlainStorage.{plain_storage};
+ghost use Rattle.elab_base.specs.Outcomes.{Becomes};
+ghost use Rattle.c_decls.specs.Refusals.{Meets};
+ghost use Rattle.elab_statements.specs.Declaring.{fill_at, fill_memory, fill_register, local_name, local_object};
 
 use crate::braces::initialize;
 use crate::targets::Target;
@@ -49,7 +51,7 @@ fn fill_memory(
     init: Option<&Init>,
     mem: Atom,
 ) -> Result<(), TypeError>
-    ensures { Meets (λ _. state.new) result (rules.fill_memory line (plain ty.now) (held (option_copied init.entry)) mem state.old) }
+    ensures { Becomes state.new result (fill_memory line ty.now init.entry mem state.old) }
 {
     cleared(state, line, ty, mem)?;
     match init {
@@ -72,7 +74,7 @@ fn fill_register(
     init: Option<&Init>,
     register: u32,
 ) -> Result<(), TypeError>
-    ensures { Meets (λ _. state.new) result (rules.fill_register line (plain ty.now) (held (option_copied init.entry)) register state.old) }
+    ensures { Becomes state.new result (fill_register line ty.now init.entry register state.old) }
 {
     match init {
         None => {
@@ -94,7 +96,7 @@ fn fill_at(
     init: Option<&Init>,
     spot: Spot,
 ) -> Result<(), TypeError>
-    ensures { Meets (λ _. state.new) result (rules.fill_at line (plain ty.now) (held (option_copied init.entry)) (plain_spot spot) state.old) }
+    ensures { Becomes state.new result (fill_at line ty.now init.entry spot state.old) }
 {
     match spot {
         Spot::Local(register) => fill_register(state, line, ty, init, register),
@@ -113,7 +115,7 @@ fn local_object(
     ty: CType,
     init: Option<&Init>,
 ) -> Result<(), TypeError>
-    ensures { Meets (λ _. state.new) result (rules.local_object line name.now (plain ty) (held (option_copied init.entry)) state.old) }
+    ensures { Becomes state.new result (local_object line name.now ty init.entry state.old) }
 {
     if is_function(&ty) {
         return refused(TypeKind::LeftOut, line);
@@ -140,7 +142,7 @@ pub(crate) fn local_name(
     ty: CType,
     init: Option<&Init>,
 ) -> Result<(), TypeError>
-    ensures { Meets (λ _. state.new) result (rules.local_name line (plain_storage storage) name.now (plain ty) (held (option_copied init.entry)) state.old) }
+    ensures { Becomes state.new result (local_name line storage name.now ty init.entry state.old) }
 {
     match storage {
         Storage::Typedef => state.declared_as(line, name, Named::Typedef { ty }),

@@ -4,10 +4,13 @@ ghost use Rattle.std.specs.Prelude.{◌≡◌, Some, option_copied};
 ghost use Rattle.c_types.specs.Types.{plain};
 ghost use Rattle.c_tree.specs.View.{declarator_tree};
 ghost use Rattle.c_tree.specs.StatementView.{trees, entry_view, names_view, specs_view};
-ghost use Rattle.c_decls.specs.Refusals.{Meets};
 ghost use Rattle.elaboration.specs.Declarations as rules;
 ghost use Rattle.elab_statements.specs.GivenLengths.{held};
 ghost use Rattle.elab_statements.specs.PlainStorage.{plain_storage};
+ghost use Rattle.elab_base.specs.Outcomes.{Becomes};
+ghost use Rattle.c_decls.specs.Refusals.{Meets};
+ghost use Rattle.elab_base.specs.MaybeNames.{given};
+ghost use Rattle.elab_statements.specs.Declaring.{declaration, entries, entry, name_in};
 
 use crate::files::file_name;
 use crate::lengths::with_init_layers;
@@ -31,8 +34,7 @@ fn name_in(
     ty: CType,
     init: Option<&Init>,
 ) -> Result<(), TypeError>
-    ensures { Meets (λ _. state.new) result
-        (rules.name_in file line (plain_storage storage) (Some name.now) (plain ty) (held (option_copied init.entry)) state.old) }
+    ensures { Becomes state.new result (name_in file line storage name.now ty init.entry state.old) }
 {
     if file {
         file_name(state, line, storage, name, ty, init)
@@ -51,8 +53,7 @@ fn entry(
     declarator: &Declarator,
     init: Option<&Init>,
 ) -> Result<(), TypeError>
-    ensures { Meets (λ _. state.new) result
-        (rules.entry file line (plain_storage storage) (plain base.now) (declarator_tree declarator.now) (held (option_copied init.entry)) state.old) }
+    ensures { Becomes state.new result (entry file line storage base.now declarator.now (given init.entry) state.old) }
 {
     let layers = layers(state, declarator)?;
     let ty = with_init_layers(state.alloc(), state.tags(), layers, init, *base)?;
@@ -71,8 +72,7 @@ fn named_entry(
     base: &CType,
     name: &(Declarator, Option<Init>),
 ) -> Result<(), TypeError>
-    ensures { Meets (λ _. state.new) result
-        (rules.entry file line (plain_storage storage) (plain base.now) (declarator_tree name.now.0) (held name.now.1) state.old) }
+    ensures { Becomes state.new result (entry file line storage base.now name.now.0 name.now.1 state.old) }
 {
     entry(state, file, line, storage, base, &name.0, name.1.as_ref())
 }
@@ -86,8 +86,7 @@ fn entries(
     base: &CType,
     names: &[(Declarator, Option<Init>)],
 ) -> Result<(), TypeError>
-    ensures { Meets (λ _. state.new) result
-        (rules.entries file line (plain_storage storage) (plain base.now) (trees entry_view names.now) state.old) }
+    ensures { Becomes state.new result (entries file line storage base.now names.now state.old) }
 {
     for name in names {
         named_entry(state, file, line, storage, base, name)?;
@@ -110,7 +109,7 @@ pub(crate) fn declaration(
     words: &Specs,
     names: &[(Declarator, Option<Init>)],
 ) -> Result<(), TypeError>
-    ensures { Meets (λ _. state.new) result (rules.declaration file line (specs_view words.now) (names_view names.now) state.old) }
+    ensures { Becomes state.new result (declaration file line words.now names.now state.old) }
 {
     let base = specs_before(state, words, names)?;
     entries(state, file, line, storage_of(words), &base, names)

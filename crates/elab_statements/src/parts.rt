@@ -4,7 +4,7 @@ ghost use Rattle.std.specs.Prelude.{◌≡◌, IfOk, map, option_copied, slice_g
 ghost use Rattle.c_types.specs.Types.{plain};
 ghost use Rattle.c_types.specs.TagTable.{members_in, plain_member};
 ghost use Rattle.elaboration.specs.Initializers as rules;
-ghost use Rattle.elab_statements.specs.PlainParts.{plain_part, member_part};
+ghost use Rattle.elab_statements.specs.PlainParts.{plain_part, member_part, AreParts};
 
 use c_types::{CType, Member, TagId, Tags, members};
 use hs_base::NoMemory;
@@ -52,7 +52,7 @@ fn member_parts(
     members: &[Member],
     most: usize,
 ) -> Result<Vec<Part>, NoMemory>
-    ensures { IfOk result (λ parts. map plain_part parts.items ≡ map (member_part offset) (take most (map plain_member members.now))) }
+    ensures { AreParts result (map (member_part offset) (take most (map plain_member members.now))) }
 {
     let mut parts = Vec::new(alloc);
     for (place, member) in members.iter().enumerate() {
@@ -73,7 +73,7 @@ pub(crate) fn parts_of(
     offset: u32,
     most: usize,
 ) -> Result<Vec<Part>, NoMemory>
-    ensures { IfOk result (λ parts. map plain_part parts.items ≡ take most (rules.struct_parts offset (members_in tags.now tag))) }
+    ensures { AreParts result (take most (rules.struct_parts offset (members_in tags.now tag))) }
 {
     match members(tags, tag) {
         Some(list) => member_parts(alloc, offset, list, most),

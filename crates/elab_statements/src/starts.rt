@@ -3,9 +3,10 @@
 ghost use Rattle.std.specs.Prelude.{◌≡◌, ◌++◌, ◌*◌, IfOk, replicate};
 ghost use Rattle.hs_base.specs.Numbers.{low_bits};
 ghost use Rattle.c_types.specs.Types.{plain, width_of};
-ghost use Rattle.c_decls.specs.Refusals.{Meets};
 ghost use Rattle.elab_base.specs.PlainFound.{plain_fixed, plain_found};
 ghost use Rattle.elaboration.specs.Initializers as rules;
+ghost use Rattle.c_decls.specs.Refusals.{Meets};
+ghost use Rattle.elab_statements.specs.Initializing.{static_pointer, static_value, Starts};
 
 use c_decls::{Folded, TypeError, TypeKind, refused};
 use c_types::{CType, IntType};
@@ -79,7 +80,7 @@ fn static_integer(
     start: &mut Start,
     folded: Folded,
 ) -> Result<(), TypeError>
-    ensures { Meets (λ _. start.new) result (rules.static_integer line ty offset start.old folded) }
+    ensures { Starts start.new result (rules.static_integer line ty offset start.old folded) }
 {
     match folded {
         Folded::Is(n) => {
@@ -94,7 +95,7 @@ fn static_integer(
 
 /// An address that a static holds first.
 fn static_address(line: Line, offset: u32, start: &mut Start, fixed: Fixed) -> Result<(), TypeError>
-    ensures { Meets (λ _. start.new) result (rules.static_address line offset start.old (plain_fixed fixed)) }
+    ensures { Starts start.new result (static_pointer line offset start.old fixed) }
 {
     match fixed {
         Fixed::Unknown => refused(TypeKind::NotConstant, line),
@@ -115,7 +116,7 @@ pub(crate) fn static_scalar(
     start: &mut Start,
     found: &Found,
 ) -> Result<(), TypeError>
-    ensures { Meets (λ _. start.new) result (rules.static_scalar line (plain ty.now) offset start.old (plain_found found.now)) }
+    ensures { Starts start.new result (static_value line ty.now offset start.old found.now) }
 {
     match ty {
         CType::Int(ty) => static_integer(line, *ty, offset, start, found.typed.folded),

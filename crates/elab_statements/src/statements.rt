@@ -4,12 +4,14 @@ ghost use Rattle.std.specs.Prelude.{option_copied, ◌≡◌, ◌+◌, IfOk};
 ghost use Rattle.c_tree.specs.Forms as form;
 ghost use Rattle.c_tree.specs.Tree.{At, Node, none, ◌▹◌};
 ghost use Rattle.c_tree.specs.StatementView.{trees, expr_view, start_view, stmt_tree, stmt_view};
-ghost use Rattle.c_decls.specs.Refusals.{Meets};
 ghost use Rattle.elaboration.specs.Context.{scoped};
-ghost use Rattle.elaboration.specs.Statements.{statement, items, for_start};
+ghost use Rattle.elaboration.specs.Statements.{for_start};
 ghost use Rattle.elab_statements.specs.Held.{held};
 ghost use Rattle.elab_statements.specs.PlainAround.{plain_around};
-ghost use Rattle.elab_statements.specs.Switches.{is_block, scoped_list, switch_block, switch_other};
+ghost use Rattle.elab_statements.specs.Switches.{is_block, scoped_list};
+ghost use Rattle.elab_base.specs.Outcomes.{Becomes};
+ghost use Rattle.c_decls.specs.Refusals.{Meets};
+ghost use Rattle.elab_statements.specs.Stepping.{branch, case, default_case, delay, do_loop, for_loop, items, scoped_items, statement, substatement, switch, switch_block, switch_other, while_loop};
 
 use crate::around::Around;
 use crate::expressions::{evaluated, leaves_if_zero, maybe_evaluated, maybe_leaves, return_from};
@@ -32,7 +34,7 @@ fn behind(label: u32, more: u32) -> Result<u32, NoMemory>
 
 /// What stands first in a `for`.
 fn for_start(state: &mut Elaborator, line: Line, start: &ForStart) -> Result<(), TypeError>
-    ensures { Meets (λ _. state.new) result (for_start line (start_view start.now) state.old) }
+    ensures { Becomes state.new result (for_start line (start_view start.now) state.old) }
 {
     match start {
         ForStart::Names(words, names) => declaration(state, false, line, words, names.as_slice()),
@@ -66,7 +68,7 @@ fn is_block(kind: &StmtKind) -> bool
 /// A statement.
 #[cycle(walk)]
 fn statement(state: &mut Elaborator, stmt: &Stmt, around: Around) -> Result<(), TypeError>
-    ensures { Meets (λ _. state.new) result (statement (stmt_view stmt.now) (plain_around around) state.old) }
+    ensures { Becomes state.new result (statement (stmt_view stmt.now) around state.old) }
 {
     kind(state, stmt.line, &stmt.kind, around)
 }
@@ -80,7 +82,7 @@ fn kind(
     kind: &StmtKind,
     around: Around,
 ) -> Result<(), TypeError>
-    ensures { Meets (λ _. state.new) result (statement (stmt_tree kind.now line) (plain_around around) state.old) }
+    ensures { Becomes state.new result (statement (stmt_tree kind.now line) around state.old) }
 {
     match kind {
         StmtKind::Empty => Ok(()),
@@ -127,7 +129,7 @@ fn kind(
 /// Declarations and statements in turn.
 #[cycle(walk)]
 pub fn items(state: &mut Elaborator, list: &[Stmt], around: Around) -> Result<(), TypeError>
-    ensures { Meets (λ _. state.new) result (items (trees stmt_view list.now) (plain_around around) state.old) }
+    ensures { Becomes state.new result (items list.now around state.old) }
 {
     for item in list {
         statement(state, item, around)?;
@@ -138,7 +140,7 @@ pub fn items(state: &mut Elaborator, list: &[Stmt], around: Around) -> Result<()
 /// A statement in a scope of its own.
 #[cycle(walk)]
 fn substatement(state: &mut Elaborator, body: &Stmt, around: Around) -> Result<(), TypeError>
-    ensures { Meets (λ _. state.new) result (scoped state.old (λ d. statement (stmt_view body.now) (plain_around around) d)) }
+    ensures { Becomes state.new result (substatement body.now around state.old) }
 {
     state.enter()?;
     statement(state, body, around)?;
@@ -150,7 +152,7 @@ fn substatement(state: &mut Elaborator, body: &Stmt, around: Around) -> Result<(
 #[cycle(walk)]
 #[tactic(auto, unfolding(crate::specs::Switches::scoped_list))]
 fn scoped_items(state: &mut Elaborator, list: &[Stmt], around: Around) -> Result<(), TypeError>
-    ensures { Meets (λ _. state.new) result (scoped_list (trees stmt_view list.now) (plain_around around) state.old) }
+    ensures { Becomes state.new result (scoped_items list.now around state.old) }
 {
     state.enter()?;
     items(state, list, around)?;
@@ -162,7 +164,7 @@ fn scoped_items(state: &mut Elaborator, list: &[Stmt], around: Around) -> Result
 #[cycle(walk)]
 #[tactic(auto, unfolding(elaboration::specs::Statements::statement))]
 fn delay(state: &mut Elaborator, line: Line, list: &[Stmt], around: Around) -> Result<(), TypeError>
-    ensures { Meets (λ _. state.new) result (statement (Node form.Delay (At line ▹ Node form.Items (trees stmt_view list.now) ▹ none)) (plain_around around) state.old) }
+    ensures { Becomes state.new result (delay line list.now around state.old) }
 {
     let inside = around.in_delay()?;
     state.enter()?;
@@ -183,7 +185,7 @@ fn branch(
     test: &Expr,
     around: Around,
 ) -> Result<(), TypeError>
-    ensures { Meets (λ _. state.new) result (statement (Node form.If (At line ▹ expr_view test.now ▹ stmt_view body.now ▹ none)) (plain_around around) state.old) }
+    ensures { Becomes state.new result (branch line test.now body.now around state.old) }
 {
     let end = state.take_labels(1)?;
     state.enter()?;
@@ -204,7 +206,7 @@ fn while_loop(
     test: &Expr,
     around: Around,
 ) -> Result<(), TypeError>
-    ensures { Meets (λ _. state.new) result (statement (Node form.While (At line ▹ expr_view test.now ▹ stmt_view body.now ▹ none)) (plain_around around) state.old) }
+    ensures { Becomes state.new result (while_loop line test.now body.now around state.old) }
 {
     let head = state.take_labels(3)?;
     let end = behind(head, 1)?;
@@ -229,7 +231,7 @@ fn do_loop(
     test: &Expr,
     around: Around,
 ) -> Result<(), TypeError>
-    ensures { Meets (λ _. state.new) result (statement (Node form.Do (At line ▹ stmt_view body.now ▹ expr_view test.now ▹ none)) (plain_around around) state.old) }
+    ensures { Becomes state.new result (do_loop line body.now test.now around state.old) }
 {
     let head = state.take_labels(3)?;
     let end = behind(head, 1)?;
@@ -256,7 +258,7 @@ fn for_loop(
     step: Option<&Expr>,
     around: Around,
 ) -> Result<(), TypeError>
-    ensures { Meets (λ _. state.new) result (statement (Node form.For (At line ▹ start_view start.now ▹ Node form.MaybeExpr (held (option_copied test.entry)) ▹ Node form.MaybeExpr (held (option_copied step.entry)) ▹ stmt_view body.now ▹ none)) (plain_around around) state.old) }
+    ensures { Becomes state.new result (for_loop line start.now test.entry step.entry body.now around state.old) }
 {
     let head = state.take_labels(3)?;
     let end = behind(head, 1)?;
@@ -286,7 +288,7 @@ fn switch(
     value: &Expr,
     around: Around,
 ) -> Result<(), TypeError>
-    ensures { Meets (λ _. state.new) result (statement (Node form.Switch (At line ▹ expr_view value.now ▹ stmt_view body.now ▹ none)) (plain_around around) state.old) }
+    ensures { Becomes state.new result (switch line value.now body.now around state.old) }
 {
     if !is_block(&body.kind) {
         return switch_other(state, line, body, value, around);
@@ -307,7 +309,7 @@ fn switch_block(
     value: &Expr,
     around: Around,
 ) -> Result<(), TypeError>
-    ensures { Meets (λ _. state.new) result (switch_block line (expr_view value.now) (trees stmt_view list.now) (plain_around around) state.old) }
+    ensures { Becomes state.new result (switch_block line value.now list.now around state.old) }
 {
     let end = state.take_labels(1)?;
     state.enter()?;
@@ -332,7 +334,7 @@ fn switch_other(
     value: &Expr,
     around: Around,
 ) -> Result<(), TypeError>
-    ensures { Meets (λ _. state.new) result (switch_other line (expr_view value.now) (stmt_view body.now) (plain_around around) state.old) }
+    ensures { Becomes state.new result (switch_other line value.now body.now around state.old) }
 {
     let end = state.take_labels(1)?;
     state.enter()?;
@@ -353,7 +355,7 @@ fn case(
     value: &Expr,
     around: Around,
 ) -> Result<(), TypeError>
-    ensures { Meets (λ _. state.new) result (statement (Node form.Case (At line ▹ expr_view value.now ▹ stmt_view body.now ▹ none)) (plain_around around) state.old) }
+    ensures { Becomes state.new result (case line value.now body.now around state.old) }
 {
     let place = state.case_count();
     let number = constant(state, value)?;
@@ -372,7 +374,7 @@ fn default_case(
     body: &Stmt,
     around: Around,
 ) -> Result<(), TypeError>
-    ensures { Meets (λ _. state.new) result (statement (Node form.Default (At line ▹ stmt_view body.now ▹ none)) (plain_around around) state.old) }
+    ensures { Becomes state.new result (default_case line body.now around state.old) }
 {
     let label = state.take_labels(1)?;
     state.here(label)?;

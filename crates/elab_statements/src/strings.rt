@@ -7,7 +7,8 @@ ghost use Rattle.c_tree.specs.StatementView.{expr_view};
 ghost use Rattle.c_decls.specs.Expressions.{joined, string};
 ghost use Rattle.c_decls.specs.Refusals.{Meets, then};
 ghost use Rattle.elaboration.specs.Initializers as rules;
-ghost use Rattle.elab_statements.specs.PlainTarget.{plain_target};
+ghost use Rattle.elab_statements.specs.PlainTarget.{plain_target, Fills};
+ghost use Rattle.elab_statements.specs.Initializing.{fill_text};
 
 use crate::starts::with_bytes;
 use crate::targets::{Target, member_place};
@@ -53,7 +54,7 @@ fn copy_text(
     size: u64,
     object: u32,
 ) -> Result<Target, TypeError>
-    ensures { Meets (λ filled. (state.new, plain_target filled)) result (rules.copy_text line mem offset size (state.old, object)) }
+    ensures { Fills state.new result (rules.copy_text line mem offset size (state.old, object)) }
 {
     let place = member_place(state, line, mem, offset)?;
     let size = i128::from(size);
@@ -80,8 +81,7 @@ pub(crate) fn fill_text(
     offset: u32,
     target: Target,
 ) -> Result<Target, TypeError>
-    ensures { Meets (λ filled. (state.new, plain_target filled)) result
-        (then (string line (joined (literal_leaves literals.now))) (λ _. rules.fill_text (expr_view e.now) line (joined (literal_leaves literals.now)) size offset (plain_target target) state.old)) }
+    ensures { Fills state.new result (fill_text e.now line literals.now size offset target state.old) }
 {
     let bytes = joined(state.alloc(), literals)?;
     string(state.alloc(), line, bytes.as_slice())?;

@@ -2,11 +2,13 @@
 
 ghost use Rattle.std.specs.Prelude.{◌≡◌, ◌++◌, IfOk};
 ghost use Rattle.c_tree.specs.StatementView.{expr_view};
-ghost use Rattle.c_decls.specs.Refusals.{Meets};
 ghost use Rattle.elaboration.specs.Context.{here, with_pieces};
-ghost use Rattle.elaboration.specs.Statements.{case_of, cased, defaulted, switch_operand};
+ghost use Rattle.elaboration.specs.Statements.{defaulted, switch_operand};
 ghost use Rattle.elab_statements.specs.Switches.{case_pieces, dispatch_of};
 ghost use Rattle.elab_statements.specs.PlainAround.{plain_around};
+ghost use Rattle.elab_base.specs.Outcomes.{Becomes, Gives};
+ghost use Rattle.c_decls.specs.Refusals.{Meets};
+ghost use Rattle.elab_statements.specs.Stepping.{case_of, cased, dispatched};
 
 use crate::around::Around;
 use c_decls::{TypeError, TypeKind, line_of, promoted, refused};
@@ -29,7 +31,7 @@ fn case_of(
     value: i128,
     label: u32,
 ) -> Result<(), TypeError>
-    ensures { Meets (λ _. state.new) result (case_of line (plain_around around) ty place value label state.old) }
+    ensures { Becomes state.new result (case_of line around ty place value label state.old) }
 {
     let value = ty.kind().wrap(value);
     if !around.labelled {
@@ -51,7 +53,7 @@ pub(crate) fn cased(
     value: i128,
     label: u32,
 ) -> Result<(), TypeError>
-    ensures { Meets (λ _. state.new) result (cased line (plain_around around) around.switched place value label state.old) }
+    ensures { Becomes state.new result (cased line around place value label state.old) }
 {
     match around.switched {
         None => refused(TypeKind::StrayBreak, line),
@@ -66,7 +68,7 @@ pub(crate) fn defaulted(
     around: Around,
     label: u32,
 ) -> Result<(), TypeError>
-    ensures { Meets (λ _. state.new) result (defaulted line (plain_around around) label state.old) }
+    ensures { Becomes state.new result (defaulted line (plain_around around) label state.old) }
 {
     if around.switched.is_none() {
         return refused(TypeKind::StrayBreak, line);
@@ -87,7 +89,7 @@ pub(crate) fn switch_operand(
     line: Line,
     e: &Expr,
 ) -> Result<(IntType, Atom), TypeError>
-    ensures { Meets (λ operand. (state.new, operand)) result (switch_operand line (expr_view e.now) state.old) }
+    ensures { Gives state.new result (switch_operand line (expr_view e.now) state.old) }
 {
     opened(state, e)?;
     let found = value_of(state, e, &CType::Void)?;
@@ -135,7 +137,7 @@ pub(crate) fn switched(
     inner: Cases,
     body: Pieces,
 ) -> Result<(), NoMemory>
-    ensures { IfOk result (λ _. state.new ≡ here end (with_pieces ((state.old.code.pieces ++ dispatch_of line value end inner.cases inner.otherwise) ++ body) state.old)) }
+    ensures { IfOk result (λ _. state.new ≡ dispatched line end value inner body state.old) }
 {
     let cases = dispatch_cases(state.alloc(), line, value, inner.cases.as_slice())?;
     state.append(cases)?;

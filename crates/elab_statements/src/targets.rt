@@ -3,12 +3,14 @@
 ghost use Rattle.std.specs.Prelude.{◌≡◌, IfOk};
 ghost use Rattle.c_types.specs.Types.{plain};
 ghost use Rattle.c_tree.specs.StatementView.{expr_view};
-ghost use Rattle.c_decls.specs.Refusals.{Meets};
 ghost use Rattle.c_decls.specs.Typed.{plain_typed};
 ghost use Rattle.elab_base.specs.Marks.{cut};
+ghost use Rattle.elaboration.specs.Initializers.{member_place, store_at, copy_to, not_whole, is_same_place};
+ghost use Rattle.elab_statements.specs.PlainTarget.{plain_target, Fills};
+ghost use Rattle.elab_base.specs.Outcomes.{Emits, at};
+ghost use Rattle.c_decls.specs.Refusals.{Meets};
 ghost use Rattle.elab_base.specs.PlainFound.{plain_found};
-ghost use Rattle.elaboration.specs.Initializers.{member_place, store_at, fill_scalar, scalar, copy_to, fill_record, not_whole, whole, is_same_place};
-ghost use Rattle.elab_statements.specs.PlainTarget.{plain_target};
+ghost use Rattle.elab_statements.specs.Initializing.{fill_record, fill_scalar, scalar, whole};
 
 use crate::starts::static_scalar;
 use c_decls::{TypeError, TypeKind, Typed, is_record, is_same, refused};
@@ -35,7 +37,7 @@ pub(crate) fn member_place(
     mem: u32,
     offset: u32,
 ) -> Result<Atom, NoMemory>
-    ensures { IfOk result (λ place. (state.new, place) ≡ member_place line mem offset state.old) }
+    ensures { Emits state.new result (member_place line mem offset state.old) }
 {
     let to = state.take_pointer()?;
     state.emit(line, StmKind::Off(to, Atom::Mem(mem), i128::from(offset)))?;
@@ -54,7 +56,7 @@ fn fill_scalar(
     found: &Found,
     target: Target,
 ) -> Result<Target, TypeError>
-    ensures { Meets (λ filled. (state.new, plain_target filled)) result (fill_scalar (expr_view e.now) line (plain ty.now) offset (cut before state.old.code) (state.old, plain_found found.now) (plain_target target)) }
+    ensures { Fills state.new result (fill_scalar e.now line ty.now offset before found.now target state.old) }
 {
     match target {
         Target::Register(at, register) => {
@@ -87,7 +89,7 @@ pub(crate) fn scalar(
     offset: u32,
     target: Target,
 ) -> Result<Target, TypeError>
-    ensures { Meets (λ filled. (state.new, plain_target filled)) result (scalar (expr_view e.now) line (plain ty.now) offset (plain_target target) state.old) }
+    ensures { Fills state.new result (scalar e.now line ty.now offset target state.old) }
 {
     opened(state, e)?;
     let before = state.mark();
@@ -108,7 +110,7 @@ fn fill_record(
     found: &Found,
     target: Target,
 ) -> Result<Target, TypeError>
-    ensures { Meets (λ filled. (state.new, plain_target filled)) result (fill_record (expr_view e.now) line (plain ty.now) offset (state.old, plain_found found.now) (plain_target target)) }
+    ensures { Fills state.new result (fill_record e.now line ty.now offset found.now target state.old) }
 {
     match target {
         Target::Memory(at, mem) => {
@@ -142,7 +144,7 @@ pub(crate) fn whole(
     offset: u32,
     target: Target,
 ) -> Result<Target, TypeError>
-    ensures { Meets (λ filled. (state.new, plain_target filled)) result (whole (expr_view e.now) line (plain ty.now) offset (plain_target target) state.old) }
+    ensures { Fills state.new result (whole e.now line ty.now offset target state.old) }
 {
     opened(state, e)?;
     let found = found(state, e, ty)?;

@@ -1,11 +1,13 @@
 //! Whole texts (C99 6.9).
 
-ghost use Rattle.std.specs.Prelude.{◌≡◌};
 ghost use Rattle.c_tree.specs.StatementView.{trees, decl_view, unit_view};
 ghost use Rattle.c_decls.specs.Refusals.{Meets};
 ghost use Rattle.elaboration.specs.Externals.{externals, ended};
 ghost use Rattle.elaboration.specs.Elaboration.{walked};
 ghost use Rattle.elab_base.specs.Idle.{idle, idled};
+ghost use Rattle.elab_base.specs.Outcomes.{Becomes};
+ghost use Rattle.std.specs.Prelude.{◌≡◌};
+ghost use Rattle.elab_statements.specs.Declaring.{walked_externals};
 
 use crate::declared::external;
 use crate::mains::has_main;
@@ -16,7 +18,7 @@ use std::alloc::Global;
 
 /// External declarations in turn.
 fn externals(state: &mut Elaborator, decls: &[Decl]) -> Result<(), TypeError>
-    ensures { Meets (λ _. idle state.new) result (idled (externals (trees decl_view decls.now) state.old)) }
+    ensures { Becomes (idle state.new) result (walked_externals decls.now state.old) }
 {
     for decl in decls {
         external(state, decl)?;
@@ -26,7 +28,7 @@ fn externals(state: &mut Elaborator, decls: &[Decl]) -> Result<(), TypeError>
 
 /// The end of a text: each function that is called has a body, and so has `main` (C99 5.1.2.2.1).
 fn ended(state: &Elaborator) -> Result<(), TypeError>
-    ensures { Meets (λ _. state.now) result (ended state.now) }
+    ensures { Becomes state.now result (ended state.now) }
 {
     state.calls_defined()?;
     if !has_main(state) {

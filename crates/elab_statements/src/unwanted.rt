@@ -7,6 +7,8 @@ ghost use Rattle.c_decls.specs.Refusals.{Meets, then};
 ghost use Rattle.elaboration.specs.Expressions.{found};
 ghost use Rattle.elaboration.specs.Reallocates.{opened};
 ghost use Rattle.elaboration.specs.Initializers as rules;
+ghost use Rattle.elab_base.specs.Outcomes.{Becomes};
+ghost use Rattle.elab_statements.specs.Initializing.{gone_through};
 
 use c_decls::TypeError;
 use c_tree::{Expr, Init, InitKind};
@@ -16,7 +18,7 @@ use elab_values::{found, opened};
 
 /// Goes through an expression that initializes nothing.
 fn expression(state: &mut Elaborator, e: &Expr) -> Result<(), TypeError>
-    ensures { Meets (λ _. state.new) result (then (found (expr_view e.now) Void (opened (expr_view e.now) state.old)) (λ d. Ok d.0)) }
+    ensures { Becomes state.new result (gone_through e.now state.old) }
 {
     opened(state, e)?;
     let _ = found(state, e, &CType::Void)?;
@@ -31,7 +33,7 @@ fn expression(state: &mut Elaborator, e: &Expr) -> Result<(), TypeError>
 #[cycle(surplus)]
 #[tactic(auto, using(crate::proofs::Forms::surplus_expr, crate::proofs::Forms::surplus_list))]
 pub fn surplus(state: &mut Elaborator, init: &Init) -> Result<(), TypeError>
-    ensures { Meets (λ _. state.new) result (rules.surplus (init_view init.now) state.old) }
+    ensures { Becomes state.new result (rules.surplus (init_view init.now) state.old) }
 {
     match &init.kind {
         InitKind::Expr(e) => expression(state, e),
@@ -42,7 +44,7 @@ pub fn surplus(state: &mut Elaborator, init: &Init) -> Result<(), TypeError>
 /// Goes through initializers in turn that initialize nothing.
 #[cycle(surplus)]
 pub(crate) fn all_surplus(state: &mut Elaborator, list: &[Init]) -> Result<(), TypeError>
-    ensures { Meets (λ _. state.new) result (rules.all_surplus (trees init_view list.now) state.old) }
+    ensures { Becomes state.new result (rules.all_surplus (trees init_view list.now) state.old) }
 {
     for init in list {
         surplus(state, init)?;

@@ -3,9 +3,10 @@
 ghost use Rattle.std.specs.Prelude.{◌≡◌};
 ghost use Rattle.c_types.specs.Types.{Array, plain};
 ghost use Rattle.c_tree.specs.StatementView.{expr_view};
-ghost use Rattle.c_decls.specs.Refusals.{Meets};
 ghost use Rattle.elaboration.specs.Initializers as rules;
-ghost use Rattle.elab_statements.specs.PlainTarget.{plain_target};
+ghost use Rattle.elab_statements.specs.PlainTarget.{plain_target, Fills};
+ghost use Rattle.c_decls.specs.Refusals.{Meets};
+ghost use Rattle.elab_statements.specs.Initializing.{by_expression, by_text};
 
 use crate::strings::{fill_text, is_character};
 use crate::targets::{Target, scalar, whole};
@@ -28,8 +29,7 @@ fn by_text(
     target: Target,
 ) -> Result<Target, TypeError>
     requires { plain ty.now ≡ Array (plain element.now) size }
-    ensures { Meets (λ filled. (state.new, plain_target filled)) result
-        (rules.by_text (expr_view e.now) line (plain element.now) size offset (rules.text (expr_view e.now)) (plain_target target) state.old) }
+    ensures { Fills state.new result (by_text e.now line element.now size offset target state.old) }
 {
     match &e.kind {
         ExprKind::Str(literals) => {
@@ -52,8 +52,7 @@ pub(crate) fn by_expression(
     offset: u32,
     target: Target,
 ) -> Result<Target, TypeError>
-    ensures { Meets (λ filled. (state.new, plain_target filled)) result
-        (rules.by_expression (expr_view e.now) line (plain ty.now) offset (plain_target target) state.old) }
+    ensures { Fills state.new result (by_expression e.now line ty.now offset target state.old) }
 {
     match ty {
         CType::Array(element, size) => {

@@ -6,7 +6,6 @@ ghost use Rattle.c_types.specs.Types.{plain};
 ghost use Rattle.c_tree.specs.Scopes.{has_typedef};
 ghost use Rattle.c_tree.specs.StatementView.{trees, specs_view, entry_view};
 ghost use Rattle.c_tree.specs.View.{spec_tree, tag_tree};
-ghost use Rattle.c_decls.specs.Refusals.{Meets};
 ghost use Rattle.c_decls.specs.ScopeList.{named_in, innermost, tag_name};
 ghost use Rattle.c_decls.specs.TypeNames.{has, tag_named};
 ghost use Rattle.c_typing.specs.SpecWords.{keyword, passes};
@@ -15,6 +14,9 @@ ghost use Rattle.elaboration.specs.Declarations as rules;
 ghost use Rattle.elaboration.specs.Declarators.{with_type};
 ghost use Rattle.elab_statements.specs.Alone.{lone_tag, is_typedef_word, is_no_tag, is_of_sort};
 ghost use Rattle.elab_statements.specs.PlainStorage.{plain_storage};
+ghost use Rattle.elab_base.specs.Outcomes.{Types};
+ghost use Rattle.c_decls.specs.Refusals.{Meets};
+ghost use Rattle.elab_statements.specs.Declaring.{has_no_tag, specs_before, tag_here};
 
 use c_decls::{Named, TypeError, TypeKind, refused, tag_name};
 use c_tree::{Declarator, Init, RecordSort, Spec, Specs, Tag, TagKind};
@@ -88,7 +90,7 @@ pub(crate) fn storage_of(words: &Specs) -> Storage
 
 /// Whether the innermost scope has anything but a tag under the name of a tag.
 fn has_no_tag(state: &Elaborator, name: &[u8]) -> Result<bool, NoMemory>
-    ensures { IfOk result (λ other. other ≡ is_no_tag (named_in (tag_name name.now) (innermost state.now.scopes))) }
+    ensures { IfOk result (λ other. other ≡ has_no_tag name.now state.now) }
 {
     let tag = tag_name(state.alloc(), name)?;
     match state.scopes().find_innermost(tag.as_slice()) {
@@ -152,8 +154,7 @@ fn tag_here(
     sort: RecordSort,
     name: &[u8],
 ) -> Result<CType, TypeError>
-    ensures { Meets (λ ty. (state.new, plain ty)) result
-        (with_type (tag_named line sort name.now (asked state.old) (named_in (tag_name name.now) (innermost state.old.scopes))) state.old) }
+    ensures { Types state.new result (tag_here line sort name.now state.old) }
 {
     if has_no_tag(state, name)? {
         return refused(TypeKind::DeclaredTwice, line);
@@ -182,7 +183,7 @@ fn lone_tag(words: &[Spec]) -> Option<&Tag>
 #[tactic(auto, using(crate::proofs::SpecWords::alone_record, crate::proofs::SpecWords::alone_body, crate::proofs::SpecWords::alone_enum, crate::proofs::SpecWords::alone_enum_body))]
 fn tag_alone(state: &mut Elaborator, words: &Specs, tag: &Tag) -> Result<CType, TypeError>
     requires { lone_tag words.now.words.items ≡ Some tag.now }
-    ensures { Meets (λ ty. (state.new, plain ty)) result (rules.specs_alone (specs_view words.now) state.old) }
+    ensures { Types state.new result (rules.specs_alone (specs_view words.now) state.old) }
 {
     match &tag.kind {
         TagKind::Record(sort, name) => tag_here(state, tag.line, *sort, name.as_slice()),
@@ -195,7 +196,7 @@ fn tag_alone(state: &mut Elaborator, words: &Specs, tag: &Tag) -> Result<CType, 
 /// The type of specs without names.
 #[tactic(auto, using(crate::proofs::SpecWords::none_alone))]
 fn specs_alone(state: &mut Elaborator, words: &Specs) -> Result<CType, TypeError>
-    ensures { Meets (λ ty. (state.new, plain ty)) result (rules.specs_alone (specs_view words.now) state.old) }
+    ensures { Types state.new result (rules.specs_alone (specs_view words.now) state.old) }
 {
     match lone_tag(&words.words) {
         Some(tag) => tag_alone(state, words, tag),
@@ -210,7 +211,7 @@ pub(crate) fn specs_before(
     words: &Specs,
     names: &[(Declarator, Option<Init>)],
 ) -> Result<CType, TypeError>
-    ensures { Meets (λ ty. (state.new, plain ty)) result (rules.specs_before (specs_view words.now) (trees entry_view names.now) state.old) }
+    ensures { Types state.new result (specs_before words.now names.now state.old) }
 {
     if names.len() == 0 {
         specs_alone(state, words)
