@@ -1,9 +1,15 @@
 -- How the code keeps external declarations and what units give so far.
-use Rattle.c_tree.specs.StatementView.{trees, decl_view}
+use Rattle.std.specs.Prelude.{◌≡◌, ℕ, List, [], ◌∷◌, ◌++◌, Result, map}
+use Rattle.c_tree.specs.declared.statement.Unit.{Unit as Code}
+use Rattle.c_tree.specs.StatementView.{trees, decl_view, unit_view}
+use Rattle.c_tree.specs.Tree.{Trees}
+use Rattle.c_units.specs.declared.error.MergeError.{MergeError}
 use Rattle.c_units.specs.declared.said.Said.{Said as Kept}
+use Rattle.c_units.specs.declared.program.Left.{Left}
 use Rattle.c_units.specs.declared.program.Program.{Program as Running}
 use Rattle.c_units.specs.Externals.{Said}
-use Rattle.c_units.specs.Merge.{Program}
+use Rattle.c_units.specs.Merge.{Adds, Program, spellings_of, trees_of, with_unit}
+use Rattle.c_units.specs.Turns.{joined}
 
 abbrev pub said_view : Kept → Said
 said_view kept = record { tree = decl_view kept.decl; mentions = kept.mentions.items }
@@ -11,3 +17,22 @@ said_view kept = record { tree = decl_view kept.decl; mentions = kept.mentions.i
 abbrev pub program_view : Running → Program
 program_view running =
     record { trees = trees decl_view running.decls; spellings = running.spellings; taken = running.taken }
+
+-- what is left of a unit
+abbrev pub left_view : Left → List Said
+left_view left = map said_view left.said.items
+
+-- the spelling of an external declaration is added, if it may be left out elsewhere
+abbrev pub AddsSpellings : Said → List (List ℕ) → List (List ℕ) → Type 0
+AddsSpellings said old new = new ≡ old ++ spellings_of (said ∷ [])
+
+-- external declarations are added behind those of a program
+abbrev pub said_trees : List Kept → Trees
+said_trees said = trees_of (map said_view said)
+
+abbrev pub with_trees : Trees → Program → Program
+with_trees more program = record program { trees = joined program.trees more }
+
+-- the unit of this number is added behind the others, or its conflict is answered
+abbrev pub AddsUnit : ℕ → Code → Running → Running → Result Unit MergeError → Type 0
+AddsUnit number unit old new result = Adds (with_unit number (unit_view unit) (program_view old)) (program_view new) result

@@ -4,6 +4,7 @@ pub mod Externals
 pub mod Merge
 pub mod Sets
 pub mod Turns
+pub mod Rewriting
 pub mod Kept
 pub mod SpecWords
 pub mod Binding

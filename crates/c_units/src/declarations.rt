@@ -1,14 +1,13 @@
 //! Declarators by their names, and the parameters of functions that are defined.
 
-ghost use Rattle.std.specs.Prelude.{◌≡◌, ℕ, List, [], IfOk, option_copied};
-ghost use Rattle.c_units.specs.Names.{name_by};
+ghost use Rattle.std.specs.Prelude.{◌≡◌, ℕ, [], option_copied, OnOk};
 ghost use Rattle.c_tree.specs.Forms as form;
-ghost use Rattle.c_tree.specs.Scopes.{name_of, params_of, suffix_params};
+ghost use Rattle.c_tree.specs.Scopes.{name_of};
 ghost use Rattle.c_tree.specs.StatementView.{trees, suffix_view};
-ghost use Rattle.c_tree.specs.Tree.{Node, none, ◌▹◌};
 ghost use Rattle.c_tree.specs.View.{declarator_tree, base_tree, suffix_tree};
 ghost use Rattle.c_units.specs.Externals.{with_name, with_params};
 ghost use Rattle.c_units.specs.Turns.{kind_params};
+ghost use Rattle.c_units.specs.Rewriting.{RewritesName, direct_view, list_params, behind_params};
 
 use crate::names::Binding;
 use crate::walk::Walk;
@@ -47,10 +46,8 @@ impl Walk {
     #[tactic(auto, unfolding(c_tree::specs::View::declarator_tree), using(crate::proofs::DefinedParams::pointer_params, crate::proofs::DefinedParams::direct_params))]
     pub(crate) fn defined_params(&mut self, declarator: &mut Declarator) -> Result<(), NoMemory>
         requires { self.old.suffix ≡ [] }
-        ensures same { IfOk result (λ _.
-            declarator_tree declarator.new ≡ declarator_tree declarator.old) }
-        ensures names { IfOk result (λ _.
-            self.new ≡ with_params (params_of (declarator_tree declarator.old)) self.old) }
+        ensures same { OnOk result (declarator_tree declarator.new ≡ declarator_tree declarator.old) }
+        ensures names { OnOk result (self.new ≡ behind_params (declarator_tree declarator.old) self.old) }
     {
         match declarator {
             Declarator::Pointer(_, _, target) => self.defined_params(target),
@@ -63,11 +60,9 @@ impl Walk {
     #[tactic(auto, unfolding(c_tree::specs::View::base_tree), using(crate::proofs::DefinedParams::nothing_params, crate::proofs::DefinedParams::name_params, crate::proofs::DefinedParams::parens_params))]
     fn base_params(&mut self, base: &mut Base, list: &mut [Suffix]) -> Result<(), NoMemory>
         requires { self.old.suffix ≡ [] }
-        ensures base { IfOk result (λ _. base_tree base.new ≡ base_tree base.old) }
-        ensures list { IfOk result (λ _. trees suffix_view list.new ≡ trees suffix_view list.old) }
-        ensures names { IfOk result (λ _.
-            let suffixes = Node form.Suffixes (trees suffix_view list.old) in
-            self.new ≡ with_params (params_of (Node form.Direct (base_tree base.old ▹ suffixes ▹ none))) self.old) }
+        ensures base { OnOk result (base_tree base.new ≡ base_tree base.old) }
+        ensures list { OnOk result (trees suffix_view list.new ≡ trees suffix_view list.old) }
+        ensures names { OnOk result (self.new ≡ behind_params (direct_view base.old list.old) self.old) }
     {
         match base {
             Base::Nothing => Ok(()),
@@ -80,10 +75,8 @@ impl Walk {
     #[tactic(auto, using(crate::proofs::DefinedParams::first_is, crate::proofs::DefinedParams::first_same, crate::proofs::DefinedParams::none_is))]
     fn first_params(&mut self, list: &mut [Suffix]) -> Result<(), NoMemory>
         requires { self.old.suffix ≡ [] }
-        ensures same { IfOk result (λ _. trees suffix_view list.new ≡ trees suffix_view list.old) }
-        ensures names { IfOk result (λ _.
-            let suffixes = Node form.Suffixes (trees suffix_view list.old) in
-            self.new ≡ with_params (suffix_params (suffixes ▹ none)) self.old) }
+        ensures same { OnOk result (trees suffix_view list.new ≡ trees suffix_view list.old) }
+        ensures names { OnOk result (self.new ≡ with_params (list_params list.old) self.old) }
     {
         if list.len() > 0 {
             return self.kind_params(&mut list[0].kind);
@@ -95,9 +88,8 @@ impl Walk {
     #[tactic(auto, using(crate::proofs::DefinedParams::array_params, crate::proofs::DefinedParams::void_params, crate::proofs::DefinedParams::list_params))]
     fn kind_params(&mut self, kind: &mut SuffixKind) -> Result<(), NoMemory>
         requires { self.old.suffix ≡ [] }
-        ensures same { (line : ℕ) → IfOk result (λ _.
-            suffix_tree kind.new line ≡ suffix_tree kind.old line) }
-        ensures names { IfOk result (λ _. self.new ≡ with_params (kind_params kind.old) self.old) }
+        ensures same { (line : ℕ) → OnOk result (suffix_tree kind.new line ≡ suffix_tree kind.old line) }
+        ensures names { OnOk result (self.new ≡ with_params (kind_params kind.old) self.old) }
     {
         match kind {
             SuffixKind::Array(_) | SuffixKind::Void => Ok(()),
@@ -113,9 +105,7 @@ impl Walk {
         binding: Binding,
         declarator: &mut Declarator,
     ) -> Result<(), NoMemory>
-        ensures { (name : List ℕ) → name_of (declarator_tree declarator.old) ≡ Some name → IfOk result (λ _.
-            declarator_tree declarator.new ≡
-            with_name (name_by binding self.now.suffix name) (declarator_tree declarator.old)) }
+        ensures { RewritesName declarator_tree binding self.now.suffix declarator.old declarator.new result }
     {
         match declarator {
             Declarator::Pointer(_, _, target) => self.rename_declared(binding, target),
@@ -127,9 +117,7 @@ impl Walk {
     #[cycle(named)]
     #[tactic(auto, unfolding(c_tree::specs::View::base_tree, crate::specs::Externals::with_name, crate::specs::Externals::all_with_name, c_tree::specs::Scopes::name_of, c_tree::specs::Scopes::name_among, c_tree::specs::Scopes::leads_to_name), using(crate::proofs::FileNames::first_alone))]
     fn rename_base(&self, binding: Binding, base: &mut Base) -> Result<(), NoMemory>
-        ensures { (name : List ℕ) → name_of (base_tree base.old) ≡ Some name → IfOk result (λ _.
-            base_tree base.new ≡
-            with_name (name_by binding self.now.suffix name) (base_tree base.old)) }
+        ensures { RewritesName base_tree binding self.now.suffix base.old base.new result }
     {
         match base {
             Base::Nothing => Ok(()),

@@ -1,13 +1,12 @@
 //! Names in external declarations as they stand in the program.
 
-ghost use Rattle.std.specs.Prelude.{◌≡◌, ℕ, IfOk};
-ghost use Rattle.c_tree.specs.Scopes.{params_of};
-ghost use Rattle.c_tree.specs.StatementView.{trees, body_view, decl_view, entry_view};
-ghost use Rattle.c_tree.specs.Tree.{none, ◌▹◌};
+ghost use Rattle.std.specs.Prelude.{◌≡◌, ℕ, OnOk};
+ghost use Rattle.c_tree.specs.StatementView.{trees, body_view, decl_view};
 ghost use Rattle.c_tree.specs.View.{declarator_tree};
-ghost use Rattle.c_units.specs.Externals.{behind_declarator, behind_entries, behind_external, inside_params, renamed_declarator, renamed_entries, renamed_external, role_of};
-ghost use Rattle.c_units.specs.Names.{behind, left_scope, renamed};
+ghost use Rattle.c_units.specs.Externals.{behind_external, inside_params, renamed_external, role_of};
+ghost use Rattle.c_units.specs.Names.{renamed};
 ghost use Rattle.c_units.specs.Turns.{inits_of};
+ghost use Rattle.c_units.specs.Rewriting.{body_start, behind_body, RewritesDeclared, behind_declared, RewritesEntry, behind_entry, RewritesEntries, behind_names};
 
 use crate::declarations::declared_name;
 use crate::mention::Role;
@@ -39,11 +38,8 @@ impl Walk {
         line: Line,
         declarator: &mut Declarator,
     ) -> Result<(), NoMemory>
-        ensures tree { IfOk result (λ _.
-            declarator_tree declarator.new ≡
-            renamed_declarator role line (declarator_tree declarator.old) self.old) }
-        ensures names { IfOk result (λ _.
-            self.new ≡ behind_declarator role line (declarator_tree declarator.old) self.old) }
+        ensures tree { OnOk result (RewritesDeclared role line declarator.old declarator.new self.old) }
+        ensures names { OnOk result (self.new ≡ behind_declared role line declarator.old self.old) }
     {
         let Some(name) = declared_name(declarator) else {
             return self.declarator(declarator);
@@ -63,11 +59,8 @@ impl Walk {
         typedef: bool,
         entry: &mut (Declarator, Option<Init>),
     ) -> Result<(), NoMemory>
-        ensures tree { IfOk result (λ _.
-            entry_view entry.new ▹ none ≡
-            renamed_entries line typedef (entry_view entry.old ▹ none) self.old) }
-        ensures names { IfOk result (λ _.
-            self.new ≡ behind_entries line typedef (entry_view entry.old ▹ none) self.old) }
+        ensures tree { OnOk result (RewritesEntry line typedef entry.old entry.new self.old) }
+        ensures names { OnOk result (self.new ≡ behind_entry line typedef entry.old self.old) }
     {
         let role = role_of(typedef, &entry.1);
         self.file_declarator(role, line, &mut entry.0)?;
@@ -82,11 +75,8 @@ impl Walk {
         typedef: bool,
         list: &mut [(Declarator, Option<Init>)],
     ) -> Result<(), NoMemory>
-        ensures trees { IfOk result (λ _.
-            trees entry_view list.new ≡
-            renamed_entries line typedef (trees entry_view list.old) self.old) }
-        ensures names { IfOk result (λ _.
-            self.new ≡ behind_entries line typedef (trees entry_view list.old) self.old) }
+        ensures trees { OnOk result (RewritesEntries line typedef list.old list.new self.old) }
+        ensures names { OnOk result (self.new ≡ behind_names line typedef list.old self.old) }
     {
         for one in list.iter_mut() {
             self.file_entry(line, typedef, one)?;
@@ -101,11 +91,8 @@ impl Walk {
         typedef: bool,
         names: &mut Items<(Declarator, Option<Init>)>,
     ) -> Result<(), NoMemory>
-        ensures trees { IfOk result (λ _.
-            trees entry_view names.new ≡
-            renamed_entries line typedef (trees entry_view names.old) self.old) }
-        ensures names { IfOk result (λ _.
-            self.new ≡ behind_entries line typedef (trees entry_view names.old) self.old) }
+        ensures trees { OnOk result (RewritesEntries line typedef names.old names.new self.old) }
+        ensures names { OnOk result (self.new ≡ behind_names line typedef names.old self.old) }
     {
         let mut list = mem::replace(names, Items::new(self.alloc)).into_vec();
         self.each_file_entry(line, typedef, &mut list)?;
@@ -116,10 +103,8 @@ impl Walk {
     /// The parameters are declared where the body begins, and mention nothing a second time. They have their names already.
     #[tactic(auto, using(crate::proofs::KeptParams::suffix_back))]
     fn inside_params(&mut self, declarator: &mut Declarator) -> Result<(), NoMemory>
-        ensures same { IfOk result (λ _.
-            declarator_tree declarator.new ≡ declarator_tree declarator.old) }
-        ensures names { IfOk result (λ _.
-            self.new ≡ inside_params (params_of (declarator_tree declarator.old)) self.old) }
+        ensures same { OnOk result (declarator_tree declarator.new ≡ declarator_tree declarator.old) }
+        ensures names { OnOk result (self.new ≡ body_start declarator.old self.old) }
     {
         self.enter();
         let mentions = self.take_mentions();
@@ -137,14 +122,9 @@ impl Walk {
         declarator: &mut Declarator,
         body: &mut Items<Stmt>,
     ) -> Result<(), NoMemory>
-        ensures same { IfOk result (λ _.
-            declarator_tree declarator.new ≡ declarator_tree declarator.old) }
-        ensures tree { (end : ℕ) → IfOk result (λ _.
-            let start = inside_params (params_of (declarator_tree declarator.old)) self.old in
-            body_view body.new end ≡ renamed (body_view body.old end) start) }
-        ensures names { (end : ℕ) → IfOk result (λ _.
-            let start = inside_params (params_of (declarator_tree declarator.old)) self.old in
-            self.new ≡ left_scope self.old (behind (body_view body.old end) start)) }
+        ensures same { OnOk result (declarator_tree declarator.new ≡ declarator_tree declarator.old) }
+        ensures tree { (end : ℕ) → OnOk result (body_view body.new end ≡ renamed (body_view body.old end) (body_start declarator.old self.old)) }
+        ensures names { (end : ℕ) → OnOk result (self.new ≡ behind_body (body_view body.old end) declarator.old self.old) }
     {
         let outer = self.outer();
         self.inside_params(declarator)?;
@@ -155,10 +135,8 @@ impl Walk {
     /// An external declaration.
     #[tactic(auto, unfolding(crate::specs::Externals::behind_external, crate::specs::Externals::renamed_external, c_tree::specs::Scopes::has_typedef))]
     pub(crate) fn external(&mut self, decl: &mut Decl) -> Result<(), NoMemory>
-        ensures tree { IfOk result (λ _.
-            decl_view decl.new ≡ renamed_external (decl_view decl.old) self.old) }
-        ensures names { IfOk result (λ _.
-            self.new ≡ behind_external (decl_view decl.old) self.old) }
+        ensures tree { OnOk result (decl_view decl.new ≡ renamed_external (decl_view decl.old) self.old) }
+        ensures names { OnOk result (self.new ≡ behind_external (decl_view decl.old) self.old) }
     {
         match decl {
             Decl::Function {

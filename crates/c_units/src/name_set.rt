@@ -1,6 +1,6 @@
 //! Names without repeats, of which it is known in near constant time whether they have one.
 
-ghost use Rattle.std.specs.Prelude.{◌≡◌, [], IfOk};
+ghost use Rattle.std.specs.Prelude.{◌≡◌, [], OnOk};
 ghost use Rattle.c_units.specs.Mentions.{all_noted, is_among, noted};
 
 use hs_base::{Items, NoMemory};
@@ -42,7 +42,7 @@ impl NameSet {
 
     /// Notes a name.
     pub(crate) fn note(&mut self, alloc: Global, name: &[u8]) -> Result<(), NoMemory>
-        ensures { IfOk result (λ _. self.new ≡ noted self.old name.now) }
+        ensures { OnOk result (self.new ≡ noted self.old name.now) }
     {
         self.names.insert(Vec::from_slice(alloc, name)?)?;
         Ok(())
@@ -51,7 +51,7 @@ impl NameSet {
     /// Notes some names.
     #[tactic(auto, using(crate::proofs::StaticNames::name_next, crate::proofs::StaticNames::name_end))]
     pub(crate) fn note_all(&mut self, alloc: Global, names: &[Items<u8>]) -> Result<(), NoMemory>
-        ensures { IfOk result (λ _. self.new ≡ all_noted self.old names.now) }
+        ensures { OnOk result (self.new ≡ all_noted self.old names.now) }
     {
         for name in names {
             self.note(alloc, name.as_slice())?;

@@ -1,6 +1,6 @@
 //! The declarations that hold at a place of a unit.
 
-ghost use Rattle.std.specs.Prelude.{◌≡◌, ◌∷◌, [], length, IfOk, OnOk, OnErr, if◌then◌else◌, bytes_eq, List, ℕ};
+ghost use Rattle.std.specs.Prelude.{◌≡◌, ◌∷◌, [], length, OnOk, OnErr, bytes_eq, List, ℕ, if◌then◌else◌};
 ghost use Rattle.c_units.specs.Names.{binding_of};
 ghost use Rattle.c_units.specs.Sets.{bound_in, oldest, without_latest};
 
@@ -83,8 +83,7 @@ impl Scope {
 
     /// Declares a name.
     pub(crate) fn declare(&mut self, name: &[u8], binding: Binding) -> Result<(), NoMemory>
-        ensures { IfOk result (λ _.
-            self.new ≡ record { name = name.now; binding = binding } ∷ self.old) }
+        ensures { OnOk result (self.new ≡ record { name = name.now; binding = binding } ∷ self.old) }
     {
         let entry = Entry {
             name: SmallVec::from_slice(self.alloc, name)?,
@@ -101,7 +100,7 @@ impl Scope {
 
     /// Takes the latest declaration back. Want of memory leaves none.
     fn undo(&mut self) -> Result<(), NoMemory>
-        ensures { IfOk result (λ _. self.new ≡ without_latest self.old) }
+        ensures { OnOk result (self.new ≡ without_latest self.old) }
     {
         if let Some(entry) = self.log.pop() {
             let name = entry.name.as_slice();
@@ -116,7 +115,7 @@ impl Scope {
 
     /// Takes all declarations but the oldest so many back.
     pub(crate) fn cut(&mut self, count: usize) -> Result<(), NoMemory>
-        ensures { IfOk result (λ _. self.new ≡ oldest count self.old) }
+        ensures { OnOk result (self.new ≡ oldest count self.old) }
     {
         'cut: while self.len() > count {
             self.undo()?;

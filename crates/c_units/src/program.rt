@@ -1,13 +1,12 @@
 //! The merge of units.
 
-ghost use Rattle.std.specs.Prelude.{◌≡◌, ◌≢◌, ◌<◌, ◌≤◌, ◌++◌, ◌∷◌, [], IfOk, length, map, option_copied};
+ghost use Rattle.std.specs.Prelude.{◌≡◌, ◌≢◌, ◌<◌, ◌≤◌, ◌++◌, ◌∷◌, [], IfOk, length, map, option_copied, OnOk};
 ghost use Rattle.c_tree.specs.Renaming.{RenamesSome};
 ghost use Rattle.c_tree.specs.StatementView.{unit_view};
-ghost use Rattle.c_units.specs.Kept.{program_view, said_view};
+ghost use Rattle.c_units.specs.Kept.{program_view, said_view, left_view, AddsSpellings, said_trees, with_trees, AddsUnit};
 ghost use Rattle.c_units.specs.Mentions.{first_taken};
-ghost use Rattle.c_units.specs.Merge.{Adds, IsConflict, Merges, kept, mentions_of, no_program, spellings_of, trees_of, with_unit};
+ghost use Rattle.c_units.specs.Merge.{Adds, IsConflict, Merges, kept, mentions_of, no_program, spellings_of};
 ghost use Rattle.c_units.specs.MergedNames.{joined_all};
-ghost use Rattle.c_units.specs.Turns.{joined};
 
 use crate::error::MergeError;
 use crate::mention::Mention;
@@ -66,9 +65,7 @@ impl Program {
     /// What is left of a unit: a declaration that an earlier one has in the same words is left out.
     #[tactic(auto, using(crate::proofs::ProgramTurns::kept_next, crate::proofs::ProgramTurns::spellings_next))]
     fn left(&self, all: Vec<Said>) -> Result<Left, NoMemory>
-        ensures said { IfOk result (λ left.
-            map said_view left.said.items ≡
-            kept self.now.spellings (map said_view all.items)) }
+        ensures said { IfOk result (λ left. left_view left ≡ kept self.now.spellings (map said_view all.items)) }
         ensures spellings { IfOk result (λ left.
             left.spellings.items ≡ spellings_of (map said_view all.items)) }
     {
@@ -85,11 +82,8 @@ impl Program {
     /// The same of one external declaration.
     #[tactic(auto, using(crate::proofs::ProgramTurns::whole_kept, crate::proofs::ProgramTurns::new_kept, crate::proofs::ProgramTurns::again_kept, crate::proofs::ProgramTurns::whole_spelled, crate::proofs::ProgramTurns::plain_spelled))]
     fn sort(&self, left: &mut Left, one: Said) -> Result<(), NoMemory>
-        ensures said { IfOk result (λ _.
-            map said_view left.new.said.items ≡
-            map said_view left.old.said.items ++ kept self.now.spellings (said_view one ∷ [])) }
-        ensures spellings { IfOk result (λ _.
-            left.new.spellings.items ≡ left.old.spellings.items ++ spellings_of (said_view one ∷ [])) }
+        ensures said { OnOk result (left_view left.new ≡ left_view left.old ++ kept self.now.spellings (said_view one ∷ [])) }
+        ensures spellings { OnOk result (AddsSpellings (said_view one) left.old.spellings.items left.new.spellings.items) }
     {
         if !is_plain(&one.decl) {
             left.said.push(one)?;
@@ -123,11 +117,7 @@ impl Program {
     fn take_in(&mut self, said: Vec<Said>) -> Result<Vec<Mention>, NoMemory>
         ensures mentions { IfOk result (λ mentions.
             mentions.items ≡ mentions_of (map said_view said.items)) }
-        ensures program { IfOk result (λ _.
-            let more = trees_of (map said_view said.items) in
-            program_view self.new ≡ record (program_view self.old) {
-              trees = joined (program_view self.old).trees more;
-            }) }
+        ensures program { OnOk result (program_view self.new ≡ with_trees (said_trees said.items) (program_view self.old)) }
     {
         let mut mentions = Vec::new(self.alloc);
         for one in said {
@@ -144,8 +134,7 @@ impl Program {
     /// Adds a unit with its number.
     #[tactic(auto, using(crate::proofs::ProgramTurns::added, crate::proofs::ProgramTurns::refused))]
     fn add(&mut self, number: usize, unit: Unit) -> Result<(), MergeError>
-        ensures { let wanted = with_unit number (unit_view unit) (program_view self.old) in
-            Adds wanted (program_view self.new) result }
+        ensures { AddsUnit number unit self.old self.new result }
     {
         let all = unit_said(self.alloc, number, unit)?;
         let Left { said, spellings } = self.left(all)?;

@@ -1,10 +1,11 @@
 //! The external declarations of a unit as they stand in the program.
 
-ghost use Rattle.std.specs.Prelude.{◌≡◌, [], IfOk, map};
+ghost use Rattle.std.specs.Prelude.{◌≡◌, IfOk, map, OnOk};
 ghost use Rattle.c_tree.specs.StatementView.{trees, decl_view, entry_view, unit_view};
-ghost use Rattle.c_units.specs.Externals.{behind_external, each_said, renamed_external, suffix_of, unit_said};
+ghost use Rattle.c_units.specs.Externals.{each_said, suffix_of, unit_said};
 ghost use Rattle.c_units.specs.Kept.{said_view};
 ghost use Rattle.c_units.specs.Merge.{are_plain, is_plain, spelling};
+ghost use Rattle.c_units.specs.Rewriting.{said_of, behind_said};
 
 use crate::mention::Mention;
 use crate::statics::own_names;
@@ -36,13 +37,8 @@ fn each_said(walk: &mut Walk, decls: Vec<Decl>) -> Result<Vec<Said>, NoMemory>
 
 /// An external declaration as it stands in the program, with what it says.
 fn one_said(walk: &mut Walk, mut decl: Decl) -> Result<Said, NoMemory>
-    ensures said { IfOk result (λ one.
-        let before = record walk.old { mentions = [] } in
-        let after = behind_external (decl_view decl) before in
-        said_view one ≡ record { tree = renamed_external (decl_view decl) before; mentions = after.mentions }) }
-    ensures names { IfOk result (λ _.
-        let after = behind_external (decl_view decl) (record walk.old { mentions = [] }) in
-        walk.new ≡ record after { mentions = [] }) }
+    ensures said { IfOk result (λ one. said_view one ≡ said_of (decl_view decl) walk.old) }
+    ensures names { OnOk result (walk.new ≡ behind_said (decl_view decl) walk.old) }
 {
     let _ = walk.take_mentions();
     walk.external(&mut decl)?;

@@ -1,10 +1,11 @@
 //! Names in initializers and statements as they stand in the program.
 
-ghost use Rattle.std.specs.Prelude.{◌≡◌, ℕ, IfOk, option_map};
+ghost use Rattle.std.specs.Prelude.{◌≡◌, ℕ, OnOk};
 ghost use Rattle.c_tree.specs.StatementView.{trees, expr_view, init_view, entry_view, maybe, maybe_expr, start_view, stmt_view, stmt_tree, body_view};
 ghost use Rattle.c_tree.specs.Forms as form;
-ghost use Rattle.c_units.specs.Names.{behind, left_scope, renamed};
-ghost use Rattle.c_units.specs.Turns.{behind_branch, each_renamed, in_turn, inner, is_scope_kind};
+ghost use Rattle.c_units.specs.Names.{behind, renamed};
+ghost use Rattle.c_units.specs.Turns.{behind_branch, in_turn, inner, is_scope_kind};
+ghost use Rattle.c_units.specs.Rewriting.{Rewrites, RewritesMaybe, RewritesEach, branch_view, RewritesBranch, behind_scope, behind_test};
 
 use crate::declarations::declared_name;
 use crate::walk::Walk;
@@ -39,11 +40,8 @@ impl Walk {
     /// An expression that may be left out.
     #[tactic(auto, unfolding(crate::specs::Names::behind, crate::specs::Names::all_behind, crate::specs::Names::renamed, crate::specs::Names::all_renamed, crate::specs::Names::left, crate::specs::Names::entered, crate::specs::Names::made, c_tree::specs::Grammar::shape, c_tree::specs::Scopes::is_scope))]
     fn maybe_expr(&mut self, e: &mut Option<Expr>) -> Result<(), NoMemory>
-        ensures tree { IfOk result (λ _.
-            maybe form.MaybeExpr expr_view e.new ≡
-            renamed (maybe form.MaybeExpr expr_view e.old) self.old) }
-        ensures names { IfOk result (λ _.
-            self.new ≡ behind (maybe form.MaybeExpr expr_view e.old) self.old) }
+        ensures tree { OnOk result (RewritesMaybe form.MaybeExpr expr_view e.old e.new self.old) }
+        ensures names { OnOk result (self.new ≡ behind (maybe_expr e.old) self.old) }
     {
         match e {
             Some(e) => self.expr(e),
@@ -55,8 +53,8 @@ impl Walk {
     #[cycle(inits)]
     #[tactic(auto, unfolding(c_tree::specs::StatementView::init_tree, crate::specs::Names::behind, crate::specs::Names::all_behind, crate::specs::Names::renamed, crate::specs::Names::all_renamed, crate::specs::Names::left, crate::specs::Names::entered, crate::specs::Names::made, c_tree::specs::Grammar::shape, c_tree::specs::Scopes::is_scope), using(crate::proofs::TreeParts::init_list_known, crate::proofs::TreeParts::init_list_made))]
     fn init(&mut self, init: &mut Init) -> Result<(), NoMemory>
-        ensures tree { IfOk result (λ _. init_view init.new ≡ renamed (init_view init.old) self.old) }
-        ensures names { IfOk result (λ _. self.new ≡ behind (init_view init.old) self.old) }
+        ensures tree { OnOk result (Rewrites init_view init.old init.new self.old) }
+        ensures names { OnOk result (self.new ≡ behind (init_view init.old) self.old) }
     {
         match &mut init.kind {
             InitKind::Expr(value) => self.expr(value),
@@ -68,9 +66,8 @@ impl Walk {
     #[cycle(inits)]
     #[tactic(auto, using(crate::proofs::ItemTurns::item_next, crate::proofs::ItemTurns::all_made, crate::proofs::ItemTurns::all_known))]
     fn inits(&mut self, list: &mut [Init]) -> Result<(), NoMemory>
-        ensures trees { IfOk result (λ _.
-            trees init_view list.new ≡ each_renamed (trees init_view list.old) self.old) }
-        ensures names { IfOk result (λ _. self.new ≡ in_turn (trees init_view list.old) self.old) }
+        ensures trees { OnOk result (RewritesEach init_view list.old list.new self.old) }
+        ensures names { OnOk result (self.new ≡ in_turn (trees init_view list.old) self.old) }
     {
         for one in list.iter_mut() {
             self.init(one)?;
@@ -81,11 +78,8 @@ impl Walk {
     /// An initializer that may be left out.
     #[tactic(auto, unfolding(crate::specs::Names::behind, crate::specs::Names::all_behind, crate::specs::Names::renamed, crate::specs::Names::all_renamed, crate::specs::Names::left, crate::specs::Names::entered, crate::specs::Names::made, c_tree::specs::Grammar::shape, c_tree::specs::Scopes::is_scope))]
     pub(crate) fn maybe_init(&mut self, init: &mut Option<Init>) -> Result<(), NoMemory>
-        ensures tree { IfOk result (λ _.
-            maybe form.MaybeInit init_view init.new ≡
-            renamed (maybe form.MaybeInit init_view init.old) self.old) }
-        ensures names { IfOk result (λ _.
-            self.new ≡ behind (maybe form.MaybeInit init_view init.old) self.old) }
+        ensures tree { OnOk result (RewritesMaybe form.MaybeInit init_view init.old init.new self.old) }
+        ensures names { OnOk result (self.new ≡ behind (maybe form.MaybeInit init_view init.old) self.old) }
     {
         match init {
             Some(init) => self.init(init),
@@ -96,8 +90,8 @@ impl Walk {
     /// A name of a declaration in an inner scope, which holds before its initializer (C99 6.2.1).
     #[tactic(auto, unfolding(crate::specs::Names::behind, crate::specs::Names::all_behind, crate::specs::Names::renamed, crate::specs::Names::all_renamed, crate::specs::Names::left, crate::specs::Names::entered, crate::specs::Names::made, c_tree::specs::Grammar::shape, c_tree::specs::Scopes::is_scope), using(crate::proofs::TreeParts::entry_known, crate::proofs::TreeParts::entry_made, crate::proofs::BoundTrees::name_same))]
     fn entry(&mut self, entry: &mut (Declarator, Option<Init>)) -> Result<(), NoMemory>
-        ensures tree { IfOk result (λ _. entry_view entry.new ≡ renamed (entry_view entry.old) self.old) }
-        ensures names { IfOk result (λ _. self.new ≡ behind (entry_view entry.old) self.old) }
+        ensures tree { OnOk result (Rewrites entry_view entry.old entry.new self.old) }
+        ensures names { OnOk result (self.new ≡ behind (entry_view entry.old) self.old) }
     {
         self.declarator(&mut entry.0)?;
         let binding = self.binding_here();
@@ -108,9 +102,8 @@ impl Walk {
     /// Names of a declaration in an inner scope, in turn.
     #[tactic(auto, using(crate::proofs::ItemTurns::item_next, crate::proofs::ItemTurns::all_made, crate::proofs::ItemTurns::all_known))]
     fn each_entry(&mut self, list: &mut [(Declarator, Option<Init>)]) -> Result<(), NoMemory>
-        ensures trees { IfOk result (λ _.
-            trees entry_view list.new ≡ each_renamed (trees entry_view list.old) self.old) }
-        ensures names { IfOk result (λ _. self.new ≡ in_turn (trees entry_view list.old) self.old) }
+        ensures trees { OnOk result (RewritesEach entry_view list.old list.new self.old) }
+        ensures names { OnOk result (self.new ≡ in_turn (trees entry_view list.old) self.old) }
     {
         for one in list.iter_mut() {
             self.entry(one)?;
@@ -120,9 +113,8 @@ impl Walk {
 
     /// The names of a declaration in an inner scope.
     fn entries(&mut self, names: &mut Items<(Declarator, Option<Init>)>) -> Result<(), NoMemory>
-        ensures trees { IfOk result (λ _.
-            trees entry_view names.new ≡ each_renamed (trees entry_view names.old) self.old) }
-        ensures names { IfOk result (λ _. self.new ≡ in_turn (trees entry_view names.old) self.old) }
+        ensures trees { OnOk result (RewritesEach entry_view names.old names.new self.old) }
+        ensures names { OnOk result (self.new ≡ in_turn (trees entry_view names.old) self.old) }
     {
         let mut list = mem::replace(names, Items::new(self.alloc)).into_vec();
         self.each_entry(&mut list)?;
@@ -133,8 +125,8 @@ impl Walk {
     /// What stands before the first `;` of a `for`.
     #[tactic(auto, unfolding(crate::specs::Names::behind, crate::specs::Names::all_behind, crate::specs::Names::renamed, crate::specs::Names::all_renamed, crate::specs::Names::left, crate::specs::Names::entered, crate::specs::Names::made, c_tree::specs::Grammar::shape, c_tree::specs::Scopes::is_scope), using(crate::proofs::TreeParts::names_known, crate::proofs::TreeParts::names_made))]
     fn for_start(&mut self, start: &mut ForStart) -> Result<(), NoMemory>
-        ensures tree { IfOk result (λ _. start_view start.new ≡ renamed (start_view start.old) self.old) }
-        ensures names { IfOk result (λ _. self.new ≡ behind (start_view start.old) self.old) }
+        ensures tree { OnOk result (Rewrites start_view start.old start.new self.old) }
+        ensures names { OnOk result (self.new ≡ behind (start_view start.old) self.old) }
     {
         match start {
             ForStart::Names(specs, names) => {
@@ -149,8 +141,8 @@ impl Walk {
     #[cycle(statements)]
     #[tactic(auto, using(crate::proofs::ScopeEnds::statement_is))]
     fn stmt(&mut self, stmt: &mut Stmt) -> Result<(), NoMemory>
-        ensures tree { IfOk result (λ _. stmt_view stmt.new ≡ renamed (stmt_view stmt.old) self.old) }
-        ensures names { IfOk result (λ _. self.new ≡ behind (stmt_view stmt.old) self.old) }
+        ensures tree { OnOk result (Rewrites stmt_view stmt.old stmt.new self.old) }
+        ensures names { OnOk result (self.new ≡ behind (stmt_view stmt.old) self.old) }
     {
         let is_scope = is_scope(&stmt.kind);
         let outer = self.outer();
@@ -162,9 +154,8 @@ impl Walk {
     #[cycle(statements)]
     #[tactic(auto, using(crate::proofs::ScopeEnds::tree_back))]
     fn branch(&mut self, stmt: &mut Stmt) -> Result<(), NoMemory>
-        ensures tree { IfOk result (λ _. stmt_view stmt.new ≡ renamed (stmt_view stmt.old) self.old) }
-        ensures names { IfOk result (λ _.
-            self.new ≡ left_scope self.old (behind (stmt_view stmt.old) self.old)) }
+        ensures tree { OnOk result (Rewrites stmt_view stmt.old stmt.new self.old) }
+        ensures names { OnOk result (self.new ≡ behind_scope (stmt_view stmt.old) self.old) }
     {
         let outer = self.outer();
         self.stmt(stmt)?;
@@ -175,8 +166,8 @@ impl Walk {
     #[cycle(statements)]
     #[tactic(auto, unfolding(c_tree::specs::StatementView::stmt_tree, crate::specs::Names::behind, crate::specs::Names::all_behind, crate::specs::Names::renamed, crate::specs::Names::all_renamed, crate::specs::Names::left, crate::specs::Names::entered, crate::specs::Names::made, c_tree::specs::Grammar::shape, c_tree::specs::Scopes::is_scope), using(crate::proofs::TreeParts::block_ends, crate::proofs::TreeParts::block_made, crate::proofs::TreeParts::delay_ends, crate::proofs::TreeParts::delay_made, crate::proofs::TreeParts::choice_ends, crate::proofs::TreeParts::choice_made, crate::proofs::TreeParts::names_known, crate::proofs::TreeParts::names_made))]
     fn stmt_of(&mut self, line: Line, kind: &mut StmtKind) -> Result<(), NoMemory>
-        ensures tree { IfOk result (λ _. stmt_tree kind.new line ≡ renamed (stmt_tree kind.old line) self.old) }
-        ensures names { IfOk result (λ _. self.new ≡ inner (stmt_tree kind.old line) self.old) }
+        ensures tree { OnOk result (stmt_tree kind.new line ≡ renamed (stmt_tree kind.old line) self.old) }
+        ensures names { OnOk result (self.new ≡ inner (stmt_tree kind.old line) self.old) }
     {
         match kind {
             StmtKind::Empty | StmtKind::Break | StmtKind::Continue => Ok(()),
@@ -213,12 +204,9 @@ impl Walk {
     /// An expression, and a statement behind it that is a scope of its own.
     #[cycle(statements)]
     fn guarded(&mut self, e: &mut Expr, body: &mut Stmt) -> Result<(), NoMemory>
-        ensures e { IfOk result (λ _. expr_view e.new ≡ renamed (expr_view e.old) self.old) }
-        ensures body { IfOk result (λ _.
-            stmt_view body.new ≡ renamed (stmt_view body.old) (behind (expr_view e.old) self.old)) }
-        ensures names { IfOk result (λ _.
-            let before = behind (expr_view e.old) self.old in
-            self.new ≡ left_scope before (behind (stmt_view body.old) before)) }
+        ensures e { OnOk result (Rewrites expr_view e.old e.new self.old) }
+        ensures body { OnOk result (Rewrites stmt_view body.old body.new (behind (expr_view e.old) self.old)) }
+        ensures names { OnOk result (self.new ≡ behind_scope (stmt_view body.old) (behind (expr_view e.old) self.old)) }
     {
         self.expr(e)?;
         self.branch(body)
@@ -227,11 +215,8 @@ impl Walk {
     /// A statement that is a scope of its own and may be left out.
     #[cycle(statements)]
     fn maybe_branch(&mut self, stmt: &mut Option<Box<Stmt>>) -> Result<(), NoMemory>
-        ensures tree { IfOk result (λ _.
-            option_map (λ b. stmt_view b.value) stmt.new ≡
-            option_map (λ b. renamed (stmt_view b.value) self.old) stmt.old) }
-        ensures names { IfOk result (λ _.
-            self.new ≡ behind_branch (option_map (λ b. stmt_view b.value) stmt.old) self.old) }
+        ensures tree { OnOk result (RewritesBranch stmt.old stmt.new self.old) }
+        ensures names { OnOk result (self.new ≡ behind_branch (branch_view stmt.old) self.old) }
     {
         match stmt {
             Some(stmt) => self.branch(stmt),
@@ -246,17 +231,10 @@ impl Walk {
         test: &mut Option<Expr>,
         step: &mut Option<Expr>,
     ) -> Result<(), NoMemory>
-        ensures start { IfOk result (λ _.
-            start_view start.new ≡ renamed (start_view start.old) self.old) }
-        ensures test { IfOk result (λ _.
-            let started = behind (start_view start.old) self.old in
-            maybe_expr test.new ≡ renamed (maybe_expr test.old) started) }
-        ensures step { IfOk result (λ _.
-            let tested = behind (maybe_expr test.old) (behind (start_view start.old) self.old) in
-            maybe_expr step.new ≡ renamed (maybe_expr step.old) tested) }
-        ensures names { IfOk result (λ _.
-            let tested = behind (maybe_expr test.old) (behind (start_view start.old) self.old) in
-            self.new ≡ behind (maybe_expr step.old) tested) }
+        ensures start { OnOk result (Rewrites start_view start.old start.new self.old) }
+        ensures test { OnOk result (Rewrites maybe_expr test.old test.new (behind (start_view start.old) self.old)) }
+        ensures step { OnOk result (Rewrites maybe_expr step.old step.new (behind_test start.old test.old self.old)) }
+        ensures names { OnOk result (self.new ≡ behind (maybe_expr step.old) (behind_test start.old test.old self.old)) }
     {
         self.for_start(start)?;
         self.maybe_expr(test)?;
@@ -267,9 +245,8 @@ impl Walk {
     #[cycle(statements)]
     #[tactic(auto, using(crate::proofs::ItemTurns::item_next, crate::proofs::ItemTurns::all_made, crate::proofs::ItemTurns::all_known))]
     fn items(&mut self, list: &mut [Stmt]) -> Result<(), NoMemory>
-        ensures trees { IfOk result (λ _.
-            trees stmt_view list.new ≡ each_renamed (trees stmt_view list.old) self.old) }
-        ensures names { IfOk result (λ _. self.new ≡ in_turn (trees stmt_view list.old) self.old) }
+        ensures trees { OnOk result (RewritesEach stmt_view list.old list.new self.old) }
+        ensures names { OnOk result (self.new ≡ in_turn (trees stmt_view list.old) self.old) }
     {
         for one in list.iter_mut() {
             self.stmt(one)?;
@@ -279,9 +256,8 @@ impl Walk {
 
     /// The statements of a body.
     fn statements(&mut self, body: &mut Items<Stmt>) -> Result<(), NoMemory>
-        ensures trees { IfOk result (λ _.
-            trees stmt_view body.new ≡ each_renamed (trees stmt_view body.old) self.old) }
-        ensures names { IfOk result (λ _. self.new ≡ in_turn (trees stmt_view body.old) self.old) }
+        ensures trees { OnOk result (RewritesEach stmt_view body.old body.new self.old) }
+        ensures names { OnOk result (self.new ≡ in_turn (trees stmt_view body.old) self.old) }
     {
         let mut list = mem::replace(body, Items::new(self.alloc)).into_vec();
         self.items(&mut list)?;
@@ -292,10 +268,8 @@ impl Walk {
     /// The body of a function, which is a scope.
     #[tactic(auto, using(crate::proofs::ScopeEnds::body_known, crate::proofs::ScopeEnds::body_made))]
     pub(crate) fn body(&mut self, body: &mut Items<Stmt>) -> Result<(), NoMemory>
-        ensures trees { (end : ℕ) → IfOk result (λ _.
-            body_view body.new end ≡ renamed (body_view body.old end) self.old) }
-        ensures names { (end : ℕ) → IfOk result (λ _.
-            self.new ≡ behind (body_view body.old end) self.old) }
+        ensures trees { (end : ℕ) → OnOk result (Rewrites (λ b. body_view b end) body.old body.new self.old) }
+        ensures names { (end : ℕ) → OnOk result (self.new ≡ behind (body_view body.old end) self.old) }
     {
         let outer = self.outer();
         self.statements(body)?;

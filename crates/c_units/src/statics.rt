@@ -1,6 +1,6 @@
 //! What a unit has for itself: the objects and functions that it declares `static` (C99 6.2.2).
 
-ghost use Rattle.std.specs.Prelude.{◌≡◌, [], IfOk};
+ghost use Rattle.std.specs.Prelude.{◌≡◌, [], IfOk, OnOk};
 ghost use Rattle.c_tree.specs.Scopes.{name_of};
 ghost use Rattle.c_tree.specs.StatementView.{trees, decl_view, entry_view, unit_view};
 ghost use Rattle.c_tree.specs.View.{declarator_tree};
@@ -16,8 +16,7 @@ use std::alloc::Global;
 
 /// Notes the name of a declarator, unless it is that of the program's first function.
 fn note(alloc: Global, names: &mut NameSet, declarator: &Declarator) -> Result<(), NoMemory>
-    ensures { IfOk result (λ _.
-        names.new ≡ all_noted names.old (but_main (name_of (declarator_tree declarator.now)))) }
+    ensures { OnOk result (names.new ≡ all_noted names.old (but_main (name_of (declarator_tree declarator.now)))) }
 {
     match declared_name(declarator) {
         Some(name) => {
@@ -38,8 +37,7 @@ fn note_all(
     names: &mut NameSet,
     list: &[(Declarator, Option<Init>)],
 ) -> Result<(), NoMemory>
-    ensures { IfOk result (λ _.
-        names.new ≡ all_noted names.old (entry_names (trees entry_view list.now))) }
+    ensures { OnOk result (names.new ≡ all_noted names.old (entry_names (trees entry_view list.now))) }
 {
     for entry in list {
         note(alloc, names, &entry.0)?;
@@ -50,8 +48,7 @@ fn note_all(
 /// Notes what an external declaration declares `static`.
 #[tactic(auto, unfolding(crate::specs::Externals::static_names, crate::specs::Externals::has_static), using(crate::proofs::StaticNames::function_static))]
 fn note_static(alloc: Global, names: &mut NameSet, decl: &Decl) -> Result<(), NoMemory>
-    ensures { IfOk result (λ _.
-        names.new ≡ all_noted names.old (static_names (decl_view decl.now))) }
+    ensures { OnOk result (names.new ≡ all_noted names.old (static_names (decl_view decl.now))) }
 {
     match decl {
         Decl::Function {

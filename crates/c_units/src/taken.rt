@@ -1,6 +1,6 @@
 //! The names that units have so far.
 
-ghost use Rattle.std.specs.Prelude.{◌≡◌, IfOk, option_copied};
+ghost use Rattle.std.specs.Prelude.{◌≡◌, option_copied, OnOk};
 ghost use Rattle.c_units.specs.Mentions.{first_taken, is_taken, nothing_taken, with_mentions, with_role};
 
 use crate::mention::{Mention, Role};
@@ -70,7 +70,7 @@ impl Taken {
 
     /// A unit has a name in a role.
     fn note(&mut self, alloc: Global, role: Role, name: &[u8]) -> Result<(), NoMemory>
-        ensures { IfOk result (λ _. self.new ≡ with_role role name.now self.old) }
+        ensures { OnOk result (self.new ≡ with_role role name.now self.old) }
     {
         match role {
             Role::Typedef => self.typedefs.note(alloc, name),
@@ -83,7 +83,7 @@ impl Taken {
     /// A unit has some names.
     #[tactic(auto, using(crate::proofs::TakenNames::noted_next, crate::proofs::TakenNames::noted_end))]
     pub(crate) fn note_all(&mut self, alloc: Global, mentions: &[Mention]) -> Result<(), NoMemory>
-        ensures { IfOk result (λ _. self.new ≡ with_mentions mentions.now self.old) }
+        ensures { OnOk result (self.new ≡ with_mentions mentions.now self.old) }
     {
         for mention in mentions {
             self.note(alloc, mention.role, mention.name.as_slice())?;

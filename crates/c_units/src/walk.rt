@@ -1,6 +1,6 @@
 //! What is known at a place of a unit.
 
-ghost use Rattle.std.specs.Prelude.{◌≡◌, [], IfOk, false, length, option_copied, true};
+ghost use Rattle.std.specs.Prelude.{◌≡◌, [], false, length, option_copied, true, OnOk};
 ghost use Rattle.c_units.specs.Names.{Names, binding_at, binding_of, declare, mention, name_by};
 ghost use Rattle.c_units.specs.Externals.{binding_as};
 ghost use Rattle.c_units.specs.Sets.{back_to};
@@ -93,7 +93,7 @@ impl Walk {
 
     /// Gives a name that is bound so the form that it has in the program.
     pub(crate) fn rename(&self, binding: Binding, name: &mut Items<u8>) -> Result<(), NoMemory>
-        ensures { IfOk result (λ _. name.new ≡ name_by binding self.now.suffix name.old) }
+        ensures { OnOk result (name.new ≡ name_by binding self.now.suffix name.old) }
     {
         if let Binding::Own = binding {
             let mut bytes = mem::replace(name, Items::new(self.alloc)).into_vec();
@@ -145,7 +145,7 @@ impl Walk {
         name: &[u8],
         line: Line,
     ) -> Result<(), NoMemory>
-        ensures { IfOk result (λ _. self.new ≡ mention binding role name.now line self.old) }
+        ensures { OnOk result (self.new ≡ mention binding role name.now line self.old) }
     {
         if let Binding::Shared = binding {
             let name = Items::from(Vec::from_slice(self.alloc, name)?);
@@ -160,8 +160,7 @@ impl Walk {
         name: Option<&Items<u8>>,
         binding: Binding,
     ) -> Result<(), NoMemory>
-        ensures { IfOk result (λ _.
-            self.new ≡ declare (option_copied name.entry) binding self.old) }
+        ensures { OnOk result (self.new ≡ declare (option_copied name.entry) binding self.old) }
     {
         match name {
             Some(name) => self.scope.declare(name.as_slice(), binding),
@@ -188,7 +187,7 @@ impl Walk {
 
     /// A scope ends.
     pub(crate) fn leave(&mut self, outer: Outer) -> Result<(), NoMemory>
-        ensures { IfOk result (λ _. self.new ≡ back_to outer self.old) }
+        ensures { OnOk result (self.new ≡ back_to outer self.old) }
     {
         self.scope.cut(outer.count)?;
         self.inside = outer.inside;
@@ -197,7 +196,7 @@ impl Walk {
 
     /// The same, if it is one.
     pub(crate) fn leave_if(&mut self, is_scope: bool, outer: Outer) -> Result<(), NoMemory>
-        ensures { IfOk result (λ _. self.new ≡ back_if is_scope outer self.old) }
+        ensures { OnOk result (self.new ≡ back_if is_scope outer self.old) }
     {
         if is_scope {
             return self.leave(outer);
