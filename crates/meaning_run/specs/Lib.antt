@@ -4,3 +4,4 @@ pub mod Holding
 pub mod Calling
 pub mod Meant
 pub mod Groups
+pub mod Steps

@@ -1,6 +1,6 @@
 //! Jumps, calls, and returns with the end of memory locals (C99 6.5.2.2, 6.8.6).
 
-ghost use Rattle.std.specs.Prelude.{◌≡◌, ◌≤◌, ◌+◌, ◌<◌, ◌^◌, ◌++◌, [], All, ℕ, Bool, List, None, Some, IfOk, IfSome, MatchOption, length, map, drop, slice_get, slice_index};
+ghost use Rattle.std.specs.Prelude.{◌≡◌, ◌≤◌, ◌+◌, ◌<◌, ◌^◌, ◌++◌, [], All, ℕ, Bool, List, None, Some, IfOk, IfSome, MatchOption, length, map, drop, slice_get, slice_index, OnOk};
 ghost use Rattle.std.specs.List.{range_with_len};
 ghost use Rattle.hs_base.specs.Freeing.{first_held, ended};
 ghost use Rattle.core_tree.specs.Sound.{main_of};
@@ -13,6 +13,7 @@ ghost use Rattle.object_meaning.specs.objects.Calls.{registers_of, locals_of, ru
 ghost use Rattle.object_meaning.specs.objects.Meaning.{act, returned, start, values_of};
 ghost use Rattle.meaning_run.specs.Leading.{Alone, IsJump, with_input};
 ghost use Rattle.meaning_run.specs.Calling.{entered};
+ghost use Rattle.meaning_run.specs.Steps.{IsFirstEscaping, Leads, calls, with_objects_of, without_locals, new_registers};
 
 use crate::halt::Halt;
 use crate::holders::answer_register;
@@ -104,7 +105,7 @@ impl Machine {
         func: u32,
         args: &[Atom],
     ) -> Result<Vec<Value>, NoMemory>
-        ensures { IfOk result (λ regs. regs.items ≡ (new_frame core.now func (values_of self.now args.now) 0).regs) }
+        ensures { IfOk result (λ r. r.items ≡ new_registers core.now func (values_of self.now args.now)) }
     {
         let mut regs = self.values(alloc, args)?;
         let rest = registers_behind(registers_of(core, func), regs.len());
@@ -119,7 +120,7 @@ impl Machine {
         core: &Core,
         func: u32,
     ) -> Result<(), NoMemory>
-        ensures { IfOk result (λ _. self.new ≡ record self.old { objects = self.old.objects ++ local_objects func (locals_of (slice_get core.now.funcs func)) }) }
+        ensures { IfOk result (λ _. self.new ≡ with_objects_of core.now func self.old) }
     {
         let mems = locals_of(core, func);
         if mems.len() >= 1 << 32 {
@@ -137,7 +138,7 @@ impl Machine {
         args: &[Atom],
     ) -> Result<(), NoMemory>
         requires { self.old.running.point + 1 < 2 ^ 64 }
-        ensures { IfOk result (λ _. self.new ≡ entered core.now func (values_of self.old args.now) self.old) }
+        ensures { OnOk result (self.new ≡ entered core.now func (values_of self.old args.now) self.old) }
     {
         let regs = self.first_registers(alloc, core, func, args)?;
         let first_local = self.objects.len() as u64;
@@ -168,7 +169,7 @@ impl Machine {
         args: &[Atom],
     ) -> Result<(), Halt>
         requires { self.old.running.point + 1 < 2 ^ 64 }
-        ensures { (left : List ℕ) → Alone left (with_step self.old.steps (with_input left self.old) (call core.now line func (values_of self.old args.now))) self.new result }
+        ensures { Leads (calls core.now line func (values_of self.old args.now)) self.old self.new result }
     {
         if !self.take_step() {
             return Err(Halt::Spent);
@@ -206,7 +207,7 @@ impl Machine {
         answer: Value,
         locals: &[u64],
     ) -> Result<Option<usize>, NoMemory>
-        ensures first { IfOk result (λ place. MatchOption place (first_held (escapes core.now answer self.now locals.now) locals.now ≡ None) (λ k. first_held (escapes core.now answer self.now locals.now) locals.now ≡ Some (slice_index locals.now k))) }
+        ensures first { IfOk result (IsFirstEscaping core.now answer self.now locals.now) }
         ensures within { IfOk result (λ place. IfSome place (λ k. k < length locals.now)) }
     {
         for k in 0..locals.len() {
@@ -219,7 +220,7 @@ impl Machine {
 
     /// The newest of the waiting frames runs again; a return from the first call of main ends the run (C99 5.1.2.2.3).
     fn go_back(&mut self, core: &Core, answer: Value) -> Result<(), Halt>
-        ensures { (left : List ℕ) → Alone left (go_back core.now answer self.old.waiting (with_input left self.old)) self.new result }
+        ensures { Leads (go_back core.now answer self.old.waiting) self.old self.new result }
     {
         match self.waiting.pop() {
             None => Err(Halt::Exit(byte_in(number(answer)))),
@@ -253,7 +254,7 @@ impl Machine {
         line: Line,
         answer: Value,
     ) -> Result<(), Halt>
-        ensures { (left : List ℕ) → Alone left (give_back core.now line answer (with_input left self.old)) self.new result }
+        ensures { Leads (give_back core.now line answer) self.old self.new result }
     {
         let locals = self.running_locals(alloc, core)?;
         if let Some(k) = self.first_escaping(alloc, core, answer, &locals)? {
@@ -279,7 +280,7 @@ impl Machine {
 
     /// A return with an operand, or without one.
     fn give(&mut self, alloc: Global, core: &Core, line: Line, a: Option<Atom>) -> Result<(), Halt>
-        ensures { (left : List ℕ) → Alone left (give_back core.now line (returned self.old a) (with_input left self.old)) self.new result }
+        ensures { Leads (give_back core.now line (returned self.old a)) self.old self.new result }
     {
         let answer = self.returned(a);
         self.give_back(alloc, core, line, answer)
@@ -300,7 +301,7 @@ impl Machine {
 
     /// The memory locals of the running call die.
     fn end_locals(&mut self, core: &Core)
-        ensures { self.new ≡ with_objects self.old (ended self.old.objects (running_locals core.now self.old)) }
+        ensures { self.new ≡ without_locals core.now self.old }
     {
         let count = locals_of(core, self.func).len();
         self.objects.end(self.first_local as usize, count);
@@ -323,7 +324,7 @@ impl Machine {
     ) -> Result<(), Halt>
         requires point { self.old.running.point + 1 < 2 ^ 64 }
         requires jump { IsJump kind.now }
-        ensures { (fits : ℕ → Bool) (left : List ℕ) → Alone left (act core.now fits line kind.now (with_input left self.old)) self.new result }
+        ensures { (fits : ℕ → Bool) → Leads (act core.now fits line kind.now) self.old self.new result }
     {
         match kind {
             StmKind::Jump(l) => {

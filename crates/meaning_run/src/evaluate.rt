@@ -9,6 +9,7 @@ ghost use Rattle.meaning_state.specs.Making.{IsElement};
 ghost use Rattle.meaning_run.specs.Leading.{AlonePlaced, Placed, Moves, Seen, Counted, with_input};
 ghost use Rattle.meaning_run.specs.Groups.{IsAlone, IsOf};
 ghost use Rattle.meaning_run.specs.Meant.{MeanAnswers, MeanCounts, HasNoLimit, Begins, answer_of};
+ghost use Rattle.meaning_run.specs.Steps.{AnswersFrom, AnswersRun, Tells, MovesSomehow, Places, Acts, Counts, CountsRun, Holds};
 
 use crate::halt::Halt;
 use crate::machine::Machine;
@@ -102,7 +103,7 @@ fn act_alone(
     requires alone { IsAlone kind.now }
     requires numbers { HasNumbers kind.now }
     requires elements { All IsElement (element_layouts kind.now) }
-    ensures { (left : List ℕ) → AlonePlaced left (act core.now (fits_in held.old) line kind.now (with_input left machine.old)) machine.new held.old held.new result }
+    ensures { Acts core.now line kind.now machine.old machine.new held.old held.new result }
 {
     match group_of(kind) {
         Group::Values => machine.act_values(line, kind),
@@ -126,10 +127,10 @@ fn one_step<I: Source, O: Sink>(
     requires good { Good core.now machine.old }
     requires input { I.faults input.old + 1 < 2 ^ 64 }
     requires out { O.faults out.old + 1 < 2 ^ 64 }
-    ensures told { (left taken : List ℕ) → I.left input.old ≡ Some left → O.taken out.old ≡ Some taken → Seen (step_by core.now (fits_in held.old) (with_input left machine.old)) left taken result machine.new (I.left input.new) (O.taken out.new) }
-    ensures held { (left : List ℕ) → Placed (step_by core.now (fits_in held.old) (with_input left machine.old)) held.old held.new result }
-    ensures faults { Counted result (I.faults input.old) (I.faults input.new) (O.faults out.old) (O.faults out.new) }
-    ensures moves { (left : List ℕ) × Moves (step_by core.now (fits_in held.old) (with_input left machine.old)) machine.new result }
+    ensures told { Tells (step_by core.now (fits_in held.old)) machine.old machine.new I.left input.old input.new O.taken out.old out.new result }
+    ensures held { Holds (step_by core.now (fits_in held.old)) machine.old held.old held.new result }
+    ensures faults { Counts result I.faults input.old input.new O.faults out.old out.new }
+    ensures moves { MovesSomehow (λ _. step_by core.now (fits_in held.old)) machine.old machine.new result }
 {
     layouts_of_types();
     statement_is_made();
@@ -179,8 +180,8 @@ fn end_of_run<I: Source, O: Sink>(
     requires none { held.old.blocks ≡ [] }
     requires input { I.faults input.old + 1 < 2 ^ 64 }
     requires out { O.faults out.old + 1 < 2 ^ 64 }
-    ensures told { (left taken : List ℕ) (n : ℕ) → I.left input.old ≡ Some left → O.taken out.old ≡ Some taken → Begins core.now left n machine.old → MeanAnswers core.now left n held.old.heap taken result (I.left input.new) (O.taken out.new) }
-    ensures faults { MeanCounts result (I.faults input.old) (I.faults input.new) (O.faults out.old) (O.faults out.new) }
+    ensures told { AnswersFrom core.now machine.old held.old.heap I.left input.old input.new O.taken out.old out.new result }
+    ensures faults { CountsRun result I.faults input.old input.new O.faults out.old out.new }
     ensures limits { IfOk result HasNoLimit }
 {
     statement_stays_good();
@@ -212,8 +213,8 @@ pub fn mean<I: Source, O: Sink>(
     requires budget { budget ≤ 1000000000 }
     requires input { I.faults input.old + 1 < 2 ^ 64 }
     requires out { O.faults out.old + 1 < 2 ^ 64 }
-    ensures told { (left taken : List ℕ) → I.left input.old ≡ Some left → O.taken out.old ≡ Some taken → MeanAnswers core.now left budget heap taken result (I.left input.new) (O.taken out.new) }
-    ensures faults { MeanCounts result (I.faults input.old) (I.faults input.new) (O.faults out.old) (O.faults out.new) }
+    ensures told { AnswersRun core.now budget heap I.left input.old input.new O.taken out.old out.new result }
+    ensures faults { CountsRun result I.faults input.old input.new O.faults out.old out.new }
     ensures limits { IfOk result HasNoLimit }
 {
     if budget == 0 {

@@ -15,6 +15,7 @@ ghost use Rattle.object_meaning.specs.objects.Meaning.{act};
 ghost use Rattle.meaning_state.specs.Fitting.{Held, fits_in, held_after};
 ghost use Rattle.meaning_state.specs.Making.{IsElement};
 ghost use Rattle.meaning_run.specs.Leading.{AlonePlaced, IsHeap, with_input};
+ghost use Rattle.meaning_run.specs.Steps.{PlacesBorn, Places, Acts, Grows, Makes, size_of};
 
 use crate::halt::{Halt, halt_of};
 use crate::machine::Machine;
@@ -98,7 +99,7 @@ impl Machine {
     ) -> Result<(), Halt>
         requires point { self.old.running.point + 1 < 2 ^ 64 }
         requires element { IsElement element.now }
-        ensures { (left : List ℕ) → AlonePlaced left (make (fits_in held.old) line r size element.now (with_input left self.old)) self.new held.old held.new result }
+        ensures { Makes line r size element.now self.old self.new held.old held.new result }
     {
         let birth = self.objects.len() as u64;
         if !held.place(birth, size)? {
@@ -129,7 +130,7 @@ impl Machine {
         named: Result<u64, Reason>,
     ) -> Result<(), Halt>
         requires { self.old.running.point + 1 < 2 ^ 64 }
-        ensures { (left : List ℕ) → AlonePlaced left (free_named core.now line named (with_input left self.old)) self.new held.old held.new result }
+        ensures { Places (free_named core.now line named) self.old self.new held.old held.new result }
     {
         match named {
             Ok(birth) => {
@@ -150,7 +151,7 @@ impl Machine {
         p: Pointer,
     ) -> Result<(), Halt>
         requires { self.old.running.point + 1 < 2 ^ 64 }
-        ensures { (left : List ℕ) → AlonePlaced left (free core.now line p (with_input left self.old)) self.new held.old held.new result }
+        ensures { Places (free core.now line p) self.old self.new held.old held.new result }
     {
         match p {
             Pointer::Null => {
@@ -179,7 +180,7 @@ impl Machine {
     ) -> Result<(), Halt>
         requires point { self.old.running.point + 1 < 2 ^ 64 }
         requires element { IsElement element.now }
-        ensures { (left : List ℕ) (base : Held) → held.old ≡ held_after base (birth_of line size self.old) → AlonePlaced left (grow_old true core.now line r old size element.now (with_input left self.old)) self.new base held.new result }
+        ensures { PlacesBorn (birth_of line size self.old) (grow_old true core.now line r old size element.now) self.old self.new held.old held.new result }
     {
         let new = self.next_start();
         let from = Pointer::At {
@@ -211,7 +212,7 @@ impl Machine {
     ) -> Result<(), Halt>
         requires point { self.old.running.point + 1 < 2 ^ 64 }
         requires element { IsElement element.now }
-        ensures { (left : List ℕ) → AlonePlaced left (grow_old (fits_in held.old size) core.now line r old size element.now (with_input left self.old)) self.new held.old held.new result }
+        ensures { Places (grow_old (fits_in held.old size) core.now line r old size element.now) self.old self.new held.old held.new result }
     {
         let birth = self.objects.len() as u64;
         if !held.place(birth, u64::from(size))? {
@@ -235,7 +236,7 @@ impl Machine {
     ) -> Result<(), Halt>
         requires point { self.old.running.point + 1 < 2 ^ 64 }
         requires element { IsElement element.now }
-        ensures { (left : List ℕ) → AlonePlaced left (grow_named core.now (fits_in held.old) line r named size element.now (with_input left self.old)) self.new held.old held.new result }
+        ensures { Places (grow_named core.now (fits_in held.old) line r named size element.now) self.old self.new held.old held.new result }
     {
         match named {
             Ok(old) => self.grow_old(alloc, core, held, line, r, old, size, element),
@@ -257,7 +258,7 @@ impl Machine {
     ) -> Result<(), Halt>
         requires point { self.old.running.point + 1 < 2 ^ 64 }
         requires element { IsElement element.now }
-        ensures { (left : List ℕ) → AlonePlaced left (grow core.now (fits_in held.old) line r p size element.now (with_input left self.old)) self.new held.old held.new result }
+        ensures { Grows core.now line r p size element.now self.old self.new held.old held.new result }
     {
         match p {
             Pointer::Null => self.make(alloc, held, line, r, u64::from(size), element),
@@ -280,7 +281,7 @@ impl Machine {
     ) -> Result<(), Halt>
         requires point { self.old.running.point + 1 < 2 ^ 64 }
         requires element { IsElement element.now }
-        ensures { (left : List ℕ) → AlonePlaced left (make (fits_in held.old) line r (size_in (number_of self.old n)) element.now (with_input left self.old)) self.new held.old held.new result }
+        ensures { Makes line r (size_of self.old n) element.now self.old self.new held.old held.new result }
     {
         let size = self.size_of(n);
         self.make(alloc, held, line, r, u64::from(size), element)
@@ -299,7 +300,7 @@ impl Machine {
     ) -> Result<(), Halt>
         requires point { self.old.running.point + 1 < 2 ^ 64 }
         requires element { IsElement element.now }
-        ensures { (left : List ℕ) → AlonePlaced left (make (fits_in held.old) line r (size_in (number_of self.old m) * size_in (number_of self.old n)) element.now (with_input left self.old)) self.new held.old held.new result }
+        ensures { Makes line r (size_of self.old m * size_of self.old n) element.now self.old self.new held.old held.new result }
     {
         let count = self.size_of(m);
         let size = self.size_of(n);
@@ -327,7 +328,7 @@ impl Machine {
     ) -> Result<(), Halt>
         requires point { self.old.running.point + 1 < 2 ^ 64 }
         requires element { IsElement element.now }
-        ensures { (left : List ℕ) → AlonePlaced left (grow core.now (fits_in held.old) line r (pointer_of self.old p) (size_in (number_of self.old n)) element.now (with_input left self.old)) self.new held.old held.new result }
+        ensures { Grows core.now line r (pointer_of self.old p) (size_of self.old n) element.now self.old self.new held.old held.new result }
     {
         let p = self.pointer(p);
         let size = self.size_of(n);
@@ -344,7 +345,7 @@ impl Machine {
         p: Atom,
     ) -> Result<(), Halt>
         requires { self.old.running.point + 1 < 2 ^ 64 }
-        ensures { (left : List ℕ) → AlonePlaced left (free core.now line (pointer_of self.old p) (with_input left self.old)) self.new held.old held.new result }
+        ensures { Places (free core.now line (pointer_of self.old p)) self.old self.new held.old held.new result }
     {
         let p = self.pointer(p);
         self.free(alloc, core, held, line, p)
@@ -362,7 +363,7 @@ impl Machine {
         requires point { self.old.running.point + 1 < 2 ^ 64 }
         requires heap { IsHeap kind.now }
         requires elements { All IsElement (element_layouts kind.now) }
-        ensures { (left : List ℕ) → AlonePlaced left (act core.now (fits_in held.old) line kind.now (with_input left self.old)) self.new held.old held.new result }
+        ensures { Acts core.now line kind.now self.old self.new held.old held.new result }
     {
         match kind {
             StmKind::Malloc(r, n, element) => self.malloc(alloc, held, line, *r, *n, element),

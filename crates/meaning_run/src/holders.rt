@@ -5,6 +5,7 @@ ghost use Rattle.hs_base.specs.Freeing.{is_pointer_to};
 ghost use Rattle.object_meaning.specs.objects.Values.{pointer_in};
 ghost use Rattle.meaning_run.specs.Holding.{counted_registers};
 ghost use Rattle.object_meaning.specs.objects.Holding.{is_live_in, takes_answer, answer_register, statement_in, in_running, in_waiting, in_all_waiting, holders, first_of};
+ghost use Rattle.meaning_run.specs.Steps.{is_counted};
 
 use crate::machine::{Frame, Machine, statement_in};
 use core_tree::Core;
@@ -41,7 +42,7 @@ fn counts(
     answer: Option<u32>,
     r: u32,
 ) -> Result<bool, NoMemory>
-    ensures { IfOk result (λ counts. counts ≡ (is_live_in (slice_get core.now.funcs func) point r && not (takes_answer answer r))) }
+    ensures { IfOk result (λ counts. counts ≡ is_counted core.now func point answer r) }
 {
     Ok(is_live_in(alloc, core, func, point, r)? && answer != Some(r))
 }
@@ -58,7 +59,7 @@ fn holds(
     value: Value,
     birth: u64,
 ) -> Result<bool, NoMemory>
-    ensures { IfOk result (λ holds. holds ≡ ((is_live_in (slice_get core.now.funcs func) point r && not (takes_answer answer r)) && is_pointer_to birth (pointer_in value))) }
+    ensures { IfOk result (λ b. b ≡ (is_counted core.now func point answer r && is_pointer_to birth (pointer_in value))) }
 {
     if !is_pointer_to(birth, pointer(value)) {
         return Ok(false);
@@ -77,7 +78,7 @@ fn register_holder(
     birth: u64,
 ) -> Result<Option<Holder>, NoMemory>
     requires { length regs.now < 2 ^ 32 }
-    ensures { IfOk result (λ holder. holder ≡ first_of (counted_registers core.now func point answer birth regs.now)) }
+    ensures { IfOk result (λ h. h ≡ first_of (counted_registers core.now func point answer birth regs.now)) }
 {
     for r in 0..regs.len() {
         if holds(alloc, core, func, point, answer, r as u32, regs[r], birth)? {
@@ -93,7 +94,7 @@ fn register_holder(
 impl Frame {
     /// The first register of a waiting frame that counts and points to an object.
     fn holder(&self, alloc: Global, core: &Core, birth: u64) -> Result<Option<Holder>, NoMemory>
-        ensures { IfOk result (λ holder. holder ≡ first_of (in_waiting core.now birth self.now)) }
+        ensures { IfOk result (λ h. h ≡ first_of (in_waiting core.now birth self.now)) }
     {
         let answer = answer_register(core, self.func, self.point);
         register_holder(
@@ -110,7 +111,7 @@ impl Machine {
         core: &Core,
         birth: u64,
     ) -> Result<Option<Holder>, NoMemory>
-        ensures { IfOk result (λ holder. holder ≡ first_of (in_all_waiting core.now birth self.now.waiting)) }
+        ensures { IfOk result (λ h. h ≡ first_of (in_all_waiting core.now birth self.now.waiting)) }
     {
         for i in 0..self.waiting.len() {
             let frame = &self.waiting[i];
@@ -129,7 +130,7 @@ impl Machine {
         core: &Core,
         birth: u64,
     ) -> Result<Option<Holder>, NoMemory>
-        ensures { IfOk result (λ holder. holder ≡ first_of (in_running core.now birth self.now.running)) }
+        ensures { IfOk result (λ h. h ≡ first_of (in_running core.now birth self.now.running)) }
     {
         register_holder(alloc, core, self.func, self.point, &self.regs, None, birth)
     }
@@ -141,7 +142,7 @@ impl Machine {
         core: &Core,
         birth: u64,
     ) -> Result<Option<Holder>, NoMemory>
-        ensures { IfOk result (λ holder. holder ≡ first_of (holders core.now self.now birth self.now.queue)) }
+        ensures { IfOk result (λ h. h ≡ first_of (holders core.now self.now birth self.now.queue)) }
     {
         let inside = self.objects.holder(&self.queue, birth);
         if inside.is_some() {

@@ -13,6 +13,7 @@ ghost use Rattle.object_meaning.specs.objects.Meaning.{values_of};
 ghost use Rattle.meaning_state.specs.Printing.{IsRefused};
 ghost use Rattle.meaning_state.specs.Refusing.{Answers};
 ghost use Rattle.meaning_run.specs.Leading.{Alone, IsAloneLib, Moves, Seen, Counted, with_input};
+ghost use Rattle.meaning_run.specs.Steps.{CallsLib, MovesRefused, MovesSomehow, Reads, Tells, WritesRefused, puts_bytes, puts_string, Gives, Leads, MovesBy, Writes, Counts, MovesLib, WritesLib, length_at, order_at};
 
 use crate::calls::byte_in;
 use crate::halt::{Halt, halt_of};
@@ -59,7 +60,7 @@ impl Machine {
         n: u32,
     ) -> Result<(), Halt>
         requires { self.old.running.point + 1 < 2 ^ 64 }
-        ensures { (left : List ℕ) → Alone left (filled line r d (copied self.old.objects d s n) (with_input left self.old)) self.new result }
+        ensures { Leads (filled line r d (copied self.old.objects d s n)) self.old self.new result }
     {
         match self.objects.copy(alloc, d, s, u128::from(n)) {
             Ok(()) => {
@@ -80,7 +81,7 @@ impl Machine {
         n: u32,
     ) -> Result<(), Halt>
         requires { self.old.running.point + 1 < 2 ^ 64 }
-        ensures { (left : List ℕ) → Alone left (filled line r p (set_bytes self.old.objects p byte n) (with_input left self.old)) self.new result }
+        ensures { Leads (filled line r p (set_bytes self.old.objects p byte n)) self.old self.new result }
     {
         match self.objects.set(p, byte, u128::from(n)) {
             Ok(()) => {
@@ -96,7 +97,7 @@ impl Machine {
     /// A register takes the length of a string.
     fn measure(&mut self, alloc: Global, line: Line, r: Option<u32>, p: Pointer) -> Result<(), Halt>
         requires { self.old.running.point + 1 < 2 ^ 64 }
-        ensures { (left : List ℕ) → Alone left (answers line (with_input left self.old) r (and_then (string_at self.old.objects p) (λ text. Ok (number (pos (length text)))))) self.new result }
+        ensures { Gives line r (λ s. length_at s p) self.old self.new result }
     {
         match self.objects.string(alloc, p) {
             Ok(text) => {
@@ -116,7 +117,7 @@ impl Machine {
         q: Pointer,
     ) -> Result<(), Halt>
         requires { self.old.running.point + 1 < 2 ^ 64 }
-        ensures { (left : List ℕ) → Alone left (answers line (with_input left self.old) r (and_then (order_of self.old.objects p q) (λ order. Ok (number order)))) self.new result }
+        ensures { Gives line r (λ s. order_at s p q) self.old self.new result }
     {
         match self.objects.order(p, q) {
             Ok(order) => {
@@ -157,7 +158,7 @@ impl Machine {
         args: &[Atom],
     ) -> Result<(), Halt>
         requires { self.old.running.point + 1 < 2 ^ 64 }
-        ensures { (left : List ℕ) → Alone left (call_lib line LibName.Memcpy r (values_of self.old args.now) (with_input left self.old)) self.new result }
+        ensures { CallsLib line LibName.Memcpy r args.now self.old self.new result }
     {
         let d = self.pointer_at(args, 0);
         let s = self.pointer_at(args, 1);
@@ -168,7 +169,7 @@ impl Machine {
     /// `memset`.
     fn lib_set(&mut self, line: Line, r: Option<u32>, args: &[Atom]) -> Result<(), Halt>
         requires { self.old.running.point + 1 < 2 ^ 64 }
-        ensures { (left : List ℕ) → Alone left (call_lib line LibName.Memset r (values_of self.old args.now) (with_input left self.old)) self.new result }
+        ensures { CallsLib line LibName.Memset r args.now self.old self.new result }
     {
         let p = self.pointer_at(args, 0);
         let byte = self.byte_at(args, 1);
@@ -185,7 +186,7 @@ impl Machine {
         args: &[Atom],
     ) -> Result<(), Halt>
         requires { self.old.running.point + 1 < 2 ^ 64 }
-        ensures { (left : List ℕ) → Alone left (call_lib line LibName.Strlen r (values_of self.old args.now) (with_input left self.old)) self.new result }
+        ensures { CallsLib line LibName.Strlen r args.now self.old self.new result }
     {
         let p = self.pointer_at(args, 0);
         self.measure(alloc, line, r, p)
@@ -194,7 +195,7 @@ impl Machine {
     /// `strcmp`.
     fn lib_order(&mut self, line: Line, r: Option<u32>, args: &[Atom]) -> Result<(), Halt>
         requires { self.old.running.point + 1 < 2 ^ 64 }
-        ensures { (left : List ℕ) → Alone left (call_lib line LibName.Strcmp r (values_of self.old args.now) (with_input left self.old)) self.new result }
+        ensures { CallsLib line LibName.Strcmp r args.now self.old self.new result }
     {
         let p = self.pointer_at(args, 0);
         let q = self.pointer_at(args, 1);
@@ -212,7 +213,7 @@ impl Machine {
     ) -> Result<(), Halt>
         requires point { self.old.running.point + 1 < 2 ^ 64 }
         requires alone { IsAloneLib name }
-        ensures { (left : List ℕ) → Alone left (call_lib line name r (values_of self.old args.now) (with_input left self.old)) self.new result }
+        ensures { CallsLib line name r args.now self.old self.new result }
     {
         match name {
             LibName::Exit => Err(Halt::Exit(byte_in(self.number_at(args, 0)))),
@@ -237,9 +238,9 @@ impl Machine {
     ) -> Result<(), Halt>
         requires point { self.old.running.point + 1 < 2 ^ 64 }
         requires count { O.faults out.old + 1 < 2 ^ 64 }
-        ensures told { (left taken : List ℕ) → O.taken out.old ≡ Some taken → Seen (goes (with_input left self.old) (map Out bytes.now) (write (with_input left self.old) r value)) left taken result self.new (Some left) (O.taken out.new) }
+        ensures told { Writes (puts_bytes bytes.now r value) self.old self.new O.taken out.old out.new result }
         ensures faults { (i : ℕ) → Counted result i i (O.faults out.old) (O.faults out.new) }
-        ensures moves { (left : List ℕ) → Moves (goes (with_input left self.old) (map Out bytes.now) (write (with_input left self.old) r value)) self.new result }
+        ensures moves { MovesBy (puts_bytes bytes.now r value) self.old self.new result }
     {
         match put_all(out, bytes) {
             Ok(()) => {
@@ -259,9 +260,9 @@ impl Machine {
         refusal: Refusal,
     ) -> Result<(), Halt>
         requires { O.faults out.old + 1 < 2 ^ 64 }
-        ensures told { (left taken : List ℕ) (e : access.Refusal) → IsRefused (Some refusal) (Some e) → O.taken out.old ≡ Some taken → Seen (stops_after (with_input left self.now) (map Out bytes.now) (with_input left self.now) (ended_by line e)) left taken result self.now (Some left) (O.taken out.new) }
+        ensures told { WritesRefused bytes.now line refusal self.now O.taken out.old out.new result }
         ensures faults { (i : ℕ) → Counted result i i (O.faults out.old) (O.faults out.new) }
-        ensures moves { (left : List ℕ) (e : access.Refusal) → IsRefused (Some refusal) (Some e) → Moves (stops_after (with_input left self.now) (map Out bytes.now) (with_input left self.now) (ended_by line e)) self.now result }
+        ensures moves { MovesRefused bytes.now line refusal self.now result }
     {
         match put_all(out, bytes) {
             Ok(()) => Err(halt_of(line, refusal)),
@@ -278,9 +279,9 @@ impl Machine {
     ) -> Result<(), Halt>
         requires point { self.old.running.point + 1 < 2 ^ 64 }
         requires count { O.faults out.old + 1 < 2 ^ 64 }
-        ensures told { (left taken : List ℕ) → O.taken out.old ≡ Some taken → Seen (put_line r text (with_input left self.old)) left taken result self.new (Some left) (O.taken out.new) }
+        ensures told { Writes (put_line r text) self.old self.new O.taken out.old out.new result }
         ensures faults { (i : ℕ) → Counted result i i (O.faults out.old) (O.faults out.new) }
-        ensures moves { (left : List ℕ) → Moves (put_line r text (with_input left self.old)) self.new result }
+        ensures moves { MovesBy (put_line r text) self.old self.new result }
     {
         text.push(b'\n')?;
         self.put_bytes(out, text.as_slice(), r, Value::Number(0))
@@ -297,9 +298,9 @@ impl Machine {
     ) -> Result<(), Halt>
         requires point { self.old.running.point + 1 < 2 ^ 64 }
         requires count { O.faults out.old + 1 < 2 ^ 64 }
-        ensures told { (left taken : List ℕ) → O.taken out.old ≡ Some taken → Seen (if_done line (with_input left self.old) (string_at self.old.objects p) (λ text. put_line r text (with_input left self.old))) left taken result self.new (Some left) (O.taken out.new) }
+        ensures told { Writes (puts_string line r p self.old.objects) self.old self.new O.taken out.old out.new result }
         ensures faults { (i : ℕ) → Counted result i i (O.faults out.old) (O.faults out.new) }
-        ensures moves { (left : List ℕ) → Moves (if_done line (with_input left self.old) (string_at self.old.objects p) (λ text. put_line r text (with_input left self.old))) self.new result }
+        ensures moves { MovesBy (puts_string line r p self.old.objects) self.old self.new result }
     {
         match self.string_at(alloc, p) {
             Ok(text) => self.put_text(r, text, out),
@@ -318,9 +319,9 @@ impl Machine {
     ) -> Result<(), Halt>
         requires point { self.old.running.point + 1 < 2 ^ 64 }
         requires count { O.faults out.old + 1 < 2 ^ 64 }
-        ensures told { (left taken : List ℕ) → O.taken out.old ≡ Some taken → Seen (call_lib line LibName.Puts r (values_of self.old args.now) (with_input left self.old)) left taken result self.new (Some left) (O.taken out.new) }
+        ensures told { WritesLib line LibName.Puts r args.now self.old self.new O.taken out.old out.new result }
         ensures faults { (i : ℕ) → Counted result i i (O.faults out.old) (O.faults out.new) }
-        ensures moves { (left : List ℕ) → Moves (call_lib line LibName.Puts r (values_of self.old args.now) (with_input left self.old)) self.new result }
+        ensures moves { MovesLib line LibName.Puts r args.now self.old self.new result }
     {
         let p = self.pointer_at(args, 0);
         self.puts(alloc, line, r, p, out)
@@ -335,9 +336,9 @@ impl Machine {
     ) -> Result<(), Halt>
         requires point { self.old.running.point + 1 < 2 ^ 64 }
         requires count { O.faults out.old + 1 < 2 ^ 64 }
-        ensures told { (left taken : List ℕ) → O.taken out.old ≡ Some taken → Seen (call_lib 0 LibName.Putchar r (values_of self.old args.now) (with_input left self.old)) left taken result self.new (Some left) (O.taken out.new) }
+        ensures told { WritesLib 0 LibName.Putchar r args.now self.old self.new O.taken out.old out.new result }
         ensures faults { (i : ℕ) → Counted result i i (O.faults out.old) (O.faults out.new) }
-        ensures moves { (left : List ℕ) → Moves (call_lib 0 LibName.Putchar r (values_of self.old args.now) (with_input left self.old)) self.new result }
+        ensures moves { MovesLib 0 LibName.Putchar r args.now self.old self.new result }
     {
         let byte = self.byte_at(args, 0);
         self.put_bytes(out, &[byte], r, Value::Number(i128::from(byte)))
@@ -348,9 +349,9 @@ impl Machine {
     fn get<I: Source>(&mut self, r: Option<u32>, input: &mut I) -> Result<(), Halt>
         requires point { self.old.running.point + 1 < 2 ^ 64 }
         requires count { I.faults input.old + 1 < 2 ^ 64 }
-        ensures told { (left taken : List ℕ) → I.left input.old ≡ Some left → Seen (get_byte r left (with_input left self.old)) left taken result self.new (I.left input.new) (Some taken) }
+        ensures told { Reads (get_byte r) self.old self.new I.left input.old input.new result }
         ensures faults { (o : ℕ) → Counted result (I.faults input.old) (I.faults input.new) o o }
-        ensures moves { (left : List ℕ) × Moves (get_byte r left (with_input left self.old)) self.new result }
+        ensures moves { MovesSomehow (get_byte r) self.old self.new result }
     {
         match input.next() {
             Ok(Some(byte)) => {
@@ -379,9 +380,9 @@ impl Machine {
         requires point { self.old.running.point + 1 < 2 ^ 64 }
         requires input { I.faults input.old + 1 < 2 ^ 64 }
         requires out { O.faults out.old + 1 < 2 ^ 64 }
-        ensures told { (left taken : List ℕ) → I.left input.old ≡ Some left → O.taken out.old ≡ Some taken → Seen (call_lib line name r (values_of self.old args.now) (with_input left self.old)) left taken result self.new (I.left input.new) (O.taken out.new) }
-        ensures faults { Counted result (I.faults input.old) (I.faults input.new) (O.faults out.old) (O.faults out.new) }
-        ensures moves { (left : List ℕ) × Moves (call_lib line name r (values_of self.old args.now) (with_input left self.old)) self.new result }
+        ensures told { Tells (call_lib line name r (values_of self.old args.now)) self.old self.new I.left input.old input.new O.taken out.old out.new result }
+        ensures faults { Counts result I.faults input.old input.new O.faults out.old out.new }
+        ensures moves { MovesSomehow (λ _. call_lib line name r (values_of self.old args.now)) self.old self.new result }
     {
         match name {
             LibName::Getchar => self.get(r, input),

@@ -5,6 +5,7 @@ ghost use Rattle.object_meaning.specs.objects.Values.{value_of, number_of, point
 ghost use Rattle.object_meaning.specs.objects.Going.{at_point, onward, put, write};
 ghost use Rattle.object_meaning.specs.objects.Holding.{statement_in, statement_at};
 ghost use Rattle.object_meaning.specs.objects.Meaning.{values_of};
+ghost use Rattle.meaning_run.specs.Steps.{TakesStep};
 
 use core_tree::{Atom, Core, Stm};
 use hs_base::{NoMemory, Pointer, Value};
@@ -166,7 +167,7 @@ impl Machine {
 
     /// Takes a step, if one is left.
     pub(crate) fn take_step(&mut self) -> bool
-        ensures yes { IsTrue result → (self.new.steps + 1 ≡ self.old.steps) × (self.new ≡ record self.old { steps = self.new.steps }) }
+        ensures yes { IsTrue result → TakesStep self.old self.new }
         ensures no { result ≡ false → (self.new ≡ self.old) × (self.old.steps ≡ 0) }
     {
         if self.steps == 0 {

@@ -8,6 +8,7 @@ ghost use Rattle.object_meaning.specs.objects.Going.{answers, changes};
 ghost use Rattle.object_meaning.specs.objects.Memory.{loaded, loaded_pointer, stored, stored_pointer, copied};
 ghost use Rattle.object_meaning.specs.objects.Meaning.{act};
 ghost use Rattle.meaning_run.specs.Leading.{Alone, IsMemory, with_input};
+ghost use Rattle.meaning_run.specs.Steps.{ActsAnywhere, Alters, Sets, cleared_in, copied_in, pointer_stored, stored_in};
 
 use crate::halt::{Halt, halt_of};
 use crate::machine::Machine;
@@ -20,7 +21,7 @@ impl Machine {
     /// A register takes the integer of a kind at a pointer.
     fn load(&mut self, line: Line, kind: IntKind, r: u32, p: Atom) -> Result<(), Halt>
         requires { self.old.running.point + 1 < 2 ^ 64 }
-        ensures { (left : List ℕ) → Alone left (answers line (with_input left self.old) (Some r) (loaded self.old.objects kind (pointer_of self.old p))) self.new result }
+        ensures { Sets line r (λ s. loaded s.objects kind (pointer_of s p)) self.old self.new result }
     {
         match self.objects.load(kind, self.pointer(p)) {
             Ok(value) => {
@@ -34,7 +35,7 @@ impl Machine {
     /// A register takes the pointer at a pointer.
     fn load_pointer(&mut self, line: Line, r: u32, p: Atom) -> Result<(), Halt>
         requires { self.old.running.point + 1 < 2 ^ 64 }
-        ensures { (left : List ℕ) → Alone left (answers line (with_input left self.old) (Some r) (loaded_pointer self.old.objects (pointer_of self.old p))) self.new result }
+        ensures { Sets line r (λ s. loaded_pointer s.objects (pointer_of s p)) self.old self.new result }
     {
         match self.objects.load_pointer(self.pointer(p)) {
             Ok(value) => {
@@ -48,7 +49,7 @@ impl Machine {
     /// Writes an integer, and goes on.
     fn store(&mut self, line: Line, kind: IntKind, p: Atom, a: Atom) -> Result<(), Halt>
         requires { self.old.running.point + 1 < 2 ^ 64 }
-        ensures { (left : List ℕ) → Alone left (changes line (with_input left self.old) (stored self.old.objects kind (pointer_of self.old p) (number_of self.old a))) self.new result }
+        ensures { Alters line (λ s. stored_in s kind p a) self.old self.new result }
     {
         let (p, n) = (self.pointer(p), self.number(a));
         let outcome = self.objects.store(kind, p, n);
@@ -64,7 +65,7 @@ impl Machine {
     /// Writes a pointer, and goes on.
     fn store_pointer(&mut self, line: Line, p: Atom, q: Atom) -> Result<(), Halt>
         requires { self.old.running.point + 1 < 2 ^ 64 }
-        ensures { (left : List ℕ) → Alone left (changes line (with_input left self.old) (stored_pointer self.old.objects (pointer_of self.old p) (pointer_of self.old q))) self.new result }
+        ensures { Alters line (λ s. pointer_stored s p q) self.old self.new result }
     {
         let (p, q) = (self.pointer(p), self.pointer(q));
         let outcome = self.objects.store_pointer(p, q);
@@ -80,7 +81,7 @@ impl Machine {
     /// Copies bytes, and goes on.
     fn copy(&mut self, alloc: Global, line: Line, p: Atom, q: Atom, n: i128) -> Result<(), Halt>
         requires { self.old.running.point + 1 < 2 ^ 64 }
-        ensures { (left : List ℕ) → Alone left (changes line (with_input left self.old) (copied self.old.objects (pointer_of self.old p) (pointer_of self.old q) (bytes_in n))) self.new result }
+        ensures { Alters line (λ s. copied_in s p q n) self.old self.new result }
     {
         let (p, q) = (self.pointer(p), self.pointer(q));
         let outcome = self.objects.copy(alloc, p, q, bytes_in(n));
@@ -96,7 +97,7 @@ impl Machine {
     /// Sets bytes to zero, and goes on.
     fn clear(&mut self, line: Line, p: Atom, n: i128) -> Result<(), Halt>
         requires { self.old.running.point + 1 < 2 ^ 64 }
-        ensures { (left : List ℕ) → Alone left (changes line (with_input left self.old) (set_bytes self.old.objects (pointer_of self.old p) 0 (bytes_in n))) self.new result }
+        ensures { Alters line (λ s. cleared_in s p n) self.old self.new result }
     {
         let p = self.pointer(p);
         let outcome = self.objects.set(p, 0, bytes_in(n));
@@ -118,7 +119,7 @@ impl Machine {
     ) -> Result<(), Halt>
         requires point { self.old.running.point + 1 < 2 ^ 64 }
         requires memory { IsMemory kind.now }
-        ensures { (core : Program) (fits : ℕ → Bool) (left : List ℕ) → Alone left (act core fits line kind.now (with_input left self.old)) self.new result }
+        ensures { ActsAnywhere line kind.now self.old self.new result }
     {
         match kind {
             StmKind::Load(kind, r, p) => self.load(line, *kind, *r, *p),

@@ -10,6 +10,7 @@ ghost use Rattle.object_meaning.specs.objects.Printing.{print, printed};
 ghost use Rattle.object_meaning.specs.objects.Meaning.{format_in, print_format, values_of};
 ghost use Rattle.meaning_state.specs.Printing.{Prints};
 ghost use Rattle.meaning_run.specs.Leading.{Moves, Seen, Counted, with_input};
+ghost use Rattle.meaning_run.specs.Steps.{HasFormat, MovesPrinted, WritesPrinted, format_of, MovesBy, Writes, prints};
 
 use crate::halt::Halt;
 use crate::machine::Machine;
@@ -91,9 +92,9 @@ impl Machine {
     ) -> Result<(), Halt>
         requires point { self.old.running.point + 1 < 2 ^ 64 }
         requires count { O.faults out.old + 1 < 2 ^ 64 }
-        ensures told { (left taken : List ℕ) (text : meant.Printed) → Prints printed.now text → O.taken out.old ≡ Some taken → Seen (print line r text.bytes text.refused (with_input left self.old)) left taken result self.new (Some left) (O.taken out.new) }
+        ensures told { WritesPrinted line r printed.now self.old self.new O.taken out.old out.new result }
         ensures faults { (i : ℕ) → Counted result i i (O.faults out.old) (O.faults out.new) }
-        ensures moves { (left : List ℕ) (text : meant.Printed) → Prints printed.now text → Moves (print line r text.bytes text.refused (with_input left self.old)) self.new result }
+        ensures moves { MovesPrinted line r printed.now self.old self.new result }
     {
         let bytes = printed.bytes.as_slice();
         match printed.refused {
@@ -115,10 +116,10 @@ impl Machine {
     ) -> Result<(), Halt>
         requires point { self.old.running.point + 1 < 2 ^ 64 }
         requires count { O.faults out.old + 1 < 2 ^ 64 }
-        requires format { let format = format_in (slice_get core.now.funcs self.old.running.func) k in IsFormat format (pieces_of format) }
-        ensures told { (left taken : List ℕ) → O.taken out.old ≡ Some taken → Seen (print_format line r (format_in (slice_get core.now.funcs self.old.running.func) k) (values_of self.old args.now) (with_input left self.old)) left taken result self.new (Some left) (O.taken out.new) }
+        requires format { HasFormat core.now self.old k }
+        ensures told { Writes (prints core.now self.old line r k args.now) self.old self.new O.taken out.old out.new result }
         ensures faults { (i : ℕ) → Counted result i i (O.faults out.old) (O.faults out.new) }
-        ensures moves { (left : List ℕ) → Moves (print_format line r (format_in (slice_get core.now.funcs self.old.running.func) k) (values_of self.old args.now) (with_input left self.old)) self.new result }
+        ensures moves { MovesBy (prints core.now self.old line r k args.now) self.old self.new result }
     {
         let values = self.values(alloc, args)?;
         let pieces = pieces_of(alloc, self.format(core, k))?;

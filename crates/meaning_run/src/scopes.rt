@@ -8,6 +8,7 @@ ghost use Rattle.meaning_state.specs.Fitting.{Held, held_after};
 ghost use Rattle.object_meaning.specs.objects.Holding.{holders, first_of};
 ghost use Rattle.object_meaning.specs.objects.Scoping.{is_held, bury, checked, in_scope, enter, leave};
 ghost use Rattle.meaning_run.specs.Leading.{Alone, AlonePlaced, IsSilent, with_input};
+ghost use Rattle.meaning_run.specs.Steps.{IsFirstHeld, PlacesBehind, Leads, Places};
 
 use crate::halt::Halt;
 use crate::machine::Machine;
@@ -19,7 +20,7 @@ use std::alloc::Global;
 impl Machine {
     /// The first queued object that is held, with its first holder.
     fn first_held(&self, alloc: Global, core: &Core) -> Result<Option<(u64, Holder)>, NoMemory>
-        ensures { IfOk result (λ held. MatchOption held (first_held (is_held core.now self.now) self.now.queue ≡ None) (λ h. (first_held (is_held core.now self.now) self.now.queue ≡ Some h.0) × (first_of (holders core.now self.now h.0 self.now.queue) ≡ Some h.1))) }
+        ensures { IfOk result (IsFirstHeld core.now self.now) }
     {
         for i in 0..self.queue.len() {
             let birth = self.queue[i];
@@ -43,7 +44,7 @@ impl Machine {
     #[tactic(auto, using(crate::proofs::Silent::out_gone, crate::proofs::Silent::in_gone))]
     fn check(&mut self, alloc: Global, core: &Core, held: &mut HeldBlocks) -> Result<(), Halt>
         requires { self.old.running.point + 1 < 2 ^ 64 }
-        ensures { (left : List ℕ) (before : state.State) (events : List Event) (base : Held) → IsSilent events → held.old ≡ held_after base events → AlonePlaced left (checked core.now before events (with_input left self.old)) self.new base held.new result }
+        ensures { PlacesBehind (checked core.now) self.old self.new held.old held.new result }
     {
         match self.first_held(alloc, core)? {
             None => {
@@ -77,7 +78,7 @@ impl Machine {
         held: &mut HeldBlocks,
     ) -> Result<(), Halt>
         requires { self.old.running.point + 1 < 2 ^ 64 }
-        ensures { (left : List ℕ) (before : state.State) (events : List Event) (base : Held) → IsSilent events → held.old ≡ held_after base events → AlonePlaced left (in_scope core.now self.old.scopes before events (with_input left self.old)) self.new base held.new result }
+        ensures { PlacesBehind (in_scope core.now self.old.scopes) self.old self.new held.old held.new result }
     {
         if self.scopes == 0 {
             self.open();
@@ -90,7 +91,7 @@ impl Machine {
     /// A scope is opened.
     pub(crate) fn enter_scope(&mut self) -> Result<(), Halt>
         requires { self.old.running.point + 1 < 2 ^ 64 }
-        ensures { (left : List ℕ) → Alone left (enter (with_input left self.old)) self.new result }
+        ensures { Leads enter self.old self.new result }
     {
         if self.scopes == u64::MAX {
             return Err(Halt::NoMemory);
@@ -108,7 +109,7 @@ impl Machine {
         held: &mut HeldBlocks,
     ) -> Result<(), Halt>
         requires { self.old.running.point + 1 < 2 ^ 64 }
-        ensures { (left : List ℕ) → AlonePlaced left (leave core.now self.old.scopes (with_input left self.old)) self.new held.old held.new result }
+        ensures { Places (leave core.now self.old.scopes) self.old self.new held.old held.new result }
     {
         match self.scopes {
             0 => Err(Halt::Dangling),

@@ -8,6 +8,7 @@ ghost use Rattle.object_meaning.specs.objects.Going.{answers};
 ghost use Rattle.object_meaning.specs.objects.Arithmetic.{on_two, moved_by, difference, pointers_compared};
 ghost use Rattle.object_meaning.specs.objects.Meaning.{act, is_null};
 ghost use Rattle.meaning_run.specs.Leading.{Alone, IsValues, with_input};
+ghost use Rattle.meaning_run.specs.Steps.{ActsAnywhere, Sets, compared_in, difference_in, moved, worked_in};
 
 use crate::halt::{Halt, halt_of};
 use crate::machine::Machine;
@@ -34,7 +35,7 @@ impl Machine {
         b: Atom,
     ) -> Result<(), Halt>
         requires point { self.old.running.point + 1 < 2 ^ 64 }
-        ensures { (left : List ℕ) → Alone left (answers line (with_input left self.old) (Some r) (on_two op kind (number_of self.old a) (number_of self.old b))) self.new result }
+        ensures { Sets line r (λ s. worked_in s op kind a b) self.old self.new result }
     {
         match on_two(op, kind, self.number(a), self.number(b)) {
             Ok(value) => {
@@ -48,7 +49,7 @@ impl Machine {
     /// A register takes a pointer moved up by elements of a size.
     fn move_up(&mut self, line: Line, r: u32, p: Atom, a: Atom, size: i128) -> Result<(), Halt>
         requires point { self.old.running.point + 1 < 2 ^ 64 }
-        ensures { (left : List ℕ) → Alone left (answers line (with_input left self.old) (Some r) (moved_by self.old.objects (pointer_of self.old p) (number_of self.old a *ℤ size))) self.new result }
+        ensures { Sets line r (λ s. moved s p (number_of s a *ℤ size)) self.old self.new result }
     {
         match self.objects.moved_up(self.pointer(p), self.number(a), size) {
             Ok(value) => {
@@ -62,7 +63,7 @@ impl Machine {
     /// A register takes a pointer moved down by elements of a size.
     fn move_down(&mut self, line: Line, r: u32, p: Atom, a: Atom, size: i128) -> Result<(), Halt>
         requires point { self.old.running.point + 1 < 2 ^ 64 }
-        ensures { (left : List ℕ) → Alone left (answers line (with_input left self.old) (Some r) (moved_by self.old.objects (pointer_of self.old p) (neg_ℤ (number_of self.old a *ℤ size)))) self.new result }
+        ensures { Sets line r (λ s. moved s p (neg_ℤ (number_of s a *ℤ size))) self.old self.new result }
     {
         match self
             .objects
@@ -79,7 +80,7 @@ impl Machine {
     /// A register takes a pointer moved by a number of bytes.
     fn move_by(&mut self, line: Line, r: u32, p: Atom, distance: i128) -> Result<(), Halt>
         requires point { self.old.running.point + 1 < 2 ^ 64 }
-        ensures { (left : List ℕ) → Alone left (answers line (with_input left self.old) (Some r) (moved_by self.old.objects (pointer_of self.old p) distance)) self.new result }
+        ensures { Sets line r (λ s. moved s p distance) self.old self.new result }
     {
         match self.objects.moved(self.pointer(p), distance) {
             Ok(value) => {
@@ -94,7 +95,7 @@ impl Machine {
     fn subtract(&mut self, line: Line, r: u32, p: Atom, q: Atom, size: i128) -> Result<(), Halt>
         requires point { self.old.running.point + 1 < 2 ^ 64 }
         requires size { pos 0 <ℤ size }
-        ensures { (left : List ℕ) → Alone left (answers line (with_input left self.old) (Some r) (difference (pointer_of self.old p) (pointer_of self.old q) size)) self.new result }
+        ensures { Sets line r (λ s. difference_in s p q size) self.old self.new result }
     {
         match difference(self.pointer(p), self.pointer(q), size) {
             Ok(value) => {
@@ -108,7 +109,7 @@ impl Machine {
     /// A register takes the comparison of two pointers.
     fn compare(&mut self, line: Line, op: CmpOp, r: u32, p: Atom, q: Atom) -> Result<(), Halt>
         requires point { self.old.running.point + 1 < 2 ^ 64 }
-        ensures { (left : List ℕ) → Alone left (answers line (with_input left self.old) (Some r) (pointers_compared op (pointer_of self.old p) (pointer_of self.old q))) self.new result }
+        ensures { Sets line r (λ s. compared_in s op p q) self.old self.new result }
     {
         match pointers_compared(op, self.pointer(p), self.pointer(q)) {
             Ok(value) => {
@@ -124,7 +125,7 @@ impl Machine {
         requires point { self.old.running.point + 1 < 2 ^ 64 }
         requires values { IsValues kind.now }
         requires numbers { HasNumbers kind.now }
-        ensures { (core : Program) (fits : ℕ → Bool) (left : List ℕ) → Alone left (act core fits line kind.now (with_input left self.old)) self.new result }
+        ensures { ActsAnywhere line kind.now self.old self.new result }
     {
         match kind {
             StmKind::Set(r, a) => {
