@@ -6,11 +6,12 @@ use Rattle.hs_base.specs.declared.values.Pointer.TheVariants as pointer
 use Rattle.hs_base.specs.Access.{Refusal}
 use Rattle.hs_base.specs.Freeing.{is_heap}
 use Rattle.hs_base.specs.Object.{Object, is_dead, is_queued, object_at}
+use Rattle.byte_memory.specs.Bytes.{put_word, word}
 use Rattle.count_table.specs.Table.{Table, with_count}
 use Rattle.delay_scopes.specs.Queue.{HasQueue}
 use Rattle.flat_objects.specs.Memory.{Memory, Heap, pin_room}
 use Rattle.flat_objects.specs.Standing.{IsThere, IsAddressOf}
-use Rattle.flat_objects.specs.Keeping.{KeepsAt, blocks_of}
+use Rattle.flat_objects.specs.Keeping.{ForPointer, ForPointers, KeepsAt, blocks_of}
 
 -- Pointers
 
@@ -56,6 +57,10 @@ pub record Frees : Type 0 where
   pub queue : List ℕ
   -- how many scopes are open
   pub scopes : ℕ
+
+-- a new memory: none count, none is queued, and no scope is open
+abbrev pub no_frees : Frees
+no_frees = record { pins = []; queue = []; scopes = 0 }
 
 -- a queue has each object that is queued once, and no other; all are objects of the heap
 pub record AreQueued (objects : List Object) (queue : List ℕ) : Type 0 where
@@ -115,3 +120,41 @@ pub record MayUnpin (memory : Memory) (places : ℕ → ℕ) (objects : List Obj
 abbrev pub IsUnpinnable : Memory → ℕ → Type 0
 IsUnpinnable memory addr =
     (places : ℕ → ℕ) × (objects : List Object) × (frees : Frees) × (before : List Pointer) × (behind : List Pointer) × (p : Pointer) × MayUnpin memory places objects frees before behind p addr
+
+-- whatever pointer an address stands for, the memory tracks the same frees behind what a definition does with it
+abbrev pub TracksAt : Memory → Memory → ℕ → (List Object → Pointer → Result (List Object) Refusal) → Type 0
+TracksAt old new addr meant = ForPointer old addr (λ places objects p. StaysTracked old new places objects (meant objects p))
+
+-- the same with a pointer that another address stands for
+abbrev pub TracksWith : Memory → Memory → ℕ → ℕ → (List Object → Pointer → Pointer → Result (List Object) Refusal) → Type 0
+TracksWith old new addr other meant =
+    ForPointers old addr other (λ places objects p q. StaysTracked old new places objects (meant objects p q))
+
+-- the pointer at an address is pinned, and stands anywhere among those that were
+abbrev pub Pins : Memory → Memory → ℕ → Type 0
+Pins old new addr =
+    (places : ℕ → ℕ) (objects : List Object) (frees : Frees) (before behind : List Pointer) (p : Pointer) → MayPin old places objects frees p addr → frees.pins ≡ before ++ behind → Tracks new places objects (record frees { pins = before ++ p ∷ behind })
+
+-- the pointer at an address is pinned no longer, wherever it stood among the others
+abbrev pub Unpins : Memory → Memory → ℕ → Type 0
+Unpins old new addr =
+    (places : ℕ → ℕ) (objects : List Object) (frees : Frees) (before behind : List Pointer) (p : Pointer) → MayUnpin old places objects frees before behind p addr → Tracks new places objects (record frees { pins = before ++ behind })
+
+-- Slots
+
+-- the address in a slot
+abbrev pub target_in : Memory → ℕ → ℕ
+target_in memory slot = word memory.bytes slot 4
+
+-- the count of the granule of an address
+abbrev pub count_at : Memory → ℕ → ℕ
+count_at memory addr = slice_index memory.counts.counts (addr / 16)
+
+-- the counts without the pointer in a slot
+abbrev pub counts_without : Memory → ℕ → Table
+counts_without memory slot = one_less memory.counts (target_in memory slot)
+
+-- the memory with an address in a slot, in place of the one that stood there, and with its counts
+abbrev pub with_target : Memory → ℕ → ℕ → Memory
+with_target memory slot target =
+    record memory { bytes = put_word memory.bytes slot 4 target; counts = one_more (counts_without memory slot) target }

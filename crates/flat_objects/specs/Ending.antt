@@ -2,13 +2,14 @@
 use Rattle.std.specs.Prelude.{◌≡◌, ◌≢◌, ◌<◌, ℕ, not, nat_eq, IsTrue, List, length, filter, map, All, AllPairs, Option, Some, None, slice_get}
 use Rattle.std.specs.List.{list_any}
 use Rattle.hs_base.specs.declared.values.Pointer.{Pointer}
-use Rattle.hs_base.specs.Freeing.{ended}
+use Rattle.hs_base.specs.Freeing.{end_numbers, ended}
 use Rattle.hs_base.specs.Object.{Object, object_at}
 use Rattle.hs_base.specs.Place.{Block}
 use Rattle.flat_objects.specs.Memory.{Memory, Statics, Locals, Heap, is_of, pin_room}
 use Rattle.flat_objects.specs.Standing.{IsThere, IsAddressOf}
 use Rattle.flat_objects.specs.Keeping.{Keeps, KeepsAt, blocks_of}
 use Rattle.flat_objects.specs.Counting.{Frees, HasScopes, LeadsSomewhere, Tracks}
+use Rattle.flat_objects.specs.Freeing.{number_of}
 
 -- What is asked
 
@@ -56,3 +57,8 @@ abbrev pub AnswersEnd : Memory → Memory → (ℕ → ℕ) → List Object → 
 AnswersEnd old new places objects frees births None meant = (meant ≡ None) × AreEnded old new places objects frees births
 AnswersEnd old new places objects frees births (Some k) meant =
     (birth : ℕ) × (meant ≡ Some birth) × (slice_get births k ≡ Some birth) × Keeps new places objects × HasScopes new places objects frees.queue frees.scopes
+
+-- whatever may end at these addresses, the end of it answers what the definition's does
+abbrev pub EndsLocals : Memory → Memory → List ℕ → ℕ → Option ℕ → Type 0
+EndsLocals old new locals answer result =
+    (places : ℕ → ℕ) (objects : List Object) (frees : Frees) (births : List ℕ) (p : Pointer) → MayEnd old places objects frees births p locals answer → AnswersEnd old new places objects frees births result (end_numbers objects births (Some p) (number_of objects frees))

@@ -1,8 +1,9 @@
 -- The steps at the end of memory locals: the pointers inside them are taken off the counts, the first is sought to which one is
 -- left, and their blocks are given back one after another.
-use Rattle.std.specs.Prelude.{◌≡◌, ◌+◌, ◌<◌, ◌≤◌, ℕ, List, length, take, ◌++◌, All, Some, slice_get, slice_index}
+use Rattle.std.specs.Prelude.{◌≡◌, ◌+◌, ◌<◌, ◌≤◌, ℕ, Bool, not, nat_eq, List, length, take, ◌++◌, All, Option, Some, slice_get, slice_index}
+use Rattle.std.specs.List.{position}
 use Rattle.hs_base.specs.declared.values.Pointer.{Pointer}
-use Rattle.hs_base.specs.Freeing.{ended}
+use Rattle.hs_base.specs.Freeing.{ended, pointers_to}
 use Rattle.hs_base.specs.Object.{Object, object_at}
 use Rattle.adjusters.specs.ObjectSlots.{Element}
 use Rattle.count_table.specs.Table.{Table}
@@ -14,7 +15,7 @@ use Rattle.delay_scopes.specs.Walks.{IsInside}
 use Rattle.flat_objects.specs.Memory.{Memory, Range, Locals, heap_of}
 use Rattle.flat_objects.specs.Standing.{IsThere}
 use Rattle.flat_objects.specs.Keeping.{Keeps, StandsAt, blocks_of}
-use Rattle.flat_objects.specs.Counting.{Frees, LeadsSomewhere, Tracks, living_pointers}
+use Rattle.flat_objects.specs.Counting.{AreCounts, Frees, LeadsSomewhere, Tracks, living_pointers}
 use Rattle.flat_objects.specs.Ending.{AreLocalsAt}
 
 -- The counts
@@ -72,3 +73,34 @@ pub record ChangesLocals (before after : Memory) : Type 0 where
   pub others : after ≡ record before { locals = after.locals; bytes = after.bytes }
   pub bounds : HasBounds before.locals.base before.locals.len after.locals
   pub bytes : ChangesOnly before.bytes after.bytes before.locals.base before.locals.len
+
+-- Whatever ends
+
+-- does a pointer that counts beside those inside the ending locals lead to the local of a birth?
+abbrev pub is_held_beside : List Pointer → ℕ → Bool
+is_held_beside pointers birth = not (nat_eq (pointers_to birth pointers) 0)
+
+-- a fact of memory locals at these addresses that may be checked
+abbrev pub ForChecked : Memory → List ℕ → ((ℕ → ℕ) → List Object → Frees → List ℕ → Type 0) → Type 0
+ForChecked memory locals P =
+    (places : ℕ → ℕ) (objects : List Object) (frees : Frees) (births : List ℕ) → MayCheck memory places objects frees births locals → P places objects frees births
+
+-- the number of the first local that is held
+abbrev pub IsFirstHeld : Memory → List ℕ → Option ℕ → Type 0
+IsFirstHeld memory locals result =
+    ForChecked memory locals (λ places objects frees births. result ≡ position (is_held_beside (pointers_beside objects frees births)) births)
+
+-- the counts are those of the pointers beside
+abbrev pub CountsBeside : Memory → Memory → List ℕ → Type 0
+CountsBeside old new locals =
+    ForChecked old locals (λ places objects frees births. AreCounts places (pointers_beside objects frees births) new.counts.counts)
+
+-- the block of the next local was given back
+abbrev pub GivesNextBack : Memory → Memory → ℕ → Type 0
+GivesNextBack old new local =
+    (places : ℕ → ℕ) (objects : List Object) (births locals : List ℕ) (k : ℕ) → AreGivenBack old places objects births locals k → slice_get locals k ≡ Some local → AreGivenBack new places objects births locals (k + 1)
+
+-- all of them were, and the memory keeps the objects without them
+abbrev pub GivesAllBack : Memory → Memory → List ℕ → Type 0
+GivesAllBack old new locals =
+    (places : ℕ → ℕ) (objects : List Object) (births : List ℕ) → MayGiveBack old places objects births locals → Keeps new places (ended objects births)

@@ -1,12 +1,12 @@
 -- Frees, and the check at the end of the outermost scope.
-use Rattle.std.specs.Prelude.{◌≡◌, ◌<◌, ◌+◌, ◌*◌, ◌/◌, ℕ, List, [], ◌∷◌, ◌++◌, length, map, Option, Some, None, Result, Ok, Err}
+use Rattle.std.specs.Prelude.{◌≡◌, ◌<◌, ◌≤◌, ◌+◌, ◌-◌, ◌*◌, ◌/◌, ℕ, List, [], ◌∷◌, ◌++◌, length, map, Option, Some, None, Result, Ok, Err}
 use Rattle.std.specs.List.{sum_by}
 use Rattle.hs_base.specs.declared.ends.BadFree.{BadFree}
 use Rattle.hs_base.specs.declared.ends.Reason.{Reason}
 use Rattle.hs_base.specs.declared.ends.Reason.TheVariants.{Held}
 use Rattle.hs_base.specs.declared.values.Pointer.{Pointer}
 use Rattle.hs_base.specs.declared.values.Pointer.TheVariants as pointer
-use Rattle.hs_base.specs.Freeing.{buried, line_of_free, objects_of, pointers_to, queued}
+use Rattle.hs_base.specs.Freeing.{buried, check_numbers, freed_at, line_of_free, objects_of, pointers_to, queued}
 use Rattle.hs_base.specs.Object.{Object, object_at}
 use Rattle.hs_base.specs.Place.{block_size, blocks_after}
 use Rattle.hs_base.specs.Trace.{Gone}
@@ -83,3 +83,34 @@ abbrev pub AnswersCheck : Memory → Memory → (ℕ → ℕ) → List Object �
 AnswersCheck old new places objects frees (Ok u) meant = (meant ≡ None) × AreBuried old new places objects frees
 AnswersCheck old new places objects frees (Err bad) meant =
     (birth : ℕ) × (meant ≡ Some birth) × IsHeldBack new places objects frees birth bad
+
+-- Whatever may be freed
+
+-- a scope is opened
+abbrev pub OpensScope : Memory → Memory → Type 0
+OpensScope old new =
+    (places : ℕ → ℕ) (objects : List Object) (frees : Frees) → Tracks old places objects frees → Tracks new places objects (record frees { scopes = frees.scopes + 1 })
+
+-- the free of the object at an address, at a line, answers what the definition does
+abbrev pub FreesAt : Memory → Memory → ℕ → ℕ → Result Unit BadFree → Type 0
+FreesAt old new addr line result =
+    (places : ℕ → ℕ) (objects : List Object) (frees : Frees) (birth offset : ℕ) → MayFree old places objects frees birth offset addr → AnswersFree old new places objects frees line result (freed_at objects birth offset)
+
+-- a fact of whatever a memory keeps and tracks in which a scope is open
+abbrev pub ForScopes : Memory → ((ℕ → ℕ) → List Object → Frees → Type 0) → Type 0
+ForScopes memory P = (places : ℕ → ℕ) (objects : List Object) (frees : Frees) → MayLeave memory places objects frees → P places objects frees
+
+-- an inner scope is closed
+abbrev pub ClosesInner : Memory → Memory → Result Unit BadFree → Type 0
+ClosesInner old new result =
+    ForScopes old (λ places objects frees. 1 < frees.scopes → (result ≡ Ok tt) × Keeps new places objects × Tracks new places objects (record frees { scopes = frees.scopes - 1 }))
+
+-- the outermost scope is closed: the check answers what the definition's does
+abbrev pub ClosesOutermost : Memory → Memory → Result Unit BadFree → Type 0
+ClosesOutermost old new result =
+    ForScopes old (λ places objects frees. frees.scopes ≡ 1 → AnswersCheck old new places objects frees result (check_numbers objects frees.queue (number_of objects frees)))
+
+-- the check takes at most the work of its queue, where so many steps were taken before it and so many are behind it
+abbrev pub ChecksWithin : Memory → ℕ → ℕ → Type 0
+ChecksWithin memory before after =
+    ForScopes memory (λ places objects frees. frees.scopes ≡ 1 → after ≤ before + work_of objects frees.queue)

@@ -42,3 +42,8 @@ pub record IsKeptObject (memory : Memory) (places : ℕ → ℕ) (objects : List
 abbrev pub IsSomeObject : Memory → ℕ → Type 0
 IsSomeObject memory addr =
     (places : ℕ → ℕ) × (objects : List Object) × (birth : ℕ) × IsKeptObject memory places objects birth addr
+
+-- a fact of the object that is kept at an address
+abbrev pub ForObject : Memory → ℕ → ((ℕ → ℕ) → List Object → ℕ → Type 0) → Type 0
+ForObject memory addr P =
+    (places : ℕ → ℕ) (objects : List Object) (birth : ℕ) → IsKeptObject memory places objects birth addr → P places objects birth

@@ -2,6 +2,7 @@
 use Rattle.std.specs.Prelude.{◌≡◌, ◌+◌, ◌-◌, ◌<◌, ◌≤◌, ◌&&◌, ℕ, Bool, false, not, List, length, map, filter, Some, slice_get, slice_index, slice_index_or}
 use Rattle.std.specs.List.{enumerate_from}
 use Rattle.hs_base.specs.declared.values.Pointer.{Pointer}
+use Rattle.hs_base.specs.declared.values.Pointer.TheVariants as pointer
 use Rattle.hs_base.specs.declared.values.Pointer.TheVariants.{Null}
 use Rattle.hs_base.specs.Access.{touches_slot}
 use Rattle.byte_memory.specs.Bytes.{word}
@@ -89,3 +90,33 @@ pub record KeepsAt (memory : Memory) (places : ℕ → ℕ) (objects : List Obje
 abbrev pub IsKept : Memory → ℕ → Type 0
 IsKept memory addr =
     (places : ℕ → ℕ) × (objects : List Object) × (p : Pointer) × KeepsAt memory places objects p addr
+
+-- Whatever is kept
+
+-- a fact of all places and objects that a memory keeps
+abbrev pub ForKept : Memory → ((ℕ → ℕ) → List Object → Type 0) → Type 0
+ForKept memory P = (places : ℕ → ℕ) (objects : List Object) → Keeps memory places objects → P places objects
+
+-- whatever a memory keeps, another one keeps at the same places
+abbrev pub StillKeeps : Memory → Memory → Type 0
+StillKeeps old new = ForKept old (λ places objects. Keeps new places objects)
+
+-- a fact of each pointer that an address stands for
+abbrev pub ForPointer : Memory → ℕ → ((ℕ → ℕ) → List Object → Pointer → Type 0) → Type 0
+ForPointer memory addr P =
+    (places : ℕ → ℕ) (objects : List Object) (p : Pointer) → KeepsAt memory places objects p addr → P places objects p
+
+-- a fact of each two pointers that two addresses stand for
+abbrev pub ForPointers : Memory → ℕ → ℕ → ((ℕ → ℕ) → List Object → Pointer → Pointer → Type 0) → Type 0
+ForPointers memory one other P =
+    (places : ℕ → ℕ) (objects : List Object) (p q : Pointer) → KeepsAt memory places objects p one → IsAddressOf places objects q other → P places objects p q
+
+-- a fact of the object of a birth and of the offset in it to which an address leads
+abbrev pub ForTarget : Memory → ℕ → ((ℕ → ℕ) → List Object → ℕ → ℕ → Type 0) → Type 0
+ForTarget memory addr P =
+    (places : ℕ → ℕ) (objects : List Object) (birth offset : ℕ) → KeepsAt memory places objects (pointer.At birth offset) addr → P places objects birth offset
+
+-- a fact of two objects whose first bytes stand at two addresses
+abbrev pub ForStarts : Memory → ℕ → ℕ → ((ℕ → ℕ) → List Object → ℕ → ℕ → Type 0) → Type 0
+ForStarts memory one other P =
+    (places : ℕ → ℕ) (objects : List Object) (first second : ℕ) → KeepsAt memory places objects (pointer.At first 0) one → IsAddressOf places objects (pointer.At second 0) other → P places objects first second

@@ -1,13 +1,15 @@
 -- What a search for pointers to an object finds.
-use Rattle.std.specs.Prelude.{◌≡◌, ◌+◌, ◌<◌, ◌⊎◌, ℕ, true, false, List, length, Option, Some, None, slice_index, slice_index_or}
+use Rattle.std.specs.Prelude.{◌≡◌, ◌+◌, ◌<◌, ◌⊎◌, ℕ, true, false, List, length, Option, Some, None, option_map, slice_index, slice_index_or}
 use Rattle.hs_base.specs.declared.values.Pointer.TheVariants.{Null}
 use Rattle.hs_base.specs.Freeing.{is_pointer_to}
 use Rattle.hs_base.specs.Object.{Object, is_queued, object_at}
+use Rattle.object_meaning.specs.objects.Holding.{first_of, inside_objects}
 use Rattle.flat_objects.specs.declared.holders.Holding.{Holding}
 use Rattle.flat_objects.specs.Memory.{Memory}
 use Rattle.flat_objects.specs.Standing.{IsThere}
 use Rattle.flat_objects.specs.Keeping.{Keeps, HasSlots}
-use Rattle.flat_objects.specs.Holders.{IsIn}
+use Rattle.flat_objects.specs.Counting.{AreQueued}
+use Rattle.flat_objects.specs.Holders.{IsIn, IsKeptObject, holder_of}
 
 -- no pointer inside the object below a slot of a number leads to an object
 abbrev pub HasNoneBelow : ℕ → Object → ℕ → Type 0
@@ -58,3 +60,25 @@ IsHoldingAt places objects other block None =
     (birth : ℕ) → IsThere objects birth → places birth ≡ block + 32 → HoldsNone objects other birth
 IsHoldingAt places objects other block (Some found) =
     (places found.birth ≡ block + 32) × IsHolding objects other found
+
+-- Whatever a memory keeps
+
+-- the offset of the first slot of one object whose pointer leads to another, if there is one
+abbrev pub IsFirstSlotOf : Memory → ℕ → ℕ → ℕ → ℕ → ℕ → Option ℕ → Type 0
+IsFirstSlotOf memory start size layout target target_size result =
+    (places : ℕ → ℕ) (objects : List Object) (birth other : ℕ) → IsKeptSlots memory places objects birth other start size layout target target_size → IsFirstSlot other (object_at objects birth) result
+
+-- an object of a size is kept at an address
+abbrev pub IsSomeSized : Memory → ℕ → ℕ → Type 0
+IsSomeSized memory target size =
+    (places : ℕ → ℕ) × (objects : List Object) × (birth : ℕ) × IsKeptObject memory places objects birth target × (size ≡ (object_at objects birth).size)
+
+-- what is found to lead to it in the object whose block begins at an address
+abbrev pub IsHoldingIn : Memory → ℕ → ℕ → ℕ → Option Holding → Type 0
+IsHoldingIn memory target size block result =
+    (places : ℕ → ℕ) (objects : List Object) (birth : ℕ) → IsKeptObject memory places objects birth target → size ≡ (object_at objects birth).size → IsHoldingAt places objects birth block result
+
+-- what is found to lead to it is the first holder that the definition names inside objects
+abbrev pub IsFirstHolder : Memory → ℕ → Option Holding → Type 0
+IsFirstHolder memory target result =
+    (places : ℕ → ℕ) (objects : List Object) (birth : ℕ) (queue : List ℕ) → IsKeptObject memory places objects birth target → AreQueued objects queue → option_map (holder_of objects) result ≡ first_of (inside_objects queue birth objects)

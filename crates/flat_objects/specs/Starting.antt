@@ -1,13 +1,15 @@
 -- The first bytes and pointers of statics.
 use Rattle.std.specs.Prelude.{◌≡◌, ◌≢◌, ◌+◌, ◌<◌, ◌≤◌, ℕ, List, length, map, All, AllPairs, Contains, replicate, slice_get, slice_index, unwrap_or}
 use Rattle.hs_base.specs.declared.values.Pointer.TheVariants as pointer
-use Rattle.hs_base.specs.Access.{overlaid}
+use Rattle.hs_base.specs.Access.{overlaid, with_object, with_pointer}
 use Rattle.hs_base.specs.Object.{Object, object_at}
 use Rattle.heap_blocks.specs.Bytes.{ChangesOnly}
+use Rattle.heap_blocks.specs.Held.{HasBounds}
 use Rattle.object_meaning.specs.objects.Making.{first_pointer}
 use Rattle.flat_objects.specs.Memory.{Memory}
 use Rattle.flat_objects.specs.Standing.{IsThere}
 use Rattle.flat_objects.specs.Keeping.{Keeps}
+use Rattle.flat_objects.specs.Answering.{IsChanged}
 use Rattle.flat_objects.specs.Counting.{Frees, Tracks}
 
 -- bytes were written from an address on
@@ -79,3 +81,42 @@ pub record HasSlotFor (memory : Memory) (places : ℕ → ℕ) (objects : List O
 abbrev pub IsSlotFor : Memory → ℕ → ℕ → ℕ → ℕ → Type 0
 IsSlotFor memory start slot target_start offset =
     (places : ℕ → ℕ) × (objects : List Object) × (birth : ℕ) × (target : ℕ) × (frees : Frees) × HasSlotFor memory places objects birth start slot target target_start offset × Tracks memory places objects frees
+
+-- Whatever a memory keeps
+
+-- an object takes its first bytes
+abbrev pub StartsBytes : Memory → Memory → ℕ → List ℕ → Type 0
+StartsBytes old new addr bytes =
+    (places : ℕ → ℕ) (objects : List Object) (birth : ℕ) → TakesBytes old places objects birth addr bytes → IsChanged new places objects (with_object objects birth (with_first_bytes (object_at objects birth) bytes))
+
+-- and the memory tracks the same frees
+abbrev pub TracksBytes : Memory → Memory → ℕ → List ℕ → Type 0
+TracksBytes old new addr bytes =
+    (places : ℕ → ℕ) (objects : List Object) (birth : ℕ) (frees : Frees) → TakesBytes old places objects birth addr bytes → Tracks old places objects frees → Tracks new places (with_object objects birth (with_first_bytes (object_at objects birth) bytes)) frees
+
+-- an object takes its first pointers
+abbrev pub StartsPointers : Memory → Memory → ℕ → List (ℕ × ℕ × ℕ) → List ℕ → Type 0
+StartsPointers old new addr pointers starts =
+    (places : ℕ → ℕ) (objects : List Object) (birth : ℕ) → TakesPointers old places objects birth addr pointers starts → IsChanged new places objects (with_object objects birth (with_first_pointers (object_at objects birth) pointers))
+
+-- and the memory tracks the same frees
+abbrev pub TracksPointers : Memory → Memory → ℕ → List (ℕ × ℕ × ℕ) → List ℕ → Type 0
+TracksPointers old new addr pointers starts =
+    (places : ℕ → ℕ) (objects : List Object) (birth : ℕ) (frees : Frees) → TakesPointers old places objects birth addr pointers starts → Tracks old places objects frees → Tracks new places (with_object objects birth (with_first_pointers (object_at objects birth) pointers)) frees
+
+-- a slot takes a pointer
+abbrev pub SetsSlot : Memory → Memory → ℕ → ℕ → ℕ → ℕ → Type 0
+SetsSlot old new start slot target offset =
+    (places : ℕ → ℕ) (objects : List Object) (birth other : ℕ) → HasSlotFor old places objects birth start slot other target offset → IsChanged new places objects (with_object objects birth (with_pointer (object_at objects birth) slot (pointer.At other offset)))
+
+-- and the memory tracks the same frees
+abbrev pub TracksSlot : Memory → Memory → ℕ → ℕ → ℕ → ℕ → Type 0
+TracksSlot old new start slot target offset =
+    (places : ℕ → ℕ) (objects : List Object) (birth other : ℕ) (frees : Frees) → HasSlotFor old places objects birth start slot other target offset → Tracks old places objects frees → Tracks new places (with_object objects birth (with_pointer (object_at objects birth) slot (pointer.At other offset))) frees
+
+-- The ranges of a new memory
+
+-- they have these sizes and stand side by side
+abbrev pub HasRanges : Memory → ℕ → ℕ → ℕ → Type 0
+HasRanges memory statics locals heap =
+    HasBounds 0 statics memory.statics × HasBounds statics locals memory.locals × HasBounds (statics + locals) heap memory.heap

@@ -1,23 +1,21 @@
 //! Reading and writing objects (C99 6.5.3.2).
 
-ghost use Rattle.std.specs.Prelude.{◌≡◌, ◌+◌, ◌*◌, ◌%◌, ◌^◌, ◌<◌, ◌≤◌, ◌⊎◌, ℕ, List, IsTrue, OnOk, length};
-ghost use Rattle.hs_base.specs.Object.{Object};
+ghost use Rattle.std.specs.Prelude.{◌≡◌, ◌+◌, ◌*◌, ◌%◌, ◌^◌, ◌<◌, ◌≤◌, ◌⊎◌, IsTrue, OnOk, length};
 ghost use Rattle.hs_base.specs.Access.{access_integer, access_pointer};
 ghost use Rattle.hs_base.specs.Numbers.{low_bits, width};
 ghost use Rattle.byte_marks.specs.Marks.{AreBytes, IsSlotAt};
 ghost use Rattle.object_meaning.specs.objects.Memory.{loaded, loaded_pointer, stored, stored_pointer};
 ghost use Rattle.flat_objects.specs.Memory.{SameFrame};
-ghost use Rattle.flat_objects.specs.Standing.{IsAddressOf};
-ghost use Rattle.flat_objects.specs.Keeping.{KeepsAt, IsKept};
-ghost use Rattle.flat_objects.specs.Reaching.{Reaches};
-ghost use Rattle.flat_objects.specs.Answering.{Allows, AnswersNumber, AnswersAddress, Changes};
-ghost use Rattle.flat_objects.specs.Counting.{IsStorable, StaysTracked};
+ghost use Rattle.flat_objects.specs.Keeping.{IsKept};
+ghost use Rattle.flat_objects.specs.Reaching.{ReachesAt};
+ghost use Rattle.flat_objects.specs.Answering.{AllowsAt, AnswersAddressAt, AnswersNumberAt, ChangesAt, ChangesWith};
+ghost use Rattle.flat_objects.specs.Counting.{IsStorable, TracksAt, TracksWith};
 
 use crate::finding::Found;
 use crate::forms::touches_slot;
 use crate::memory::FlatObjects;
 use byte_memory::Steps;
-use hs_base::{IntKind, Pointer, TrapKind};
+use hs_base::{IntKind, TrapKind};
 use std::sync::ledger::Ledger;
 
 /// The low bits of a number, as many as a kind has.
@@ -39,7 +37,7 @@ impl FlatObjects {
     fn reach<L: Ledger>(&self, addr: u32, n: u32, steps: &mut Steps<L>) -> Result<Found, TrapKind>
         requires kept { IsKept self.now addr }
         requires some { 0 < n }
-        ensures reaches { (places : ℕ → ℕ) (objects : List Object) (p : Pointer) → KeepsAt self.now places objects p addr → Reaches self.now places objects p n result }
+        ensures reaches { ReachesAt self.now addr n result }
         ensures work { steps.new ≤ steps.old + 11 }
     {
         if addr == 0 {
@@ -83,7 +81,7 @@ impl FlatObjects {
     ) -> Result<(), TrapKind>
         requires kept { IsKept self.now addr }
         requires width { (n ≡ 1) ⊎ ((n ≡ 2) ⊎ ((n ≡ 4) ⊎ (n ≡ 8))) }
-        ensures allows { (places : ℕ → ℕ) (objects : List Object) (p : Pointer) → KeepsAt self.now places objects p addr → Allows result (access_integer objects p n) }
+        ensures allows { AllowsAt self.now addr result (λ all p. access_integer all p n) }
         ensures inside { OnOk result (addr + n ≤ length self.now.bytes) }
         ensures work { steps.new ≤ steps.old + 11 }
     {
@@ -105,7 +103,7 @@ impl FlatObjects {
     ) -> Result<(), TrapKind>
         requires kept { IsKept self.now addr }
         requires width { (n ≡ 1) ⊎ ((n ≡ 2) ⊎ ((n ≡ 4) ⊎ (n ≡ 8))) }
-        ensures allows { (places : ℕ → ℕ) (objects : List Object) (p : Pointer) → KeepsAt self.now places objects p addr → Allows result (access_integer objects p n) }
+        ensures allows { AllowsAt self.now addr result (λ all p. access_integer all p n) }
         ensures inside { OnOk result (addr + n ≤ length self.now.bytes) }
         ensures work { steps.new ≤ steps.old + 11 }
     {
@@ -120,7 +118,7 @@ impl FlatObjects {
     #[inline(never)]
     fn try_pointer<L: Ledger>(&self, addr: u32, steps: &mut Steps<L>) -> Result<(), TrapKind>
         requires { IsKept self.now addr }
-        ensures allows { (places : ℕ → ℕ) (objects : List Object) (p : Pointer) → KeepsAt self.now places objects p addr → Allows result (access_pointer objects p) }
+        ensures allows { AllowsAt self.now addr result access_pointer }
         ensures inside { OnOk result (addr + 4 ≤ length self.now.bytes) }
         ensures work { steps.new ≤ steps.old + 11 }
     {
@@ -136,7 +134,7 @@ impl FlatObjects {
     #[inline(always)]
     fn access_pointer<L: Ledger>(&self, addr: u32, steps: &mut Steps<L>) -> Result<(), TrapKind>
         requires { IsKept self.now addr }
-        ensures allows { (places : ℕ → ℕ) (objects : List Object) (p : Pointer) → KeepsAt self.now places objects p addr → Allows result (access_pointer objects p) }
+        ensures allows { AllowsAt self.now addr result access_pointer }
         ensures inside { OnOk result (addr + 4 ≤ length self.now.bytes) }
         ensures work { steps.new ≤ steps.old + 11 }
     {
@@ -156,7 +154,7 @@ impl FlatObjects {
         steps: &mut Steps<L>,
     ) -> Result<i128, TrapKind>
         requires { IsKept self.now addr }
-        ensures loads { (places : ℕ → ℕ) (objects : List Object) (p : Pointer) → KeepsAt self.now places objects p addr → AnswersNumber result (loaded objects kind p) }
+        ensures loads { AnswersNumberAt self.now addr result (λ all p. loaded all kind p) }
         ensures work { steps.new ≤ steps.old + 12 }
     {
         let width = kind.bytes();
@@ -168,7 +166,7 @@ impl FlatObjects {
     #[inline(always)]
     pub fn load_pointer<L: Ledger>(&self, addr: u32, steps: &mut Steps<L>) -> Result<u32, TrapKind>
         requires { IsKept self.now addr }
-        ensures loads { (places : ℕ → ℕ) (objects : List Object) (p : Pointer) → KeepsAt self.now places objects p addr → AnswersAddress places objects result (loaded_pointer objects p) }
+        ensures loads { AnswersAddressAt self.now addr result loaded_pointer }
         ensures work { steps.new ≤ steps.old + 12 }
     {
         self.access_pointer(addr, steps)?;
@@ -186,8 +184,8 @@ impl FlatObjects {
         steps: &mut Steps<L>,
     ) -> Result<(), TrapKind>
         requires { IsKept self.old addr }
-        ensures changes { (places : ℕ → ℕ) (objects : List Object) (p : Pointer) → KeepsAt self.old places objects p addr → Changes places objects result self.old self.new (stored objects kind p n) }
-        ensures tracks { (places : ℕ → ℕ) (objects : List Object) (p : Pointer) → KeepsAt self.old places objects p addr → StaysTracked self.old self.new places objects (stored objects kind p n) }
+        ensures changes { ChangesAt self.old self.new addr result (λ all p. stored all kind p n) }
+        ensures tracks { TracksAt self.old self.new addr (λ all p. stored all kind p n) }
         ensures frame { SameFrame self.old self.new }
         ensures work { steps.new ≤ steps.old + 12 }
     {
@@ -207,8 +205,8 @@ impl FlatObjects {
         steps: &mut Steps<L>,
     ) -> Result<(), TrapKind>
         requires { IsStorable self.old addr target }
-        ensures changes { (places : ℕ → ℕ) (objects : List Object) (p q : Pointer) → KeepsAt self.old places objects p addr → IsAddressOf places objects q target → Changes places objects result self.old self.new (stored_pointer objects p q) }
-        ensures tracks { (places : ℕ → ℕ) (objects : List Object) (p q : Pointer) → KeepsAt self.old places objects p addr → IsAddressOf places objects q target → StaysTracked self.old self.new places objects (stored_pointer objects p q) }
+        ensures changes { ChangesWith self.old self.new addr target result stored_pointer }
+        ensures tracks { TracksWith self.old self.new addr target stored_pointer }
         ensures frame { SameFrame self.old self.new }
         ensures work { steps.new ≤ steps.old + 15 }
     {

@@ -1,19 +1,17 @@
 //! Addresses as operands. One stays within its object, from its start to one past its end (C99 6.5.6, 6.5.8, 6.5.9).
 
-ghost use Rattle.std.specs.Prelude.{◌≡◌, ◌+◌, ◌^◌, ◌<◌, ◌≤◌, ◌<ℤ◌, ◌*ℤ◌, ◌-ℤ◌, ℕ, ℤ, List, pos, neg_ℤ, int_div, IfSome};
+ghost use Rattle.std.specs.Prelude.{◌≡◌, ◌+◌, ◌^◌, ◌<◌, ◌≤◌, ◌<ℤ◌, ◌*ℤ◌, ◌-ℤ◌, ℤ, pos, neg_ℤ, int_div, IfSome};
 ghost use Rattle.hs_base.specs.Numbers.{wrapped};
-ghost use Rattle.hs_base.specs.Object.{Object};
-ghost use Rattle.object_meaning.specs.objects.Arithmetic.{compared, difference, moved_by, offsets, ordered, pointers_compared, truth};
+ghost use Rattle.object_meaning.specs.objects.Arithmetic.{compared, difference, offsets, ordered, pointers_compared, truth};
 ghost use Rattle.object_meaning.specs.objects.Values.{number};
-ghost use Rattle.flat_objects.specs.Standing.{IsAddressOf};
-ghost use Rattle.flat_objects.specs.Keeping.{KeepsAt, IsKept};
-ghost use Rattle.flat_objects.specs.Answering.{Answers, AnswersAddress, AnswersNumber};
-ghost use Rattle.flat_objects.specs.Moving.{IsFar, MovesTo};
+ghost use Rattle.flat_objects.specs.Keeping.{IsKept};
+ghost use Rattle.flat_objects.specs.Answering.{AnswersNumberOfBoth, AnswersOfBoth};
+ghost use Rattle.flat_objects.specs.Moving.{IsFar, IsMovedBy, MovesTo};
 
 use crate::memory::FlatObjects;
 use byte_memory::Steps;
 use core_tree::CmpOp;
-use hs_base::{IntKind, Pointer, TrapKind};
+use hs_base::{IntKind, TrapKind};
 use std::sync::ledger::Ledger;
 
 /// A number from 0 on that is below 2^31, as most counts and sizes are.
@@ -127,7 +125,7 @@ impl FlatObjects {
         steps: &mut Steps<L>,
     ) -> Result<u32, TrapKind>
         requires { IsKept self.now addr }
-        ensures { (places : ℕ → ℕ) (objects : List Object) (p : Pointer) → KeepsAt self.now places objects p addr → AnswersAddress places objects result (moved_by objects p distance) }
+        ensures { IsMovedBy self.now addr distance result }
     {
         if addr == 0 {
             return if distance == 0 {
@@ -145,7 +143,7 @@ impl FlatObjects {
 
     /// What an address traps with that is moved by a distance that is far beyond any object.
     fn moved_far(&self, addr: u32) -> Result<u32, TrapKind>
-        ensures { (places : ℕ → ℕ) (objects : List Object) (p : Pointer) (distance : ℤ) → KeepsAt self.now places objects p addr → IsFar distance → AnswersAddress places objects result (moved_by objects p distance) }
+        ensures { (distance : ℤ) → IsFar distance → IsMovedBy self.now addr distance result }
     {
         let _ = &self.bytes;
         Err(if addr == 0 {
@@ -165,7 +163,7 @@ impl FlatObjects {
         steps: &mut Steps<L>,
     ) -> Result<u32, TrapKind>
         requires { IsKept self.now addr }
-        ensures { (places : ℕ → ℕ) (objects : List Object) (p : Pointer) → KeepsAt self.now places objects p addr → AnswersAddress places objects result (moved_by objects p (count *ℤ size)) }
+        ensures { IsMovedBy self.now addr (count *ℤ size) result }
     {
         match count.checked_mul(size) {
             Some(distance) => self.moved(addr, distance, steps),
@@ -183,7 +181,7 @@ impl FlatObjects {
     ) -> Result<u32, TrapKind>
         requires kept { IsKept self.now addr }
         requires small { bytes < 2 ^ 62 }
-        ensures { (places : ℕ → ℕ) (objects : List Object) (p : Pointer) → KeepsAt self.now places objects p addr → AnswersAddress places objects result (moved_by objects p (pos bytes)) }
+        ensures { IsMovedBy self.now addr (pos bytes) result }
     {
         if addr == 0 {
             return if bytes == 0 {
@@ -205,7 +203,7 @@ impl FlatObjects {
         steps: &mut Steps<L>,
     ) -> Result<u32, TrapKind>
         requires { IsKept self.now addr }
-        ensures { (places : ℕ → ℕ) (objects : List Object) (p : Pointer) → KeepsAt self.now places objects p addr → AnswersAddress places objects result (moved_by objects p (neg_ℤ (pos bytes))) }
+        ensures { IsMovedBy self.now addr (neg_ℤ (pos bytes)) result }
     {
         if addr == 0 {
             return if bytes == 0 {
@@ -228,7 +226,7 @@ impl FlatObjects {
         steps: &mut Steps<L>,
     ) -> Result<u32, TrapKind>
         requires { IsKept self.now addr }
-        ensures { (places : ℕ → ℕ) (objects : List Object) (p : Pointer) → KeepsAt self.now places objects p addr → AnswersAddress places objects result (moved_by objects p (count *ℤ size)) }
+        ensures { IsMovedBy self.now addr (count *ℤ size) result }
     {
         match short_product(count, size) {
             Some(bytes) => self.moved_on(addr, bytes, steps),
@@ -246,7 +244,7 @@ impl FlatObjects {
         steps: &mut Steps<L>,
     ) -> Result<u32, TrapKind>
         requires { IsKept self.now addr }
-        ensures { (places : ℕ → ℕ) (objects : List Object) (p : Pointer) → KeepsAt self.now places objects p addr → AnswersAddress places objects result (moved_by objects p (neg_ℤ (count *ℤ size))) }
+        ensures { IsMovedBy self.now addr (neg_ℤ (count *ℤ size)) result }
     {
         let Some(up) = count.checked_mul(size) else {
             return self.moved_far(addr);
@@ -267,7 +265,7 @@ impl FlatObjects {
         steps: &mut Steps<L>,
     ) -> Result<u32, TrapKind>
         requires { IsKept self.now addr }
-        ensures { (places : ℕ → ℕ) (objects : List Object) (p : Pointer) → KeepsAt self.now places objects p addr → AnswersAddress places objects result (moved_by objects p (neg_ℤ (count *ℤ size))) }
+        ensures { IsMovedBy self.now addr (neg_ℤ (count *ℤ size)) result }
     {
         match short_product(count, size) {
             Some(bytes) => self.moved_back(addr, bytes, steps),
@@ -285,7 +283,7 @@ impl FlatObjects {
     ) -> Result<(u32, u32), TrapKind>
         requires one { IsKept self.now p }
         requires other { IsKept self.now q }
-        ensures { (places : ℕ → ℕ) (objects : List Object) (a b : Pointer) → KeepsAt self.now places objects a p → IsAddressOf places objects b q → Answers result (offsets a b) }
+        ensures { AnswersOfBoth self.now p q result (λ _. offsets) }
     {
         let _ = &self.bytes;
         if p == 0 || q == 0 {
@@ -311,7 +309,7 @@ impl FlatObjects {
         requires one { IsKept self.now p }
         requires other { IsKept self.now q }
         requires element { pos 0 <ℤ element }
-        ensures { (places : ℕ → ℕ) (objects : List Object) (a b : Pointer) → KeepsAt self.now places objects a p → IsAddressOf places objects b q → AnswersNumber result (difference a b element) }
+        ensures { AnswersNumberOfBoth self.now p q result (λ a b. difference a b element) }
     {
         let (one, other) = self.offsets(p, q, steps)?;
         Ok(elements_between(one, other, element))
@@ -328,7 +326,7 @@ impl FlatObjects {
     ) -> Result<i128, TrapKind>
         requires one { IsKept self.now p }
         requires other { IsKept self.now q }
-        ensures { (places : ℕ → ℕ) (objects : List Object) (a b : Pointer) → KeepsAt self.now places objects a p → IsAddressOf places objects b q → AnswersNumber result (ordered op a b) }
+        ensures { AnswersNumberOfBoth self.now p q result (ordered op) }
     {
         let (one, other) = self.offsets(p, q, steps)?;
         Ok(truth(compared(op, one, other)))
@@ -345,7 +343,7 @@ impl FlatObjects {
     ) -> Result<i128, TrapKind>
         requires one { IsKept self.now p }
         requires other { IsKept self.now q }
-        ensures { (places : ℕ → ℕ) (objects : List Object) (a b : Pointer) → KeepsAt self.now places objects a p → IsAddressOf places objects b q → AnswersNumber result (pointers_compared op a b) }
+        ensures { AnswersNumberOfBoth self.now p q result (pointers_compared op) }
     {
         let _ = &self.bytes;
         match op {

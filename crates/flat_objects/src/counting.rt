@@ -1,16 +1,13 @@
 //! The pointers that count: those inside objects, and those that the caller pins.
 
-ghost use Rattle.std.specs.Prelude.{◌≡◌, ◌+◌, ◌/◌, ◌<◌, ◌≤◌, ◌∷◌, ◌++◌, ℕ, List, length, slice_index, sum};
-ghost use Rattle.byte_memory.specs.Bytes.{put_word, word};
-ghost use Rattle.hs_base.specs.Object.{Object};
+ghost use Rattle.std.specs.Prelude.{◌≡◌, ◌+◌, ◌/◌, ◌<◌, ◌≤◌, length, slice_index, sum};
 ghost use Rattle.flat_objects.specs.Memory.{SameFrame};
-ghost use Rattle.flat_objects.specs.Keeping.{Keeps};
-ghost use Rattle.flat_objects.specs.Counting.{Frees, IsPinnable, IsUnpinnable, MayPin, MayUnpin, Tracks, one_less, one_more};
+ghost use Rattle.flat_objects.specs.Keeping.{StillKeeps};
+ghost use Rattle.flat_objects.specs.Counting.{IsPinnable, IsUnpinnable, Pins, Unpins, count_at, counts_without, one_less, one_more, target_in, with_target};
 
 use crate::memory::FlatObjects;
 use byte_memory::Steps;
 use count_table::Counts;
-use hs_base::Pointer;
 use std::sync::ledger::Ledger;
 
 /// One more for the granule of an address. Null is in none.
@@ -45,11 +42,11 @@ impl FlatObjects {
     #[inline(always)]
     pub(crate) fn put_pointer<L: Ledger>(&mut self, slot: u32, target: u32, steps: &mut Steps<L>)
         requires inside { slot + 4 ≤ length self.old.bytes }
-        requires goes_from { word self.old.bytes slot 4 / 16 < length self.old.counts.counts }
-        requires goes { 0 < word self.old.bytes slot 4 → 0 < slice_index self.old.counts.counts (word self.old.bytes slot 4 / 16) }
+        requires goes_from { target_in self.old slot / 16 < length self.old.counts.counts }
+        requires goes { 0 < target_in self.old slot → 0 < count_at self.old (target_in self.old slot) }
         requires comes_to { target / 16 < length self.old.counts.counts }
-        requires room { sum (one_less self.old.counts (word self.old.bytes slot 4)).counts < self.old.counts.most }
-        ensures put { self.new ≡ record self.old { bytes = put_word self.old.bytes slot 4 target; counts = one_more (one_less self.old.counts (word self.old.bytes slot 4)) target } }
+        requires room { sum (counts_without self.old slot).counts < self.old.counts.most }
+        ensures put { self.new ≡ with_target self.old slot target }
         ensures work { steps.new ≤ steps.old + 4 }
     {
         let old = self.bytes.read(slot, 4, steps) as u32;
@@ -62,8 +59,8 @@ impl FlatObjects {
     #[inline(always)]
     pub fn pin<L: Ledger>(&mut self, addr: u32, steps: &mut Steps<L>)
         requires { IsPinnable self.old addr }
-        ensures keeps { (places : ℕ → ℕ) (objects : List Object) → Keeps self.old places objects → Keeps self.new places objects }
-        ensures tracks { (places : ℕ → ℕ) (objects : List Object) (frees : Frees) (before behind : List Pointer) (p : Pointer) → MayPin self.old places objects frees p addr → frees.pins ≡ before ++ behind → Tracks self.new places objects (record frees { pins = before ++ p ∷ behind }) }
+        ensures keeps { StillKeeps self.old self.new }
+        ensures tracks { Pins self.old self.new addr }
         ensures frame { SameFrame self.old self.new }
         ensures work { steps.new ≤ steps.old + 1 }
     {
@@ -74,8 +71,8 @@ impl FlatObjects {
     #[inline(always)]
     pub fn unpin<L: Ledger>(&mut self, addr: u32, steps: &mut Steps<L>)
         requires { IsUnpinnable self.old addr }
-        ensures keeps { (places : ℕ → ℕ) (objects : List Object) → Keeps self.old places objects → Keeps self.new places objects }
-        ensures tracks { (places : ℕ → ℕ) (objects : List Object) (frees : Frees) (before behind : List Pointer) (p : Pointer) → MayUnpin self.old places objects frees before behind p addr → Tracks self.new places objects (record frees { pins = before ++ behind }) }
+        ensures keeps { StillKeeps self.old self.new }
+        ensures tracks { Unpins self.old self.new addr }
         ensures frame { SameFrame self.old self.new }
         ensures work { steps.new ≤ steps.old + 1 }
     {

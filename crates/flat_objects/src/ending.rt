@@ -1,26 +1,21 @@
 //! The end of the memory locals of a call. The rule is this language's own (C99 6.2.4p2 leaves a pointer to an ended local
 //! indeterminate).
 
-ghost use Rattle.std.specs.Prelude.{◌≡◌, ◌+◌, ◌*◌, ◌^◌, ◌<◌, ◌≤◌, ℕ, List, Some, All, length, not, nat_eq, slice_get, slice_index};
-ghost use Rattle.std.specs.List.{position, sum_by};
-ghost use Rattle.hs_base.specs.Freeing.{end_numbers, ended, pointers_to};
-ghost use Rattle.hs_base.specs.Object.{Object};
-ghost use Rattle.delay_scopes.specs.Check.{granules_of};
+ghost use Rattle.std.specs.Prelude.{◌≡◌, ◌*◌, ◌^◌, ◌<◌, ◌≤◌, All, length};
+ghost use Rattle.std.specs.List.{position};
+ghost use Rattle.delay_scopes.specs.Ends.{has_counts};
 ghost use Rattle.delay_scopes.specs.Pointers.{LowersBy, words_inside};
 ghost use Rattle.delay_scopes.specs.Walks.{IsInside};
 ghost use Rattle.flat_objects.specs.Memory.{SameFrame};
-ghost use Rattle.flat_objects.specs.Keeping.{Keeps};
-ghost use Rattle.flat_objects.specs.Counting.{AreCounts, Frees};
-ghost use Rattle.flat_objects.specs.Freeing.{number_of};
-ghost use Rattle.flat_objects.specs.Ending.{AnswersEnd, AreEndable, MayEnd};
-ghost use Rattle.flat_objects.specs.EndingSteps.{AreCheckable, AreCoveredAt, AreGivenBack, AreReturnable, ChangesLocals, IsNextLocal, MayCheck, MayGiveBack, pointers_beside};
+ghost use Rattle.flat_objects.specs.Ending.{AreEndable, EndsLocals};
+ghost use Rattle.flat_objects.specs.EndingSteps.{AreCheckable, AreCoveredAt, AreReturnable, ChangesLocals, CountsBeside, GivesAllBack, GivesNextBack, IsFirstHeld, IsNextLocal};
 
 use crate::memory::FlatObjects;
 use adjusters::Adjuster;
 use byte_memory::{FlatBytes, Steps};
 use count_table::Counts;
 use delay_scopes::{is_held, take_off_object};
-use hs_base::{Items, Pointer};
+use hs_base::Items;
 use std::sync::ledger::Ledger;
 
 /// Takes the pointers in the slots of the objects at these addresses off the counts.
@@ -49,7 +44,7 @@ fn first_held<L: Ledger>(
     requires inside { All (IsInside bytes.now) locals.now }
     requires granules { length bytes.now ≤ 16 * length counts.now.counts }
     requires few { length locals.now < 2 ^ 32 }
-    ensures { result ≡ position (λ addr. not (nat_eq (sum_by (slice_index counts.now.counts) (granules_of bytes.now addr)) 0)) locals.now }
+    ensures { result ≡ position (has_counts counts.now.counts bytes.now) locals.now }
 {
     for (number, local) in locals.iter().enumerate() {
         if is_held(bytes, counts, *local, steps) {
@@ -63,8 +58,8 @@ impl FlatObjects {
     /// Takes the pointers inside these locals off the counts, and answers the number of the first to which one is left.
     fn check_locals<L: Ledger>(&mut self, locals: &[u32], steps: &mut Steps<L>) -> Option<u32>
         requires { AreCheckable self.old locals.now }
-        ensures first { (places : ℕ → ℕ) (objects : List Object) (frees : Frees) (births : List ℕ) → MayCheck self.old places objects frees births locals.now → result ≡ position (λ birth. not (nat_eq (pointers_to birth (pointers_beside objects frees births)) 0)) births }
-        ensures counts { (places : ℕ → ℕ) (objects : List Object) (frees : Frees) (births : List ℕ) → MayCheck self.old places objects frees births locals.now → AreCounts places (pointers_beside objects frees births) self.new.counts.counts }
+        ensures first { IsFirstHeld self.old locals.now result }
+        ensures counts { CountsBeside self.old self.new locals.now }
         ensures same { self.new ≡ record self.old { counts = self.new.counts } }
         ensures frame { SameFrame self.old self.new }
     {
@@ -75,7 +70,7 @@ impl FlatObjects {
     /// Gives the block of the next local back.
     fn give_back<L: Ledger>(&mut self, local: u32, steps: &mut Steps<L>)
         requires { IsNextLocal self.old local }
-        ensures given { (places : ℕ → ℕ) (objects : List Object) (births locals : List ℕ) (k : ℕ) → AreGivenBack self.old places objects births locals k → slice_get locals k ≡ Some local → AreGivenBack self.new places objects births locals (k + 1) }
+        ensures given { GivesNextBack self.old self.new local }
         ensures changes { ChangesLocals self.old self.new }
     {
         self.locals.release(&mut self.bytes, local, steps);
@@ -84,7 +79,7 @@ impl FlatObjects {
     /// Gives the blocks of these locals back.
     fn give_back_all<L: Ledger>(&mut self, locals: &[u32], steps: &mut Steps<L>)
         requires { AreReturnable self.old locals.now }
-        ensures keeps { (places : ℕ → ℕ) (objects : List Object) (births : List ℕ) → MayGiveBack self.old places objects births locals.now → Keeps self.new places (ended objects births) }
+        ensures keeps { GivesAllBack self.old self.new locals.now }
         ensures changes { ChangesLocals self.old self.new }
     {
         for local in locals {
@@ -104,7 +99,7 @@ impl FlatObjects {
         steps: &mut Steps<L>,
     ) -> Option<u32>
         requires { AreEndable self.old locals.now answer }
-        ensures answer { (places : ℕ → ℕ) (objects : List Object) (frees : Frees) (births : List ℕ) (p : Pointer) → MayEnd self.old places objects frees births p locals.now answer → AnswersEnd self.old self.new places objects frees births result (end_numbers objects births (Some p) (number_of objects frees)) }
+        ensures answer { EndsLocals self.old self.new locals.now answer result }
         ensures frame { SameFrame self.old self.new }
     {
         self.pin(answer, steps);

@@ -1,17 +1,12 @@
 //! The object of an address.
 
-ghost use Rattle.std.specs.Prelude.{◌≡◌, ◌+◌, ◌^◌, ◌<◌, ◌≤◌, ℕ, List, length};
-ghost use Rattle.hs_base.specs.Object.{Object};
-ghost use Rattle.hs_base.specs.Place.{Block};
-ghost use Rattle.heap_blocks.specs.Held.{Holds, owner_of};
-ghost use Rattle.flat_objects.specs.Memory.{Range, heap_of, end_of};
-ghost use Rattle.flat_objects.specs.Keeping.{KeepsAt, IsKept};
-ghost use Rattle.flat_objects.specs.Reaching.{IsFound, IsSpot};
+ghost use Rattle.std.specs.Prelude.{◌+◌, ◌^◌, ◌<◌, ◌≤◌, length};
+ghost use Rattle.flat_objects.specs.Keeping.{IsKept};
+ghost use Rattle.flat_objects.specs.Reaching.{IsFoundAt, IsOwner, IsOwnerInSome, IsSpotAt};
 
 use crate::memory::FlatObjects;
 use byte_memory::Steps;
 use heap_blocks::{HEADER_SIZE, Header};
-use hs_base::Pointer;
 use std::sync::ledger::Ledger;
 
 /// An offset in an object: the address of the object's first byte, the offset, and the object's size in bytes.
@@ -35,8 +30,8 @@ impl FlatObjects {
     /// The start of the object whose block holds the byte at an address of a range. The answer is that of one of the ranges.
     #[inline(always)]
     pub(crate) fn owner<L: Ledger>(&self, addr: u32, steps: &mut Steps<L>) -> Option<u32>
-        ensures owner { (range : Range) (held : List Block) → (heap_of self.now range).base ≤ addr → addr < end_of (heap_of self.now range) → Holds (heap_of self.now range) held → result ≡ owner_of (heap_of self.now range) held addr }
-        ensures from { (held : Range → List Block) → ((range : Range) → Holds (heap_of self.now range) (held range)) → (range : Range) × (result ≡ owner_of (heap_of self.now range) (held range) addr) }
+        ensures owner { IsOwner self.now addr result }
+        ensures from { IsOwnerInSome self.now addr result }
         ensures work { steps.new ≤ steps.old + 4 }
     {
         if addr < self.locals_from {
@@ -53,7 +48,7 @@ impl FlatObjects {
     pub(crate) fn spot<L: Ledger>(&self, addr: u32, steps: &mut Steps<L>) -> Spot
         requires kept { IsKept self.now addr }
         requires some { 0 < addr }
-        ensures spot { (places : ℕ → ℕ) (objects : List Object) (birth offset : ℕ) → KeepsAt self.now places objects (Pointer.At birth offset) addr → IsSpot places objects birth offset result }
+        ensures spot { IsSpotAt self.now addr result }
         ensures inside { result.offset ≤ result.size }
         ensures header { HEADER_SIZE ≤ result.start }
         ensures reach { result.start + result.size < length self.now.bytes }
@@ -76,7 +71,7 @@ impl FlatObjects {
     pub(crate) fn find<L: Ledger>(&self, addr: u32, steps: &mut Steps<L>) -> Found
         requires kept { IsKept self.now addr }
         requires some { 0 < addr }
-        ensures found { (places : ℕ → ℕ) (objects : List Object) (birth offset : ℕ) → KeepsAt self.now places objects (Pointer.At birth offset) addr → IsFound self.now places objects birth offset result }
+        ensures found { IsFoundAt self.now addr result }
         ensures inside { result.offset ≤ result.size }
         ensures small { result.start + result.size < 2 ^ 32 }
         ensures work { steps.new ≤ steps.old + 11 }

@@ -1,13 +1,10 @@
 //! Scopes, frees, and the check at the end of the outermost scope. The rules are this language's own (C99 7.20.3.2 leaves a
 //! pointer to a freed object indeterminate).
 
-ghost use Rattle.std.specs.Prelude.{◌≡◌, ◌+◌, ◌-◌, ◌^◌, ◌<◌, ◌≤◌, ℕ, List};
-ghost use Rattle.hs_base.specs.Freeing.{check_numbers, freed_at};
-ghost use Rattle.hs_base.specs.Object.{Object};
+ghost use Rattle.std.specs.Prelude.{◌≡◌, ◌+◌, ◌-◌, ◌^◌, ◌<◌, ◌≤◌};
 ghost use Rattle.flat_objects.specs.Memory.{SameFrame};
-ghost use Rattle.flat_objects.specs.Keeping.{Keeps};
-ghost use Rattle.flat_objects.specs.Counting.{Frees, Tracks};
-ghost use Rattle.flat_objects.specs.Freeing.{AnswersCheck, AnswersFree, IsFreeable, IsInScope, MayFree, MayLeave, number_of, work_of};
+ghost use Rattle.flat_objects.specs.Keeping.{StillKeeps};
+ghost use Rattle.flat_objects.specs.Freeing.{ChecksWithin, ClosesInner, ClosesOutermost, ForScopes, FreesAt, IsFreeable, IsInScope, OpensScope};
 
 use crate::memory::FlatObjects;
 use byte_memory::Steps;
@@ -19,8 +16,8 @@ impl FlatObjects {
     /// Opens a scope.
     pub fn enter(&mut self)
         requires { self.old.scopes.depth < 2 ^ 64 - 1 }
-        ensures keeps { (places : ℕ → ℕ) (objects : List Object) → Keeps self.old places objects → Keeps self.new places objects }
-        ensures tracks { (places : ℕ → ℕ) (objects : List Object) (frees : Frees) → Tracks self.old places objects frees → Tracks self.new places objects (record frees { scopes = frees.scopes + 1 }) }
+        ensures keeps { StillKeeps self.old self.new }
+        ensures tracks { OpensScope self.old self.new }
         ensures frame { SameFrame self.old self.new }
     {
         self.scopes.enter();
@@ -42,7 +39,7 @@ impl FlatObjects {
         steps: &mut Steps<L>,
     ) -> Result<(), BadFree>
         requires { IsFreeable self.old addr }
-        ensures answer { (places : ℕ → ℕ) (objects : List Object) (frees : Frees) (birth offset : ℕ) → MayFree self.old places objects frees birth offset addr → AnswersFree self.old self.new places objects frees line result (freed_at objects birth offset) }
+        ensures answer { FreesAt self.old self.new addr line result }
         ensures frame { SameFrame self.old self.new }
         ensures work { steps.new ≤ steps.old + 9 }
     {
@@ -59,11 +56,11 @@ impl FlatObjects {
     /// and 4 for each of its slots.
     pub fn leave<L: Ledger>(&mut self, steps: &mut Steps<L>) -> Result<(), BadFree>
         requires { IsInScope self.old }
-        ensures inner { (places : ℕ → ℕ) (objects : List Object) (frees : Frees) → MayLeave self.old places objects frees → 1 < frees.scopes → (result ≡ Ok tt) × Keeps self.new places objects × Tracks self.new places objects (record frees { scopes = frees.scopes - 1 }) }
-        ensures outermost { (places : ℕ → ℕ) (objects : List Object) (frees : Frees) → MayLeave self.old places objects frees → frees.scopes ≡ 1 → AnswersCheck self.old self.new places objects frees result (check_numbers objects frees.queue (number_of objects frees)) }
+        ensures inner { ClosesInner self.old self.new result }
+        ensures outermost { ClosesOutermost self.old self.new result }
         ensures frame { SameFrame self.old self.new }
-        ensures idle { (places : ℕ → ℕ) (objects : List Object) (frees : Frees) → MayLeave self.old places objects frees → 1 < frees.scopes → steps.new ≡ steps.old }
-        ensures work { (places : ℕ → ℕ) (objects : List Object) (frees : Frees) → MayLeave self.old places objects frees → frees.scopes ≡ 1 → steps.new ≤ steps.old + work_of objects frees.queue }
+        ensures idle { ForScopes self.old (λ _ _ frees. 1 < frees.scopes → steps.new ≡ steps.old) }
+        ensures work { ChecksWithin self.old steps.old steps.new }
     {
         other_bytes_stay();
         self.scopes.leave(

@@ -1,12 +1,10 @@
 //! The first pointer inside an object that leads to another, read anew. It is sought once, behind a bad free at the end of a
 //! run: over all objects, and without any memory.
 
-ghost use Rattle.std.specs.Prelude.{◌≡◌, ◌+◌, ◌<◌, ◌≤◌, ℕ, List, option_map, IfSome};
-ghost use Rattle.hs_base.specs.Object.{Object, object_at};
-ghost use Rattle.object_meaning.specs.objects.Holding.{first_of, inside_objects};
-ghost use Rattle.flat_objects.specs.Counting.{AreQueued};
-ghost use Rattle.flat_objects.specs.Holders.{IsIn, IsKeptObject, IsSomeObject, holder_of, older, storage_of};
-ghost use Rattle.flat_objects.specs.Searching.{IsFirstSlot, IsHoldingAt, IsKeptSlots, IsSomeSlots};
+ghost use Rattle.std.specs.Prelude.{◌≡◌, ◌+◌, ◌<◌, ◌≤◌, IfSome};
+ghost use Rattle.hs_base.specs.Object.{object_at};
+ghost use Rattle.flat_objects.specs.Holders.{ForObject, IsIn, IsSomeObject, older, storage_of};
+ghost use Rattle.flat_objects.specs.Searching.{IsFirstHolder, IsFirstSlotOf, IsHoldingIn, IsSomeSized, IsSomeSlots};
 
 use crate::memory::FlatObjects;
 use byte_memory::Steps;
@@ -59,7 +57,7 @@ impl FlatObjects {
         steps: &mut Steps<L>,
     ) -> Option<u32>
         requires { IsSomeSlots self.now start size layout target target_size }
-        ensures { (places : ℕ → ℕ) (objects : List Object) (birth other : ℕ) → IsKeptSlots self.now places objects birth other start size layout target target_size → IsFirstSlot other (object_at objects birth) result }
+        ensures { IsFirstSlotOf self.now start size layout target target_size result }
     {
         let form = &self.forms.as_slice()[layout as usize];
         for k in 0..form.count(size) {
@@ -74,7 +72,7 @@ impl FlatObjects {
 
     /// The storage of the object at an address.
     fn storage(&self, addr: u32) -> Storage
-        ensures { (places : ℕ → ℕ) (objects : List Object) (birth : ℕ) → IsKeptObject self.now places objects birth addr → result ≡ storage_of (object_at objects birth).sort }
+        ensures { ForObject self.now addr (λ _ all birth. result ≡ storage_of (object_at all birth).sort) }
     {
         if addr < self.locals_from {
             Storage::Static
@@ -94,8 +92,8 @@ impl FlatObjects {
         size: u32,
         steps: &mut Steps<L>,
     ) -> Option<Holding>
-        requires { (places : ℕ → ℕ) × (objects : List Object) × (birth : ℕ) × IsKeptObject self.now places objects birth target × (size ≡ (object_at objects birth).size) }
-        ensures { (places : ℕ → ℕ) (objects : List Object) (birth : ℕ) → IsKeptObject self.now places objects birth target → size ≡ (object_at objects birth).size → IsHoldingAt places objects birth block result }
+        requires { IsSomeSized self.now target size }
+        ensures { IsHoldingIn self.now target size block result }
     {
         let _ = &self.bytes;
         let Some(start) = self.owner(block, steps) else {
@@ -123,8 +121,8 @@ impl FlatObjects {
     /// then by slots; none where only pointers outside of objects lead to it.
     pub fn first_holder<L: Ledger>(&self, target: u32, steps: &mut Steps<L>) -> Option<Holding>
         requires { IsSomeObject self.now target }
-        ensures first { (places : ℕ → ℕ) (objects : List Object) (birth : ℕ) (queue : List ℕ) → IsKeptObject self.now places objects birth target → AreQueued objects queue → option_map (holder_of objects) result ≡ first_of (inside_objects queue birth objects) }
-        ensures inside { (places : ℕ → ℕ) (objects : List Object) (birth : ℕ) → IsKeptObject self.now places objects birth target → IfSome result (IsIn objects) }
+        ensures first { IsFirstHolder self.now target result }
+        ensures inside { ForObject self.now target (λ _ all _. IfSome result (IsIn all)) }
     {
         let size = Header::read_size(&self.bytes, target - HEADER_SIZE, steps);
         let mut first = None;

@@ -2,9 +2,8 @@
 //! objects, and without any memory. That they are told is this language's own (C99 7.20.3 lets a program end with objects that it
 //! has not freed).
 
-ghost use Rattle.std.specs.Prelude.{◌≡◌, ◌+◌, ◌*◌, ◌/◌, ◌^◌, ◌<◌, ◌≤◌, ℕ, List};
-ghost use Rattle.hs_base.specs.Object.{Object};
-ghost use Rattle.flat_objects.specs.Keeping.{Keeps};
+ghost use Rattle.std.specs.Prelude.{◌≡◌, ◌+◌, ◌*◌, ◌/◌, ◌^◌, ◌<◌, ◌≤◌};
+ghost use Rattle.flat_objects.specs.Keeping.{ForKept};
 ghost use Rattle.flat_objects.specs.Leaks.{IsHeaderAt, KeepsSome, leak_after, leak_of, next_line, with_line, with_object};
 
 use crate::memory::FlatObjects;
@@ -45,7 +44,7 @@ impl FlatObjects {
     /// The header of the object of the heap that starts at an address, if one does. At most eleven steps.
     fn heap_header<L: Ledger>(&self, addr: u32, steps: &mut Steps<L>) -> Option<Header>
         requires { KeepsSome self.now }
-        ensures header { (places : ℕ → ℕ) (objects : List Object) → Keeps self.now places objects → IsHeaderAt places objects addr result }
+        ensures header { ForKept self.now (λ places all. IsHeaderAt places all addr result) }
         ensures work { steps.new ≤ steps.old + 11 }
     {
         if !self.is_heap_start(addr, steps) {
@@ -57,7 +56,7 @@ impl FlatObjects {
     /// The least line of birth above a line, of the objects of the heap that are not dead.
     fn next_line<L: Ledger>(&self, after: Line, steps: &mut Steps<L>) -> Option<Line>
         requires { KeepsSome self.now }
-        ensures line { (places : ℕ → ℕ) (objects : List Object) → Keeps self.now places objects → result ≡ next_line after objects }
+        ensures line { ForKept self.now (λ _ all. result ≡ next_line after all) }
         ensures work { steps.new ≤ steps.old + 11 * (self.now.heap.len / 16) }
     {
         let mut next = None;
@@ -71,7 +70,7 @@ impl FlatObjects {
     /// The objects of the heap that were born at a line and are not dead.
     fn leak_of<L: Ledger>(&self, line: Line, steps: &mut Steps<L>) -> Leak
         requires { KeepsSome self.now }
-        ensures leak { (places : ℕ → ℕ) (objects : List Object) → Keeps self.now places objects → result ≡ leak_of objects line }
+        ensures leak { ForKept self.now (λ _ all. result ≡ leak_of all line) }
         ensures work { steps.new ≤ steps.old + 11 * (self.now.heap.len / 16) }
     {
         let mut leak = Leak {
@@ -91,7 +90,7 @@ impl FlatObjects {
     /// At most 22 steps for each 16 bytes of the heap.
     pub fn leak<L: Ledger>(&self, after: Line, steps: &mut Steps<L>) -> Option<Leak>
         requires { KeepsSome self.now }
-        ensures leak { (places : ℕ → ℕ) (objects : List Object) → Keeps self.now places objects → result ≡ leak_after after objects }
+        ensures leak { ForKept self.now (λ _ all. result ≡ leak_after after all) }
         ensures work { steps.new ≤ steps.old + 22 * (self.now.heap.len / 16) }
     {
         let line = self.next_line(after, steps)?;

@@ -15,6 +15,9 @@
 //! for each pointer that the address stands for, which is never one to a dead object. Where an address comes in, some
 //! objects are kept and it stands for some pointer (`IsKept`). A write leaves a memory that keeps the definition's objects
 //! at the same places, and each address still stands for what it did (`IsChanged`).
+//! Contracts name such facts: `specs/Keeping.antt` has what is said of whatever is kept (`ForKept`, `ForPointer`), and
+//! `specs/Answering.antt` and `specs/Counting.antt` what a call answers, changes and tracks at an address (`AnswersNumberAt`,
+//! `ChangesAt`, `TracksAt`).
 //!
 //! A memory also tracks what may be freed (`specs/Counting.antt`): each 16 bytes have a count of the pointers that lead into
 //! them, of those inside objects and of those that the caller pins, and the scopes that are open have a queue of freed

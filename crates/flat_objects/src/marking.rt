@@ -1,9 +1,8 @@
 //! The marks of new objects.
 
-ghost use Rattle.std.specs.Prelude.{◌≡◌, ◌+◌, All, IfSome, MatchOption, Some, slice_get};
-ghost use Rattle.adjusters.specs.ObjectSlots.{Element, object_slots};
-ghost use Rattle.byte_marks.specs.Marks.{ChangesOnly, HasMarks};
+ghost use Rattle.std.specs.Prelude.{All, IfSome};
 ghost use Rattle.flat_objects.specs.Memory.{IsForm, IsMarkable};
+ghost use Rattle.flat_objects.specs.Adding.{HasMarksOf, MarksOnly};
 
 use adjusters::Adjuster;
 use byte_marks::Marks;
@@ -20,8 +19,8 @@ pub(crate) fn mark(
 )
     requires forms { All IsForm forms.now }
     requires inside { IfSome placed (IsMarkable marks.old size) }
-    ensures changes { MatchOption placed (marks.new ≡ marks.old) (λ addr. ChangesOnly marks.old marks.new addr (size + 1)) }
-    ensures marked { (form : Element) → slice_get forms.now layout ≡ Some form → IfSome placed (λ addr. HasMarks marks.new addr size (object_slots form size)) }
+    ensures changes { MarksOnly marks.old marks.new placed size }
+    ensures marked { HasMarksOf forms.now layout marks.new placed size }
 {
     let Some(addr) = placed else {
         return;

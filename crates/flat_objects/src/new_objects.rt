@@ -1,16 +1,8 @@
 //! New objects of the heap, and memory locals.
 
-ghost use Rattle.std.specs.Prelude.{◌≡◌, ◌∷◌, ◌++◌, [], ℕ, List, length, slice_get, Some, IfSome, IfNone, option_map};
-ghost use Rattle.hs_base.specs.Object.{Object, Local};
-ghost use Rattle.c_types.specs.declared.layouts.Layout.{Layout};
-ghost use Rattle.adjusters.specs.ObjectSlots.{element_of};
-ghost use Rattle.heap_blocks.specs.Held.{address_of, fit_of};
-ghost use Rattle.object_meaning.specs.objects.Making.{blank, heap_object};
-ghost use Rattle.flat_objects.specs.Memory as memory;
-ghost use Rattle.flat_objects.specs.Memory.{SameFrame};
-ghost use Rattle.flat_objects.specs.Keeping.{Keeps, blocks_of};
-ghost use Rattle.flat_objects.specs.Adding.{IsAdded, with_place};
-ghost use Rattle.flat_objects.specs.Counting.{Frees, Tracks};
+ghost use Rattle.std.specs.Prelude.{◌≡◌, IfNone};
+ghost use Rattle.flat_objects.specs.Memory.{Heap, Locals, SameFrame};
+ghost use Rattle.flat_objects.specs.Adding.{AddsHeapObject, AddsLocal, IsFirstFit, TracksHeapObject, TracksLocal};
 
 use crate::marking::mark;
 use crate::memory::FlatObjects;
@@ -30,9 +22,9 @@ impl FlatObjects {
         birth: u64,
         steps: &mut Steps<L>,
     ) -> Option<u32>
-        ensures place { (places : ℕ → ℕ) (objects : List Object) → Keeps self.old places objects → result ≡ option_map (address_of self.old.heap) (fit_of self.old.heap (blocks_of self.old places objects memory.Heap) size) }
-        ensures added { (places : ℕ → ℕ) (objects : List Object) (element : Layout) → Keeps self.old places objects → birth ≡ length objects → slice_get self.old.forms layout ≡ Some (element_of element) → IfSome result (IsAdded self.new places objects (heap_object line size element)) }
-        ensures tracks { (places : ℕ → ℕ) (objects : List Object) (element : Layout) (frees : Frees) → Keeps self.old places objects → birth ≡ length objects → slice_get self.old.forms layout ≡ Some (element_of element) → Tracks self.old places objects frees → IfSome result (λ addr. Tracks self.new (with_place places birth addr) (objects ++ heap_object line size element ∷ []) frees) }
+        ensures place { IsFirstFit self.old Heap size result }
+        ensures added { AddsHeapObject self.old self.new birth layout line size result }
+        ensures tracks { TracksHeapObject self.old self.new birth layout line size result }
         ensures none { IfNone result (self.new ≡ self.old) }
         ensures frame { SameFrame self.old self.new }
     {
@@ -52,9 +44,9 @@ impl FlatObjects {
         birth: u64,
         steps: &mut Steps<L>,
     ) -> Option<u32>
-        ensures place { (places : ℕ → ℕ) (objects : List Object) → Keeps self.old places objects → result ≡ option_map (address_of self.old.locals) (fit_of self.old.locals (blocks_of self.old places objects memory.Locals) size) }
-        ensures added { (places : ℕ → ℕ) (objects : List Object) (element : Layout) (func index : ℕ) → Keeps self.old places objects → birth ≡ length objects → slice_get self.old.forms layout ≡ Some (element_of element) → size ≡ element.size → IfSome result (IsAdded self.new places objects (blank (Local func index) size element.slots)) }
-        ensures tracks { (places : ℕ → ℕ) (objects : List Object) (element : Layout) (func index : ℕ) (frees : Frees) → Keeps self.old places objects → birth ≡ length objects → slice_get self.old.forms layout ≡ Some (element_of element) → size ≡ element.size → Tracks self.old places objects frees → IfSome result (λ addr. Tracks self.new (with_place places birth addr) (objects ++ blank (Local func index) size element.slots ∷ []) frees) }
+        ensures place { IsFirstFit self.old Locals size result }
+        ensures added { AddsLocal self.old self.new birth layout size result }
+        ensures tracks { TracksLocal self.old self.new birth layout size result }
         ensures none { IfNone result (self.new ≡ self.old) }
         ensures frame { SameFrame self.old self.new }
     {

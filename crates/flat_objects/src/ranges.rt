@@ -1,20 +1,18 @@
 //! Copies and sets of ranges of bytes (C99 7.21.2.1, 7.21.2.2, 7.21.6.1).
 
-ghost use Rattle.std.specs.Prelude.{◌≡◌, ◌+◌, ◌*◌, ◌<◌, ◌≤◌, ℕ, List, IfErr, IfOk};
+ghost use Rattle.std.specs.Prelude.{◌≡◌, ◌+◌, ◌*◌, ◌<◌, ◌≤◌, IfErr, IfOk};
 ghost use Rattle.hs_base.specs.Access.{set_bytes};
-ghost use Rattle.hs_base.specs.Object.{Object};
 ghost use Rattle.object_meaning.specs.objects.Memory.{copied};
 ghost use Rattle.typed_copies.specs.Copying.{IsInside};
 ghost use Rattle.flat_objects.specs.Memory.{SameFrame};
-ghost use Rattle.flat_objects.specs.Standing.{IsAddressOf};
-ghost use Rattle.flat_objects.specs.Keeping.{KeepsAt, IsKept};
-ghost use Rattle.flat_objects.specs.Answering.{Changes};
-ghost use Rattle.flat_objects.specs.Counting.{IsStorable, StaysTracked};
-ghost use Rattle.flat_objects.specs.Ranges.{IsGrowable, IsRangeAt, IsSettable, TriesRange, grown, shared_size};
+ghost use Rattle.flat_objects.specs.Keeping.{IsKept};
+ghost use Rattle.flat_objects.specs.Answering.{ChangesAt, ChangesWith};
+ghost use Rattle.flat_objects.specs.Counting.{IsStorable, TracksAt, TracksWith};
+ghost use Rattle.flat_objects.specs.Ranges.{GrowsAt, GrowsWithin, HasWithin, IsGrowable, IsRangeOf, IsSettable, TracksGrowth, TriesRangeAt};
 
 use crate::memory::FlatObjects;
 use byte_memory::Steps;
-use hs_base::{Pointer, TrapKind};
+use hs_base::TrapKind;
 use std::sync::ledger::Ledger;
 use typed_copies::Ranged;
 
@@ -23,7 +21,7 @@ impl FlatObjects {
     fn ranged<L: Ledger>(&self, addr: u32, steps: &mut Steps<L>) -> Ranged
         requires kept { IsKept self.now addr }
         requires some { 0 < addr }
-        ensures range { (places : ℕ → ℕ) (objects : List Object) (p : Pointer) → KeepsAt self.now places objects p addr → IsRangeAt self.now places objects p result }
+        ensures range { IsRangeOf self.now addr result }
         ensures inside { IsInside self.now.forms self.now.bytes result }
         ensures work { steps.new ≤ steps.old + 11 }
     {
@@ -45,8 +43,8 @@ impl FlatObjects {
         steps: &mut Steps<L>,
     ) -> Result<Ranged, TrapKind>
         requires { IsKept self.now addr }
-        ensures tries { (places : ℕ → ℕ) (objects : List Object) (p : Pointer) → KeepsAt self.now places objects p addr → TriesRange self.now places objects p n result }
-        ensures inside { IfOk result (λ range. IsInside self.now.forms self.now.bytes range × (range.offset + n ≤ range.size)) }
+        ensures tries { TriesRangeAt self.now addr n result }
+        ensures inside { IfOk result (HasWithin self.now n) }
         ensures work { steps.new ≤ steps.old + 11 }
     {
         if addr == 0 {
@@ -76,8 +74,8 @@ impl FlatObjects {
         steps: &mut Steps<L>,
     ) -> Result<(), TrapKind>
         requires { IsStorable self.old to from }
-        ensures changes { (places : ℕ → ℕ) (objects : List Object) (p q : Pointer) → KeepsAt self.old places objects p to → IsAddressOf places objects q from → Changes places objects result self.old self.new (copied objects p q n) }
-        ensures tracks { (places : ℕ → ℕ) (objects : List Object) (p q : Pointer) → KeepsAt self.old places objects p to → IsAddressOf places objects q from → StaysTracked self.old self.new places objects (copied objects p q n) }
+        ensures changes { ChangesWith self.old self.new to from result (λ all p q. copied all p q n) }
+        ensures tracks { TracksWith self.old self.new to from (λ all p q. copied all p q n) }
         ensures frame { SameFrame self.old self.new }
         ensures work { steps.new ≤ steps.old + 22 + 3 * n }
     {
@@ -112,8 +110,8 @@ impl FlatObjects {
         steps: &mut Steps<L>,
     ) -> Result<(), TrapKind>
         requires { IsSettable self.old addr }
-        ensures changes { (places : ℕ → ℕ) (objects : List Object) (p : Pointer) → KeepsAt self.old places objects p addr → Changes places objects result self.old self.new (set_bytes objects p byte n) }
-        ensures tracks { (places : ℕ → ℕ) (objects : List Object) (p : Pointer) → KeepsAt self.old places objects p addr → StaysTracked self.old self.new places objects (set_bytes objects p byte n) }
+        ensures changes { ChangesAt self.old self.new addr result (λ all p. set_bytes all p byte n) }
+        ensures tracks { TracksAt self.old self.new addr (λ all p. set_bytes all p byte n) }
         ensures frame { SameFrame self.old self.new }
         ensures work { steps.new ≤ steps.old + 11 + 2 * n }
     {
@@ -147,11 +145,11 @@ impl FlatObjects {
         steps: &mut Steps<L>,
     ) -> Result<(), TrapKind>
         requires { IsGrowable self.old to from }
-        ensures changes { (places : ℕ → ℕ) (objects : List Object) (new old : ℕ) → KeepsAt self.old places objects (Pointer.At new 0) to → IsAddressOf places objects (Pointer.At old 0) from → Changes places objects result self.old self.new (grown objects new old) }
-        ensures tracks { (places : ℕ → ℕ) (objects : List Object) (new old : ℕ) → KeepsAt self.old places objects (Pointer.At new 0) to → IsAddressOf places objects (Pointer.At old 0) from → StaysTracked self.old self.new places objects (grown objects new old) }
+        ensures changes { GrowsAt self.old self.new to from result }
+        ensures tracks { TracksGrowth self.old self.new to from }
         ensures layout { IfErr result (λ kind. kind ≡ TrapKind.Layout) }
         ensures frame { SameFrame self.old self.new }
-        ensures work { (places : ℕ → ℕ) (objects : List Object) (new old : ℕ) → KeepsAt self.old places objects (Pointer.At new 0) to → IsAddressOf places objects (Pointer.At old 0) from → steps.new ≤ steps.old + 22 + 3 * shared_size objects new old }
+        ensures work { GrowsWithin self.old to from steps.old steps.new }
     {
         let dst = self.ranged(to, steps);
         let src = self.ranged(from, steps);

@@ -1,19 +1,12 @@
 //! A new memory, and the statics in it.
 
-ghost use Rattle.std.specs.Prelude.{◌≡◌, ◌+◌, ◌%◌, ◌^◌, ◌<◌, ◌≤◌, ◌∷◌, ◌++◌, ℕ, List, [], All, IfOk, IfSome, IfNone, Some, length, map, option_map, slice_get};
-ghost use Rattle.hs_base.specs.Object.{Object, Static, object_at};
-ghost use Rattle.hs_base.specs.Access.{with_object, with_pointer};
-ghost use Rattle.c_types.specs.declared.layouts.Layout as layouts;
+ghost use Rattle.std.specs.Prelude.{◌≡◌, ◌+◌, ◌%◌, ◌^◌, ◌<◌, ◌≤◌, ℕ, [], All, IfOk, IfNone, length, map};
 ghost use Rattle.adjusters.specs.ObjectSlots.{element_of};
-ghost use Rattle.heap_blocks.specs.Held.{HasBounds, address_of, fit_of};
-ghost use Rattle.object_meaning.specs.objects.Making.{blank};
-ghost use Rattle.flat_objects.specs.Memory as memory;
-ghost use Rattle.flat_objects.specs.Memory.{IsForm, SameFrame, pin_room};
-ghost use Rattle.flat_objects.specs.Keeping.{Keeps, blocks_of};
-ghost use Rattle.flat_objects.specs.Answering.{IsChanged};
-ghost use Rattle.flat_objects.specs.Adding.{IsAdded, with_place};
-ghost use Rattle.flat_objects.specs.Counting.{Frees, Tracks};
-ghost use Rattle.flat_objects.specs.Starting.{HasSlotFor, IsSlotFor, IsTaking, IsTakingPointers, IsWritten, TakesBytes, TakesPointers, with_first_bytes, with_first_pointers};
+ghost use Rattle.flat_objects.specs.Memory.{IsForm, SameFrame, Statics, pin_room};
+ghost use Rattle.flat_objects.specs.Keeping.{Keeps};
+ghost use Rattle.flat_objects.specs.Adding.{AddsStatic, IsFirstFit, TracksStatic};
+ghost use Rattle.flat_objects.specs.Counting.{Tracks, no_frees};
+ghost use Rattle.flat_objects.specs.Starting.{HasRanges, IsSlotFor, IsTaking, IsTakingPointers, IsWritten, SetsSlot, StartsBytes, StartsPointers, TracksBytes, TracksPointers, TracksSlot};
 
 use crate::marking::mark;
 use crate::memory::FlatObjects;
@@ -24,7 +17,7 @@ use c_types::Layout;
 use count_table::Counts;
 use delay_scopes::Scopes;
 use heap_blocks::Heap;
-use hs_base::{Items, NoMemory, Pointer};
+use hs_base::{Items, NoMemory};
 use std::alloc::Global;
 use std::sync::ledger::Ledger;
 
@@ -68,10 +61,10 @@ impl FlatObjects {
         requires fits { statics + locals + heap < 2 ^ 32 }
         requires pins { pins < 2 ^ 31 }
         ensures keeps { IfOk result (λ o. (places : ℕ → ℕ) → Keeps o places []) }
-        ensures tracks { IfOk result (λ o. (places : ℕ → ℕ) → Tracks o places [] (record { pins = []; queue = []; scopes = 0 })) }
+        ensures tracks { IfOk result (λ o. (places : ℕ → ℕ) → Tracks o places [] no_frees) }
         ensures room { IfOk result (λ o. pin_room o ≡ pins) }
         ensures forms { IfOk result (λ o. o.forms ≡ map element_of layouts.now) }
-        ensures bounds { IfOk result (λ o. HasBounds 0 statics o.statics × HasBounds statics locals o.locals × HasBounds (statics + locals) heap o.heap) }
+        ensures bounds { IfOk result (λ o. HasRanges o statics locals heap) }
     {
         let heap_from = statics + locals;
         let end = heap_from + heap;
@@ -98,9 +91,9 @@ impl FlatObjects {
         index: u32,
         steps: &mut Steps<L>,
     ) -> Option<u32>
-        ensures place { (places : ℕ → ℕ) (objects : List Object) → Keeps self.old places objects → result ≡ option_map (address_of self.old.statics) (fit_of self.old.statics (blocks_of self.old places objects memory.Statics) size) }
-        ensures added { (places : ℕ → ℕ) (objects : List Object) (element : layouts.Layout) → Keeps self.old places objects → index ≡ length objects → slice_get self.old.forms layout ≡ Some (element_of element) → size ≡ element.size → IfSome result (IsAdded self.new places objects (blank (Static index) size element.slots)) }
-        ensures tracks { (places : ℕ → ℕ) (objects : List Object) (element : layouts.Layout) (frees : Frees) → Keeps self.old places objects → index ≡ length objects → slice_get self.old.forms layout ≡ Some (element_of element) → size ≡ element.size → Tracks self.old places objects frees → IfSome result (λ addr. Tracks self.new (with_place places index addr) (objects ++ blank (Static index) size element.slots ∷ []) frees) }
+        ensures place { IsFirstFit self.old Statics size result }
+        ensures added { AddsStatic self.old self.new index layout size result }
+        ensures tracks { TracksStatic self.old self.new index layout size result }
         ensures none { IfNone result (self.new ≡ self.old) }
         ensures frame { SameFrame self.old self.new }
     {
@@ -116,8 +109,8 @@ impl FlatObjects {
     /// Writes the first bytes of a static at an address, which has only zeros and null pointers.
     pub fn start_bytes<L: Ledger>(&mut self, addr: u32, bytes: &[u8], steps: &mut Steps<L>)
         requires { IsTaking self.old addr bytes.now }
-        ensures changes { (places : ℕ → ℕ) (objects : List Object) (birth : ℕ) → TakesBytes self.old places objects birth addr bytes.now → IsChanged self.new places objects (with_object objects birth (with_first_bytes (object_at objects birth) bytes.now)) }
-        ensures tracks { (places : ℕ → ℕ) (objects : List Object) (birth : ℕ) (frees : Frees) → TakesBytes self.old places objects birth addr bytes.now → Tracks self.old places objects frees → Tracks self.new places (with_object objects birth (with_first_bytes (object_at objects birth) bytes.now)) frees }
+        ensures changes { StartsBytes self.old self.new addr bytes.now }
+        ensures tracks { TracksBytes self.old self.new addr bytes.now }
         ensures frame { SameFrame self.old self.new }
     {
         write_bytes(&mut self.bytes, addr, bytes, steps);
@@ -133,8 +126,8 @@ impl FlatObjects {
         steps: &mut Steps<L>,
     )
         requires { IsSlotFor self.old start slot target offset }
-        ensures changes { (places : ℕ → ℕ) (objects : List Object) (birth other : ℕ) → HasSlotFor self.old places objects birth start slot other target offset → IsChanged self.new places objects (with_object objects birth (with_pointer (object_at objects birth) slot (Pointer.At other offset))) }
-        ensures tracks { (places : ℕ → ℕ) (objects : List Object) (birth other : ℕ) (frees : Frees) → HasSlotFor self.old places objects birth start slot other target offset → Tracks self.old places objects frees → Tracks self.new places (with_object objects birth (with_pointer (object_at objects birth) slot (Pointer.At other offset))) frees }
+        ensures changes { SetsSlot self.old self.new start slot target offset }
+        ensures tracks { TracksSlot self.old self.new start slot target offset }
         ensures frame { SameFrame self.old self.new }
     {
         let _ = &self.bytes;
@@ -153,8 +146,8 @@ impl FlatObjects {
         steps: &mut Steps<L>,
     )
         requires { IsTakingPointers self.old addr pointers.now starts.now }
-        ensures changes { (places : ℕ → ℕ) (objects : List Object) (birth : ℕ) → TakesPointers self.old places objects birth addr pointers.now starts.now → IsChanged self.new places objects (with_object objects birth (with_first_pointers (object_at objects birth) pointers.now)) }
-        ensures tracks { (places : ℕ → ℕ) (objects : List Object) (birth : ℕ) (frees : Frees) → TakesPointers self.old places objects birth addr pointers.now starts.now → Tracks self.old places objects frees → Tracks self.new places (with_object objects birth (with_first_pointers (object_at objects birth) pointers.now)) frees }
+        ensures changes { StartsPointers self.old self.new addr pointers.now starts.now }
+        ensures tracks { TracksPointers self.old self.new addr pointers.now starts.now }
         ensures frame { SameFrame self.old self.new }
     {
         let _ = &self.bytes;

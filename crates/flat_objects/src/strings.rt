@@ -1,24 +1,21 @@
 //! Strings, which are read byte by byte (C99 7.21.4.2, 7.21.6.3).
 
-ghost use Rattle.std.specs.Prelude.{◌≡◌, ◌+◌, ◌^◌, ◌≤◌, ℕ, List, slice_index};
-ghost use Rattle.hs_base.specs.Object.{Object};
-ghost use Rattle.object_meaning.specs.objects.Strings.{byte_behind, order_of, room_at, string_at};
-ghost use Rattle.flat_objects.specs.Memory.{Memory};
-ghost use Rattle.flat_objects.specs.Standing.{IsAddressOf};
-ghost use Rattle.flat_objects.specs.Keeping.{KeepsAt, IsKept};
-ghost use Rattle.flat_objects.specs.Answering.{Answers, AnswersLength};
-ghost use Rattle.flat_objects.specs.Texts.{KeepsText, IsKeptText, IsStringByte, StringByte};
+ghost use Rattle.std.specs.Prelude.{◌+◌, ◌^◌, ◌≤◌};
+ghost use Rattle.object_meaning.specs.objects.Strings.{byte_behind, order_of, string_at};
+ghost use Rattle.flat_objects.specs.Keeping.{IsKept};
+ghost use Rattle.flat_objects.specs.Answering.{AnswersLengthAt, AnswersOfBoth};
+ghost use Rattle.flat_objects.specs.Texts.{AnswersOfText, IsByteOfString, IsKeptText, IsRoomOf, IsStringByte, IsTextOf};
 
 use crate::finding::Found;
 use crate::forms::touches_slot;
 use crate::memory::FlatObjects;
 use byte_memory::Steps;
-use hs_base::{Pointer, TrapKind};
+use hs_base::TrapKind;
 use std::sync::ledger::Ledger;
 
 /// One byte more than the object of a string has: no string in it is longer.
 fn room(text: Option<Found>) -> u64
-    ensures room { (places : ℕ → ℕ) (objects : List Object) (memory : Memory) (p : Pointer) → KeepsText memory places objects p text → result ≡ room_at objects p }
+    ensures room { IsRoomOf text result }
     ensures small { result ≤ 2 ^ 32 }
 {
     match text {
@@ -31,7 +28,7 @@ impl FlatObjects {
     /// The object of a string's address, and none at null.
     fn text<L: Ledger>(&self, addr: u32, steps: &mut Steps<L>) -> Option<Found>
         requires { IsKept self.now addr }
-        ensures { (places : ℕ → ℕ) (objects : List Object) (p : Pointer) → KeepsAt self.now places objects p addr → KeepsText self.now places objects p result }
+        ensures { IsTextOf self.now addr result }
     {
         if addr == 0 {
             return None;
@@ -47,7 +44,7 @@ impl FlatObjects {
         steps: &mut Steps<L>,
     ) -> Result<u8, TrapKind>
         requires { IsKeptText self.now text }
-        ensures { (places : ℕ → ℕ) (objects : List Object) (p : Pointer) → KeepsText self.now places objects p text → Answers result (byte_behind objects p i) }
+        ensures { AnswersOfText self.now text result (λ all p. byte_behind all p i) }
     {
         let Some(found) = text else {
             return Err(TrapKind::Null);
@@ -66,7 +63,7 @@ impl FlatObjects {
     /// How many bytes stand at an address in front of the first zero.
     pub fn string_length<L: Ledger>(&self, addr: u32, steps: &mut Steps<L>) -> Result<u32, TrapKind>
         requires { IsKept self.now addr }
-        ensures { (places : ℕ → ℕ) (objects : List Object) (p : Pointer) → KeepsAt self.now places objects p addr → AnswersLength result (string_at objects p) }
+        ensures { AnswersLengthAt self.now addr result string_at }
     {
         let text = self.text(addr, steps);
         for i in 0..room(text) {
@@ -80,7 +77,7 @@ impl FlatObjects {
     /// A byte of the string at an address, in front of its first zero.
     pub fn string_byte<L: Ledger>(&self, addr: u32, i: u32, steps: &mut Steps<L>) -> u8
         requires { IsStringByte self.now addr i }
-        ensures { (places : ℕ → ℕ) (objects : List Object) (p : Pointer) (bytes : List ℕ) → StringByte self.now places objects p addr bytes i → result ≡ slice_index bytes i }
+        ensures { IsByteOfString self.now addr i result }
     {
         self.bytes.read(addr + i, 1, steps) as u8
     }
@@ -94,7 +91,7 @@ impl FlatObjects {
     ) -> Result<i128, TrapKind>
         requires one { IsKept self.now p }
         requires other { IsKept self.now q }
-        ensures { (places : ℕ → ℕ) (objects : List Object) (a b : Pointer) → KeepsAt self.now places objects a p → IsAddressOf places objects b q → Answers result (order_of objects a b) }
+        ensures { AnswersOfBoth self.now p q result order_of }
     {
         let first = self.text(p, steps);
         let second = self.text(q, steps);

@@ -1,22 +1,20 @@
 //! Tries of frees, which change nothing. The rules are this language's own (C99 7.20.3.2 leaves undefined what a second free of
 //! an object does, and a free of what no allocation answered).
 
-ghost use Rattle.std.specs.Prelude.{◌+◌, ◌≤◌, ◌↔◌, ℕ, List, IsTrue};
-ghost use Rattle.hs_base.specs.Freeing.{freed_at};
-ghost use Rattle.hs_base.specs.Object.{Object};
-ghost use Rattle.flat_objects.specs.Keeping.{IsKept, Keeps, KeepsAt};
-ghost use Rattle.flat_objects.specs.Tries.{AnswersTry, IsHeapStart};
+ghost use Rattle.std.specs.Prelude.{◌+◌, ◌≤◌, ◌↔◌, IsTrue};
+ghost use Rattle.flat_objects.specs.Keeping.{ForKept, IsKept};
+ghost use Rattle.flat_objects.specs.Tries.{AnswersTryAt, IsHeapStart};
 
 use crate::memory::FlatObjects;
 use byte_memory::Steps;
 use heap_blocks::{HEADER_SIZE, Header, STATE_QUEUED};
-use hs_base::{Pointer, Reason};
+use hs_base::Reason;
 use std::sync::ledger::Ledger;
 
 impl FlatObjects {
     /// Says whether an object of the heap starts at an address. At most four steps.
     pub(crate) fn is_heap_start<L: Ledger>(&self, addr: u32, steps: &mut Steps<L>) -> bool
-        ensures start { (places : ℕ → ℕ) (objects : List Object) → Keeps self.now places objects → IsTrue result ↔ IsHeapStart places objects addr }
+        ensures start { ForKept self.now (λ places all. IsTrue result ↔ IsHeapStart places all addr) }
         ensures work { steps.new ≤ steps.old + 4 }
     {
         self.heap.owner(&self.bytes, addr, steps) == Some(addr)
@@ -26,7 +24,7 @@ impl FlatObjects {
     /// there, and `Again` where it is queued already. At most five steps.
     pub fn may_free<L: Ledger>(&self, addr: u32, steps: &mut Steps<L>) -> Result<(), Reason>
         requires { IsKept self.now addr }
-        ensures answer { (places : ℕ → ℕ) (objects : List Object) (birth offset : ℕ) → KeepsAt self.now places objects (Pointer.At birth offset) addr → AnswersTry birth result (freed_at objects birth offset) }
+        ensures answer { AnswersTryAt self.now addr result }
         ensures work { steps.new ≤ steps.old + 5 }
     {
         if !self.is_heap_start(addr, steps) {

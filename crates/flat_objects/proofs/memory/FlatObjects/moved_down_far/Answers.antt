@@ -24,4 +24,4 @@ returns-in_default g c = λ places objects p at.
     let fits_size : SFits w128 c.args.size = search rules in
     let large = rw (to_z-of_z w128 c.args.count fits_count, to_z-of_z w128 c.args.size fits_size) at c.in_default.ensures in
     let up = c.args.count *ℤ c.args.size in
-    c.moved_far.ensures places objects p (neg_ℤ up) at (too_large up large).1
+    c.moved_far.ensures (neg_ℤ up) (too_large up large).1 places objects p at
