@@ -24,3 +24,9 @@ pub mod First
 pub mod Machined
 pub mod Loading
 pub mod Lasting
+pub mod StateMemory
+pub mod FirstHolder
+pub mod Instructions
+pub mod Consoles
+pub mod Telling
+pub mod Calls

@@ -1,24 +1,17 @@
 //! Calls and returns (C99 6.5.2.2, 6.8.6.4).
 
-ghost use Rattle.std.specs.Prelude.{◌≡◌, ◌+◌, ◌<◌, ◌^◌, ℕ, Bool, All, IfErr, IsSome, Some, slice_get};
-ghost use Rattle.hs_base.specs.declared.values.Value.{Value};
+ghost use Rattle.std.specs.Prelude.{◌≡◌, ◌+◌, ◌<◌, ◌^◌, All, IsSome, Some, slice_get};
 ghost use Rattle.object_meaning.specs.objects.Builtins.{byte_in};
 ghost use Rattle.flat_code.specs.Table.{chosen};
-ghost use Rattle.flat_objects.specs.Standing.{StandsFor};
-ghost use Rattle.object_meaning.specs.code.CodeState.{CodeState};
-ghost use Rattle.object_meaning.specs.code.CodeMeaning.{act};
 ghost use Rattle.object_meaning.specs.code.Entering.{cost_of};
-ghost use Rattle.object_meaning.specs.code.Returning.{give_back};
-ghost use Rattle.flat_machine.specs.Standing.{Stands};
-ghost use Rattle.flat_machine.specs.Pinning.{CountsWell, IsReturning, IsStanding};
-ghost use Rattle.flat_machine.specs.Leading.{Alone, HasAllLocals, MayCall, WaitsAtCall};
-ghost use Rattle.flat_machine.specs.Loaded.{HasPins};
-ghost use Rattle.flat_machine.specs.Image.{StopsIn};
+ghost use Rattle.flat_machine.specs.Pinning.{IsReturning, IsStanding};
+ghost use Rattle.flat_machine.specs.Leading.{HasAllLocals, MayCall, WaitsAtCall};
+ghost use Rattle.flat_machine.specs.Instructions.{CallsAlone, ReturnsAlone, StopsAtCall, StopsAtReturn};
 
 use crate::state::State;
 use crate::words::{address_in, integer_in};
 use byte_memory::Steps;
-use flat_code::{Code, Entry, Instr, Op};
+use flat_code::{Code, Entry, Instr};
 use flat_objects::Word;
 use hs_base::{End, IntKind, Line};
 use std::sync::ledger::Ledger;
@@ -56,8 +49,8 @@ impl State {
         requires here { slice_get code.now.funcs instr.b ≡ Some callee.now }
         requires may { MayCall code.now instr self.old }
         requires standing { IsStanding self.old }
-        ensures alone { (fits : ℕ → Bool) (places : ℕ → ℕ) (c : CodeState) → Stands places c self.old → CountsWell self.old c → Alone places c self.old (act code.now fits line instr Op.Call c.handed c.numbers c.state) self.new result }
-        ensures image { (fits : ℕ → Bool) (places : ℕ → ℕ) (c : CodeState) → HasPins code.now self.old.pins → Stands places c self.old → CountsWell self.old c → IfErr result (StopsIn code.now (act code.now fits line instr Op.Call c.handed c.numbers c.state) self.new) }
+        ensures alone { CallsAlone code.now self.old self.new line instr result }
+        ensures image { StopsAtCall code.now self.old self.new line instr result }
     {
         if !self.take_step() {
             return Err(End::Spent);
@@ -84,8 +77,8 @@ impl State {
         requires call { WaitsAtCall code.now self.old.calls.waiting }
         requires locals { HasAllLocals code.now self.old.calls }
         requires returns { IsReturning self.old answer }
-        ensures alone { (places : ℕ → ℕ) (c : CodeState) (v : Value) → Stands places c self.old → CountsWell self.old c → StandsFor places c.state.objects v answer → Alone places c self.old (give_back code.now line v c.numbers c.state) self.new result }
-        ensures image { (places : ℕ → ℕ) (c : CodeState) (v : Value) → HasPins code.now self.old.pins → Stands places c self.old → CountsWell self.old c → StandsFor places c.state.objects v answer → IfErr result (StopsIn code.now (give_back code.now line v c.numbers c.state) self.new) }
+        ensures alone { ReturnsAlone code.now self.old self.new line answer result }
+        ensures image { StopsAtReturn code.now self.old self.new line answer result }
     {
         if let Some(local) = self.end_locals(address_in(answer), steps) {
             return Err(End::Escape {

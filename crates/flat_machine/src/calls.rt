@@ -1,11 +1,11 @@
 //! The active calls.
 
-ghost use Rattle.std.specs.Prelude.{◌≡◌, ◌+◌, ◌*◌, ◌/◌, ◌<◌, ◌≤◌, ◌^◌, ◌++◌, [], ◌∷◌, IfOk, IsTrue, false, map, drop, take, length, slice_index, slice_index_or};
-ghost use Rattle.flat_machine.specs.Kept.{Active, GoesBack, Kept, at_point, call_number, onward, put, taken_by, with_local};
-ghost use Rattle.flat_machine.specs.Words.{no_word, first_word};
+ghost use Rattle.std.specs.Prelude.{◌≡◌, ◌+◌, ◌*◌, ◌/◌, ◌<◌, ◌≤◌, ◌^◌, [], IfOk, IsTrue, false, drop, take, length, slice_index, slice_index_or};
+ghost use Rattle.flat_machine.specs.Kept.{Active, GoesBack, at_point, call_number, onward, put, taken_by, with_local};
+ghost use Rattle.flat_machine.specs.Words.{no_word};
 ghost use Rattle.flat_code.specs.WellFormed.{IsWellFormed};
 ghost use Rattle.flat_machine.specs.Operations.{AreGathered};
-ghost use Rattle.flat_machine.specs.Advancing.{Advances, Runs, RunsAt};
+ghost use Rattle.flat_machine.specs.Calls.{CallsAdvance, RunsCalls, called, frame_with, fresh_frame, only_call};
 
 use crate::call::Call;
 use crate::going::go;
@@ -81,7 +81,7 @@ impl Calls {
     ) -> Result<Calls, NoMemory>
         requires cost { 16 + 8 * length kinds.now ≤ cost }
         requires room { cost ≤ room }
-        ensures { IfOk result (λ c. c ≡ record { running = record { func = func; point = point; words = map first_word kinds.now; first = first; locals = [] }; waiting = []; used = cost; saved = []; room = room }) }
+        ensures { IfOk result (λ c. c ≡ only_call (fresh_frame func point kinds.now first) cost room) }
     {
         let mut words = Vec::with_capacity(alloc, room as usize / 8)?;
         let waiting = Vec::with_capacity(alloc, room as usize / 16)?;
@@ -283,7 +283,7 @@ impl Calls {
         requires room { self.old.used + cost ≤ self.old.room }
         requires cost { 16 + 8 * length kinds.now ≤ cost }
         requires arguments { length args.now ≤ length kinds.now }
-        ensures { self.new ≡ record { running = record { func = func; point = point; words = args.now ++ map first_word (drop (length args.now) kinds.now); first = first; locals = [] }; waiting = self.old.running ∷ self.old.waiting; used = self.old.used + cost; saved = self.old.used ∷ self.old.saved; room = self.old.room } }
+        ensures { self.new ≡ called self.old (frame_with func point kinds.now args.now first) cost }
     {
         let caller = self.running;
         let base = self.words.len();
@@ -312,8 +312,8 @@ impl Calls {
     ) -> u64
         requires formed { IsWellFormed code.now }
         requires gathered { AreGathered code.now turns.now }
-        requires runs { Runs code.now statics.now self.old.running.locals self.old.running.words objects.old self.old.running.point left }
-        ensures { (kept : Kept) → kept.calls ≡ self.old → RunsAt code.now statics.now self.old.running.locals self.old.running.words objects.old self.old.running.point left kept → Advances code.now kept (record kept { memory = objects.new; calls = self.new; steps = result }) }
+        requires runs { RunsCalls code.now statics.now self.old objects.old left }
+        ensures { CallsAdvance code.now statics.now self.old objects.old left self.new objects.new result }
     {
         let (point, left) = go(
             code,

@@ -2,8 +2,7 @@
 
 ghost use Rattle.std.specs.Prelude.{◌≡◌, ◌≤◌, ◌<◌, ◌^◌, ◌+◌, ◌++◌, ◌⊎◌, [], ℕ, List, Option, Some, None, Ok, Err, IfOk, IfErr, IsTrue, false, drop, take, length};
 ghost use Rattle.hs_base.specs.Outside.{CountsFaults, TakesByte};
-ghost use Rattle.flat_machine.specs.Noting.{IsAtByte, bytes_put, left_behind, marks_of, reads_in};
-ghost use Rattle.flat_machine.specs.Faults.{CountsRead, Finishes};
+ghost use Rattle.flat_machine.specs.Noting.{IsAtByte, bytes_put, marks_of, reads_in, ReadsOn};
 ghost use Rattle.hs_base.specs.declared.ends.End.TheVariants as end;
 ghost use Rattle.flat_machine.specs.declared.fault.Fault.TheVariants as fault;
 
@@ -60,7 +59,7 @@ fn pass<I: Source>(page: &mut Page, input: &mut I, done: &Log, put: usize) -> Lo
     ensures notes { result.notes ++ page.new.notes ≡ done.now.notes ++ page.old.notes }
     ensures bytes { bytes_put result.notes ≡ bytes_put done.now.notes ++ take put (bytes_put page.old.notes) }
     ensures rest { bytes_put page.new.notes ≡ drop put (bytes_put page.old.notes) }
-    ensures left { (l : List ℕ) → I.left input.old ≡ Some (drop (reads_in done.now.notes) l) → I.left input.new ≡ Some (drop (reads_in result.notes) l) }
+    ensures left { ReadsOn (I.left input.old) (I.left input.new) done.now.notes result.notes }
     ensures ahead { reads_in page.new.notes ≤ length (I.fetched input.new) }
     ensures faults { I.faults input.new ≡ I.faults input.old }
     ensures at_byte { IsAtByte page.new }
@@ -76,6 +75,8 @@ fn pass<I: Source>(page: &mut Page, input: &mut I, done: &Log, put: usize) -> Lo
 }
 
 impl<'i, 'o, I: Source, O: Sink, K: Lent> Console<'i, 'o, I, O, K> {
+    ghost use Rattle.flat_machine.specs.Consoles.{CountsFinish, CountsReadOf, Settles, bytes_waiting, input_left, noted};
+
     /// An input and an output as they were lent: nothing is noted.
     pub(crate) fn new(input: &'i mut I, out: &'o mut O) -> Console<'i, 'o, I, O, K>
         requires same_input { input.ghost_name ≡ K.input_loan }
@@ -100,9 +101,9 @@ impl<'i, 'o, I: Source, O: Sink, K: Lent> Console<'i, 'o, I, O, K> {
     fn put_some(&mut self) -> Result<bool, Failed>
         requires count { O.faults self.old.out.now + 1 < 2 ^ 64 }
         requires at_byte { IsAtByte self.old.page }
-        ensures notes { self.new.done.notes ++ self.new.page.notes ≡ self.old.done.notes ++ self.old.page.notes }
+        ensures notes { noted self.new ≡ noted self.old }
         ensures at_byte { IsAtByte self.new.page }
-        ensures more { IfOk result (λ more. IsTrue more → length (bytes_put self.new.page.notes) < length (bytes_put self.old.page.notes)) }
+        ensures more { IfOk result (λ more. IsTrue more → bytes_waiting self.new < bytes_waiting self.old) }
         ensures none { IfOk result (λ more. more ≡ false → self.new.page.notes ≡ []) }
         ensures cause { CountsFaults (O.faults self.old.out.now) (O.faults self.new.out.now) result }
         ensures faults { I.faults self.new.input.now ≡ I.faults self.old.input.now }
@@ -121,7 +122,7 @@ impl<'i, 'o, I: Source, O: Sink, K: Lent> Console<'i, 'o, I, O, K> {
     #[inline(never)]
     pub(crate) fn flush(&mut self) -> Result<(), Failed>
         requires count { O.faults self.old.out.now + 1 < 2 ^ 64 }
-        ensures notes { self.new.done.notes ++ self.new.page.notes ≡ self.old.done.notes ++ self.old.page.notes }
+        ensures notes { noted self.new ≡ noted self.old }
         ensures empty { IfOk result (λ _. self.new.page.notes ≡ []) }
         ensures room { IfOk result (λ _. self.new.page.room ≡ 4096) }
         ensures cause { CountsFaults (O.faults self.old.out.now) (O.faults self.new.out.now) result }
@@ -135,7 +136,7 @@ impl<'i, 'o, I: Source, O: Sink, K: Lent> Console<'i, 'o, I, O, K> {
     /// Puts all that waits where there is no room for another note.
     fn make_room(&mut self) -> Result<(), Failed>
         requires count { O.faults self.old.out.now + 1 < 2 ^ 64 }
-        ensures notes { self.new.done.notes ++ self.new.page.notes ≡ self.old.done.notes ++ self.old.page.notes }
+        ensures notes { noted self.new ≡ noted self.old }
         ensures room { IfOk result (λ _. 0 < self.new.page.room) }
         ensures cause { CountsFaults (O.faults self.old.out.now) (O.faults self.new.out.now) result }
         ensures faults { I.faults self.new.input.now ≡ I.faults self.old.input.now }
@@ -152,11 +153,11 @@ impl<'i, 'o, I: Source, O: Sink, K: Lent> Console<'i, 'o, I, O, K> {
     fn fetch(&mut self) -> Result<Option<u8>, Fault>
         requires input { I.faults self.old.input.now + 1 < 2 ^ 64 }
         requires out { O.faults self.old.out.now + 1 < 2 ^ 64 }
-        ensures bytes { IfOk result (λ byte. TakesByte (left_behind K.left (self.old.done.notes ++ self.old.page.notes)) (left_behind K.left (self.new.done.notes ++ self.new.page.notes)) (Ok byte)) }
-        ensures notes { IfOk result (λ byte. self.new.done.notes ++ self.new.page.notes ≡ (self.old.done.notes ++ self.old.page.notes) ++ marks_of byte) }
-        ensures failed { IfErr result (λ _. self.new.done.notes ++ self.new.page.notes ≡ self.old.done.notes ++ self.old.page.notes) }
+        ensures bytes { IfOk result (λ byte. TakesByte (input_left self.old) (input_left self.new) (Ok byte)) }
+        ensures notes { IfOk result (λ byte. noted self.new ≡ noted self.old ++ marks_of byte) }
+        ensures failed { IfErr result (λ _. noted self.new ≡ noted self.old) }
         ensures settled { result ≡ Err fault.Input → self.new.page.notes ≡ [] }
-        ensures cause { CountsRead result (I.faults self.old.input.now) (I.faults self.new.input.now) (O.faults self.old.out.now) (O.faults self.new.out.now) }
+        ensures cause { CountsReadOf self.old self.new result }
     {
         self.flush()?;
         match self.input.next() {
@@ -177,11 +178,11 @@ impl<'i, 'o, I: Source, O: Sink, K: Lent> Console<'i, 'o, I, O, K> {
     pub(crate) fn next(&mut self) -> Result<Option<u8>, Fault>
         requires input { I.faults self.old.input.now + 1 < 2 ^ 64 }
         requires out { O.faults self.old.out.now + 1 < 2 ^ 64 }
-        ensures bytes { IfOk result (λ byte. TakesByte (left_behind K.left (self.old.done.notes ++ self.old.page.notes)) (left_behind K.left (self.new.done.notes ++ self.new.page.notes)) (Ok byte)) }
-        ensures notes { IfOk result (λ byte. self.new.done.notes ++ self.new.page.notes ≡ (self.old.done.notes ++ self.old.page.notes) ++ marks_of byte) }
-        ensures failed { IfErr result (λ _. self.new.done.notes ++ self.new.page.notes ≡ self.old.done.notes ++ self.old.page.notes) }
+        ensures bytes { IfOk result (λ byte. TakesByte (input_left self.old) (input_left self.new) (Ok byte)) }
+        ensures notes { IfOk result (λ byte. noted self.new ≡ noted self.old ++ marks_of byte) }
+        ensures failed { IfErr result (λ _. noted self.new ≡ noted self.old) }
         ensures settled { result ≡ Err fault.Input → self.new.page.notes ≡ [] }
-        ensures cause { CountsRead result (I.faults self.old.input.now) (I.faults self.new.input.now) (O.faults self.old.out.now) (O.faults self.new.out.now) }
+        ensures cause { CountsReadOf self.old self.new result }
     {
         if !self.page.is_full() {
             if let Some(byte) = self.input.ready().get(self.page.reads()) {
@@ -197,10 +198,10 @@ impl<'i, 'o, I: Source, O: Sink, K: Lent> Console<'i, 'o, I, O, K> {
     /// put.
     pub(crate) fn finish(&mut self, stopped: End) -> End
         requires count { (stopped ≡ end.OutputFault → ⊥) → O.faults self.old.out.now + 1 < 2 ^ 64 }
-        ensures notes { self.new.done.notes ++ self.new.page.notes ≡ self.old.done.notes ++ self.old.page.notes }
+        ensures notes { noted self.new ≡ noted self.old }
         ensures end { (result ≡ stopped) ⊎ (result ≡ end.OutputFault) }
-        ensures settled { (stopped ≡ end.InputFault → self.old.page.notes ≡ []) → (self.new.page.notes ≡ []) ⊎ (result ≡ end.OutputFault) }
-        ensures faults { Finishes stopped result (I.faults self.old.input.now) (I.faults self.new.input.now) (O.faults self.old.out.now) (O.faults self.new.out.now) }
+        ensures settled { Settles self.old self.new stopped result }
+        ensures faults { CountsFinish self.old self.new stopped result }
     {
         match stopped {
             End::InputFault | End::OutputFault => stopped,

@@ -1,23 +1,12 @@
 //! Instructions that free objects, and the scopes in which a free waits (this project's own: C99 7.20.3.2 leaves a pointer to a
 //! freed object indeterminate).
 
-ghost use Rattle.std.specs.Prelude.{◌≡◌, ◌+◌, ◌-◌, ◌<◌, ◌^◌, [], ℕ, Bool, IfErr};
-ghost use Rattle.hs_base.specs.declared.ends.End.TheVariants as end;
-ghost use Rattle.hs_base.specs.State.{State as Situation};
-ghost use Rattle.flat_code.specs.declared.program.Code.{Code as Program};
+ghost use Rattle.std.specs.Prelude.{◌≡◌, ◌+◌, ◌-◌, ◌<◌, ◌^◌};
 ghost use Rattle.flat_code.specs.declared.instructions.Op.TheVariants as ops;
-ghost use Rattle.object_meaning.specs.objects.Values.{pointer_at};
-ghost use Rattle.object_meaning.specs.code.CodeState.{CodeState};
-ghost use Rattle.object_meaning.specs.code.CodeMeaning.{act};
-ghost use Rattle.object_meaning.specs.code.Checking.{checked, leave};
-ghost use Rattle.object_meaning.specs.code.Freeing.{free};
 ghost use Rattle.flat_machine.specs.Words.{address_at};
-ghost use Rattle.flat_machine.specs.Standing.{Stands};
-ghost use Rattle.flat_machine.specs.Pinning.{CountsWell, IsStanding};
-ghost use Rattle.flat_machine.specs.Loaded.{HasPins};
+ghost use Rattle.flat_machine.specs.Pinning.{IsStanding};
 ghost use Rattle.flat_machine.specs.Groups.{IsFreeing};
-ghost use Rattle.flat_machine.specs.Image.{StopsIn};
-ghost use Rattle.flat_machine.specs.Leading.{Alone, Checks};
+ghost use Rattle.flat_machine.specs.Instructions.{ActsFreeing, FreesHanded, LeavesScope, PassesCheck, StopsAtCheck, StopsAtFree, StopsAtFreeing, StopsAtLeave};
 
 use crate::state::State;
 use byte_memory::Steps;
@@ -32,8 +21,8 @@ impl State {
         requires point { self.old.calls.running.point + 1 < 2 ^ 64 }
         requires open { self.old.memory.scopes.depth ≡ 1 }
         requires standing { IsStanding self.old }
-        ensures checks { (code : Program) (first : ℕ → ℕ) (before : Situation) (places : ℕ → ℕ) (c : CodeState) → HasPins code self.old.pins → Stands places c self.old → CountsWell self.old c → Checks places c self.old (checked code first before [] c.numbers c.state) self.new result }
-        ensures image { (code : Program) (first : ℕ → ℕ) (before : Situation) (places : ℕ → ℕ) (c : CodeState) → HasPins code self.old.pins → Stands places c self.old → CountsWell self.old c → IfErr result (λ held. StopsIn code (checked code first before [] c.numbers c.state) self.new (end.BadFree held.0 held.1)) }
+        ensures checks { PassesCheck self.old self.new result }
+        ensures image { StopsAtCheck self.old self.new result }
     {
         self.pin(steps);
         match self.close_scope(steps) {
@@ -59,8 +48,8 @@ impl State {
         requires standing { IsStanding self.old }
         requires address { addr ≡ address_at self.old.handed 0 }
         requires some { 0 < addr }
-        ensures alone { (code : Program) (places : ℕ → ℕ) (c : CodeState) → HasPins code self.old.pins → Stands places c self.old → CountsWell self.old c → Alone places c self.old (free code line (pointer_at c.handed 0) c.numbers c.state) self.new result }
-        ensures image { (code : Program) (places : ℕ → ℕ) (c : CodeState) → HasPins code self.old.pins → Stands places c self.old → CountsWell self.old c → IfErr result (StopsIn code (free code line (pointer_at c.handed 0) c.numbers c.state) self.new) }
+        ensures alone { FreesHanded self.old self.new line result }
+        ensures image { StopsAtFree self.old self.new line result }
     {
         if let Err(reason) = self.may_free(addr, steps) {
             return Err(End::BadFree(BadFree { reason, line }, None));
@@ -87,8 +76,8 @@ impl State {
         requires standing { IsStanding self.old }
         requires address { addr ≡ address_at self.old.handed 0 }
         requires some { 0 < addr }
-        ensures alone { (code : Program) (places : ℕ → ℕ) (c : CodeState) → HasPins code self.old.pins → Stands places c self.old → CountsWell self.old c → Alone places c self.old (free code line (pointer_at c.handed 0) c.numbers c.state) self.new result }
-        ensures image { (code : Program) (places : ℕ → ℕ) (c : CodeState) → HasPins code self.old.pins → Stands places c self.old → CountsWell self.old c → IfErr result (StopsIn code (free code line (pointer_at c.handed 0) c.numbers c.state) self.new) }
+        ensures alone { FreesHanded self.old self.new line result }
+        ensures image { StopsAtFree self.old self.new line result }
     {
         if let Err(bad) = self.queue(addr, line, steps) {
             return Err(End::BadFree(bad, None));
@@ -107,8 +96,8 @@ impl State {
         requires point { self.old.calls.running.point + 1 < 2 ^ 64 }
         requires standing { IsStanding self.old }
         requires address { addr ≡ address_at self.old.handed 0 }
-        ensures alone { (code : Program) (places : ℕ → ℕ) (c : CodeState) → HasPins code self.old.pins → Stands places c self.old → CountsWell self.old c → Alone places c self.old (free code line (pointer_at c.handed 0) c.numbers c.state) self.new result }
-        ensures image { (code : Program) (places : ℕ → ℕ) (c : CodeState) → HasPins code self.old.pins → Stands places c self.old → CountsWell self.old c → IfErr result (StopsIn code (free code line (pointer_at c.handed 0) c.numbers c.state) self.new) }
+        ensures alone { FreesHanded self.old self.new line result }
+        ensures image { StopsAtFree self.old self.new line result }
     {
         if addr == 0 {
             self.go_on();
@@ -126,8 +115,8 @@ impl State {
         requires point { self.old.calls.running.point + 1 < 2 ^ 64 }
         requires open { 0 < self.old.memory.scopes.depth }
         requires standing { IsStanding self.old }
-        ensures alone { (code : Program) (places : ℕ → ℕ) (c : CodeState) → HasPins code self.old.pins → Stands places c self.old → CountsWell self.old c → Alone places c self.old (leave code c.state.scopes c.numbers c.state) self.new result }
-        ensures image { (code : Program) (places : ℕ → ℕ) (c : CodeState) → HasPins code self.old.pins → Stands places c self.old → CountsWell self.old c → IfErr result (StopsIn code (leave code c.state.scopes c.numbers c.state) self.new) }
+        ensures alone { LeavesScope self.old self.new result }
+        ensures image { StopsAtLeave self.old self.new result }
     {
         if self.scopes() == 1 {
             return match self.check(steps) {
@@ -153,8 +142,8 @@ impl State {
         requires deep { self.old.memory.scopes.depth < 2 ^ 64 - 1 }
         requires open { op ≡ ops.Leave → 0 < self.old.memory.scopes.depth }
         requires standing { IsStanding self.old }
-        ensures alone { (code : Program) (fits : ℕ → Bool) (places : ℕ → ℕ) (c : CodeState) → HasPins code self.old.pins → Stands places c self.old → CountsWell self.old c → Alone places c self.old (act code fits line instr op c.handed c.numbers c.state) self.new result }
-        ensures image { (code : Program) (fits : ℕ → Bool) (places : ℕ → ℕ) (c : CodeState) → HasPins code self.old.pins → Stands places c self.old → CountsWell self.old c → IfErr result (StopsIn code (act code fits line instr op c.handed c.numbers c.state) self.new) }
+        ensures alone { ActsFreeing self.old self.new line instr op result }
+        ensures image { StopsAtFreeing self.old self.new line instr op result }
     {
         match op {
             Op::Free => self.free(line, self.address(0), steps),

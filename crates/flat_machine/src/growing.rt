@@ -1,22 +1,11 @@
 //! Objects that grow (C99 7.20.3.4).
 
-ghost use Rattle.std.specs.Prelude.{◌≡◌, ◌+◌, ◌<◌, ◌^◌, ℕ, IfErr, Some, slice_get};
-ghost use Rattle.c_types.specs.declared.layouts.Layout.{Layout};
-ghost use Rattle.adjusters.specs.ObjectSlots.{element_of};
-ghost use Rattle.flat_code.specs.declared.program.Code.{Code as Program};
+ghost use Rattle.std.specs.Prelude.{◌≡◌, ◌+◌, ◌<◌, ◌^◌};
 ghost use Rattle.flat_code.specs.declared.instructions.Op.TheVariants as ops;
-ghost use Rattle.object_meaning.specs.objects.Values.{pointer_at};
-ghost use Rattle.object_meaning.specs.code.CodeState.{CodeState};
-ghost use Rattle.object_meaning.specs.code.CodeMeaning.{act};
-ghost use Rattle.object_meaning.specs.code.Entering.{layout_in};
-ghost use Rattle.object_meaning.specs.code.Freeing.{grow};
 ghost use Rattle.flat_machine.specs.Words.{address_at};
-ghost use Rattle.flat_machine.specs.Standing.{Stands, fits_now};
-ghost use Rattle.flat_machine.specs.Pinning.{CountsWell};
-ghost use Rattle.flat_machine.specs.Loaded.{HasPins};
-ghost use Rattle.flat_machine.specs.Growing.{IsBefore, without_register};
-ghost use Rattle.flat_machine.specs.Image.{StopsIn};
-ghost use Rattle.flat_machine.specs.Leading.{Alone};
+ghost use Rattle.flat_machine.specs.Growing.{IsBefore};
+ghost use Rattle.flat_machine.specs.Instructions.{ActsGrowing, GrowsHanded, StopsAtGrowing, StopsAtGrowth};
+ghost use Rattle.flat_machine.specs.StateMemory.{HasForm};
 
 use crate::making::size_in;
 use crate::state::State;
@@ -41,12 +30,12 @@ impl State {
     ) -> Result<(), End>
         requires point { self.old.calls.running.point + 1 < 2 ^ 64 }
         requires births { self.old.births + 1 < 2 ^ 64 }
-        requires form { (element : Layout) × (slice_get self.old.memory.forms instr.b ≡ Some (element_of element)) }
+        requires form { HasForm self.old.memory instr.b }
         requires standing { IsBefore instr ops.Realloc self.old }
         requires address { from ≡ address_at self.old.handed 0 }
         requires some { 0 < from }
-        ensures alone { (code : Program) (element : Layout) (places : ℕ → ℕ) (c : CodeState) → HasPins code self.old.pins → Stands places c self.old → CountsWell self.old (without_register instr.a c) → slice_get self.old.memory.forms instr.b ≡ Some (element_of element) → Alone places c self.old (grow code (fits_now places c self.old) line instr.a (pointer_at c.handed 0) size element c.numbers c.state) self.new result }
-        ensures image { (code : Program) (element : Layout) (places : ℕ → ℕ) (c : CodeState) → HasPins code self.old.pins → Stands places c self.old → CountsWell self.old (without_register instr.a c) → slice_get self.old.memory.forms instr.b ≡ Some (element_of element) → IfErr result (StopsIn code (grow code (fits_now places c self.old) line instr.a (pointer_at c.handed 0) size element c.numbers c.state) self.new) }
+        ensures alone { GrowsHanded self.old self.new line instr size result }
+        ensures image { StopsAtGrowth self.old self.new line instr size result }
     {
         if let Err(reason) = self.may_free(from, steps) {
             return Err(End::BadFree(BadFree { reason, line }, None));
@@ -73,10 +62,10 @@ impl State {
     ) -> Result<(), End>
         requires point { self.old.calls.running.point + 1 < 2 ^ 64 }
         requires births { self.old.births + 1 < 2 ^ 64 }
-        requires form { (element : Layout) × (slice_get self.old.memory.forms instr.b ≡ Some (element_of element)) }
+        requires form { HasForm self.old.memory instr.b }
         requires standing { IsBefore instr ops.Realloc self.old }
-        ensures alone { (code : Program) (places : ℕ → ℕ) (c : CodeState) → HasPins code self.old.pins → Stands places c self.old → CountsWell self.old (without_register instr.a c) → slice_get self.old.memory.forms instr.b ≡ Some (element_of (layout_in code instr.b)) → Alone places c self.old (act code (fits_now places c self.old) line instr ops.Realloc c.handed c.numbers c.state) self.new result }
-        ensures image { (code : Program) (places : ℕ → ℕ) (c : CodeState) → HasPins code self.old.pins → Stands places c self.old → CountsWell self.old (without_register instr.a c) → slice_get self.old.memory.forms instr.b ≡ Some (element_of (layout_in code instr.b)) → IfErr result (StopsIn code (act code (fits_now places c self.old) line instr ops.Realloc c.handed c.numbers c.state) self.new) }
+        ensures alone { ActsGrowing self.old self.new line instr result }
+        ensures image { StopsAtGrowing self.old self.new line instr result }
     {
         let size = size_in(self.integer(1));
         let from = self.address(0);

@@ -1,13 +1,10 @@
 //! Instructions that hand a value over.
 
-ghost use Rattle.std.specs.Prelude.{◌≡◌, ◌+◌, ◌<◌, ◌^◌, ℕ, Bool, length};
-ghost use Rattle.flat_code.specs.declared.program.Code.{Code as Program};
+ghost use Rattle.std.specs.Prelude.{◌≡◌, ◌+◌, ◌<◌, ◌^◌, length};
 ghost use Rattle.flat_code.specs.declared.instructions.Op.TheVariants as ops;
-ghost use Rattle.object_meaning.specs.code.CodeState.{CodeState};
-ghost use Rattle.object_meaning.specs.code.CodeMeaning.{hand_or_act, handed_value, unsigned};
-ghost use Rattle.flat_machine.specs.Standing.{Stands};
+ghost use Rattle.object_meaning.specs.code.CodeMeaning.{unsigned};
 ghost use Rattle.flat_machine.specs.Groups.{IsHanding};
-ghost use Rattle.flat_machine.specs.Leading.{Alone, HandsFresh};
+ghost use Rattle.flat_machine.specs.Instructions.{HandsAlone};
 
 use crate::state::State;
 use flat_code::{Instr, Op};
@@ -29,7 +26,7 @@ impl State {
         requires handing { IsHanding op }
         requires here { op ≡ ops.HandStatic → instr.a < length self.old.statics }
         requires local { op ≡ ops.HandLocal → instr.a < length self.old.calls.running.locals }
-        ensures { (code : Program) (fits : ℕ → Bool) (line : ℕ) (places : ℕ → ℕ) (c : CodeState) → Stands places c self.old → HandsFresh instr op c → Alone places c self.old (hand_or_act code fits line instr (handed_value c.state.running instr op) c) self.new (Ok tt) }
+        ensures { HandsAlone self.old self.new instr op }
     {
         match op {
             Op::HandReg => {

@@ -1,34 +1,23 @@
 //! The first holder of an object that is held, which is searched once, where a bad free ends the run.
 
-ghost use Rattle.std.specs.Prelude.{◌≡◌, ◌<◌, ◌^◌, ◌∷◌, ◌++◌, [], ℕ, List, MatchOption, Some, find, reverse};
-ghost use Rattle.std.specs.List.{flat_map};
-ghost use Rattle.hs_base.specs.Freeing.{is_pointer_to};
-ghost use Rattle.hs_base.specs.Object.{Object};
-ghost use Rattle.hs_base.specs.State.{Frame as Situation};
-ghost use Rattle.object_meaning.specs.objects.Holding.{first_of};
-ghost use Rattle.object_meaning.specs.counted.Pinning.{pointer_of_register};
-ghost use Rattle.object_meaning.specs.code.CodeState.{CodeState};
-ghost use Rattle.flat_objects.specs.Standing.{IsThere};
-ghost use Rattle.flat_objects.specs.Keeping.{KeepsAt, IsKept};
+ghost use Rattle.std.specs.Prelude.{◌≡◌, ◌<◌, ◌^◌, Some};
+ghost use Rattle.flat_objects.specs.Keeping.{IsKept};
 ghost use Rattle.flat_machine.specs.Kept.{call_number};
-ghost use Rattle.flat_objects.specs.Holders.{IsIn, holder_of};
-ghost use Rattle.flat_machine.specs.Pinning.{HasSorts, IsNamed, IsNoOwn, IsOwner, NamesHeld};
-ghost use Rattle.flat_machine.specs.Holding.{HoldsIn, IsHolding, in_frame};
-ghost use Rattle.flat_machine.specs.Loaded.{HasPins};
-ghost use Rattle.flat_code.specs.declared.program.Code.{Code as Program};
-ghost use Rattle.object_meaning.specs.code.Checking.{holders};
+ghost use Rattle.flat_machine.specs.Pinning.{IsNamed};
+ghost use Rattle.flat_machine.specs.Holding.{IsHolding};
+ghost use Rattle.flat_machine.specs.FirstHolder.{IsFirstInCalls, IsFirstOfAll, IsFirstRegister, IsHolderOf, IsOwnerOf, LeadsToStart};
 
 use crate::calls::Calls;
 use crate::state::State;
 use crate::words::address_in;
 use byte_memory::Steps;
 use flat_objects::{FlatObjects, Holding};
-use hs_base::{Holder, Pointer};
+use hs_base::Holder;
 use std::sync::ledger::Ledger;
 
 /// The memory local of a birth: the number of its function and its own, if it is one of these calls.
 fn owner_of(calls: &Calls, birth: u64) -> Option<(u32, u32)>
-    ensures { MatchOption result (IsNoOwn calls.now birth) (λ local. IsOwner calls.now birth local.0 local.1) }
+    ensures { IsOwnerOf calls.now birth result }
 {
     calls.all_fit();
     let waiting = calls.waiting();
@@ -45,7 +34,7 @@ fn owner_of(calls: &Calls, birth: u64) -> Option<(u32, u32)>
 /// these calls or of the heap.
 pub(crate) fn inside_holder(found: Holding, statics: usize, calls: &Calls) -> Holder
     requires { statics < 2 ^ 32 }
-    ensures { (objects : List Object) → HasSorts objects statics calls.now → IsIn objects found → result ≡ holder_of objects found }
+    ensures { IsHolderOf statics calls.now found result }
 {
     if found.birth < statics as u64 {
         return Holder::Global {
@@ -70,7 +59,7 @@ pub(crate) fn inside_holder(found: Holding, statics: usize, calls: &Calls) -> Ho
 fn leads_to<L: Ledger>(objects: &FlatObjects, addr: u32, start: u32, steps: &mut Steps<L>) -> bool
     requires one { IsKept objects.now addr }
     requires other { IsKept objects.now start }
-    ensures { (places : ℕ → ℕ) (all : List Object) (p : Pointer) (birth : ℕ) → KeepsAt objects.now places all p addr → IsThere all birth → start ≡ places birth → result ≡ is_pointer_to birth p }
+    ensures { LeadsToStart objects.now addr start result }
 {
     objects.difference(addr, start, 1, steps).is_ok()
 }
@@ -86,7 +75,7 @@ pub(crate) fn first_register<L: Ledger>(
     steps: &mut Steps<L>,
 ) -> Option<u32>
     requires { IsHolding objects.now (call_number calls.now k) registers.now start }
-    ensures { (places : ℕ → ℕ) (all : List Object) (frame : Situation) (birth : ℕ) → HoldsIn objects.now places all frame (call_number calls.now k) registers.now birth start → result ≡ find (λ r. is_pointer_to birth (pointer_of_register frame r)) registers.now }
+    ensures { IsFirstRegister objects.now (call_number calls.now k) registers.now start result }
 {
     for i in 0..registers.len() {
         let addr = address_in(calls.word_of(k, registers[i]));
@@ -103,7 +92,7 @@ impl State {
     fn holder_in_calls<L: Ledger>(&self, start: u32, steps: &mut Steps<L>) -> Option<Holder>
         requires named { IsNamed self.now }
         requires start { self.now.memory.scopes.named ≡ Some start }
-        ensures { (places : ℕ → ℕ) (c : CodeState) (birth : ℕ) → NamesHeld places c birth self.now → result ≡ first_of (flat_map (in_frame self.now.pins birth) (reverse c.state.waiting ++ c.state.running ∷ [])) }
+        ensures { IsFirstInCalls self.now result }
     {
         let waiting = self.waiting();
         for k in 0..waiting {
@@ -118,7 +107,7 @@ impl State {
     /// the calls, from the oldest on.
     pub(crate) fn first_holder<L: Ledger>(&self, steps: &mut Steps<L>) -> Option<Holder>
         requires { IsNamed self.now }
-        ensures { (code : Program) (places : ℕ → ℕ) (c : CodeState) (birth : ℕ) → HasPins code self.now.pins → NamesHeld places c birth self.now → result ≡ first_of (holders code c.state birth c.state.queue) }
+        ensures { IsFirstOfAll self.now result }
     {
         let Some(start) = self.held() else {
             unreachable!()

@@ -1,13 +1,9 @@
 //! Instructions that go to another instruction of the same function (C99 6.8.4, 6.8.5).
 
-ghost use Rattle.std.specs.Prelude.{◌≡◌, ◌+◌, ◌<◌, ◌^◌, ℕ, Bool, IfErr};
-ghost use Rattle.flat_code.specs.declared.program.Code.{Code as Program};
-ghost use Rattle.object_meaning.specs.code.CodeState.{CodeState};
-ghost use Rattle.object_meaning.specs.code.CodeMeaning.{act};
+ghost use Rattle.std.specs.Prelude.{◌≡◌, ◌+◌, ◌<◌, ◌^◌, IfErr};
 ghost use Rattle.flat_machine.specs.Kept.{branched};
-ghost use Rattle.flat_machine.specs.Standing.{Stands};
 ghost use Rattle.flat_machine.specs.Groups.{IsJump};
-ghost use Rattle.flat_machine.specs.Leading.{Alone};
+ghost use Rattle.flat_machine.specs.Instructions.{ActsAlone};
 
 use crate::arithmetic::is_zero;
 use crate::state::State;
@@ -33,7 +29,7 @@ impl State {
     pub(crate) fn act_jump(&mut self, line: Line, instr: Instr, op: Op) -> Result<(), End>
         requires point { self.old.calls.running.point + 1 < 2 ^ 64 }
         requires jump { IsJump op }
-        ensures alone { (code : Program) (fits : ℕ → Bool) (places : ℕ → ℕ) (c : CodeState) → Stands places c self.old → Alone places c self.old (act code fits line instr op c.handed c.numbers c.state) self.new result }
+        ensures alone { ActsAlone self.old self.new line instr op result }
         ensures unchanged { IfErr result (λ _. self.new ≡ self.old) }
     {
         match op {

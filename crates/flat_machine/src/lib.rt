@@ -13,6 +13,9 @@
 //! states that the machine stands for, and leads to a machine that stands for the state behind it. No instruction takes
 //! memory of the host, and none searches but one that makes an object, for its place in the heap.
 //!
+//! Contracts name such facts: what single instructions lead to in `specs/Instructions.antt`, what they write and read in
+//! `specs/Telling.antt`, and what the calls of a state do with its memory in `specs/StateMemory.antt`.
+//!
 //! What is written waits (`console.rt`) until the source has no byte at hand or the run ends. Where the output then fails, the input is
 //! moved to the place of the byte that failed, so that both stand at one front of the trace.
 #![tactic(auto)]

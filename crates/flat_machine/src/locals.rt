@@ -1,10 +1,9 @@
 //! The memory locals of a call that begins (C99 6.2.4).
 
-ghost use Rattle.std.specs.Prelude.{◌≡◌, ℕ, All, IsSome, length, slice_get};
-ghost use Rattle.object_meaning.specs.code.CodeState.{CodeState};
+ghost use Rattle.std.specs.Prelude.{◌≡◌, All, IsSome, slice_get};
 ghost use Rattle.object_meaning.specs.code.Entering.{layout_in};
-ghost use Rattle.flat_machine.specs.Locals.{HasMade, MayMakeLocals, StandsForSome};
-ghost use Rattle.flat_machine.specs.Standing.{Stands};
+ghost use Rattle.flat_machine.specs.Locals.{MayMakeLocals, StandsForSome};
+ghost use Rattle.flat_machine.specs.Instructions.{MakesLocals};
 
 use crate::state::State;
 use byte_memory::Steps;
@@ -35,7 +34,7 @@ impl State {
         requires there { All (λ n. IsSome (slice_get code.now.layouts n)) entry.now.mems }
         requires may { MayMakeLocals code.now entry.now self.old }
         requires standing { StandsForSome self.old }
-        ensures { (places : ℕ → ℕ) (c : CodeState) → Stands places c self.old → HasMade code.now entry.now places c (length entry.now.mems) self.old self.new }
+        ensures { MakesLocals code.now entry.now self.old self.new }
     {
         for k in 0..entry.mems.len() {
             let layout = entry.mems.as_slice()[k];

@@ -1,14 +1,12 @@
 //! The machine.
 
-ghost use Rattle.std.specs.Prelude.{◌≡◌, ◌+◌, ◌<◌, ◌≤◌, ◌^◌, ℕ, List, IfSome, None, Some};
+ghost use Rattle.std.specs.Prelude.{◌≡◌, ◌+◌, ◌<◌, ◌≤◌, ◌^◌, IfSome, None, Some};
 ghost use Rattle.flat_code.specs.WellFormed.{IsWellFormed};
 ghost use Rattle.meaning_laws.specs.code.Laws.{HoldsBytes};
-ghost use Rattle.flat_machine.specs.Machined.{IsOf, steps_made};
-ghost use Rattle.flat_machine.specs.Running.{RunAnswers, RunCounts};
-ghost use Rattle.flat_machine.specs.Lasting.{LeavesImage, MakesSteps};
-ghost use Rattle.hs_base.specs.Object.{Object};
-ghost use Rattle.flat_objects.specs.Keeping.{Keeps};
+ghost use Rattle.flat_machine.specs.Machined.{IsOf, steps_made, AnswersMeaning, LeavesImageOf, MakesStepsOf};
+ghost use Rattle.flat_machine.specs.Running.{RunCounts};
 ghost use Rattle.flat_objects.specs.Leaks.{KeepsSome, leak_after};
+ghost use Rattle.flat_objects.specs.Keeping.{ForKept};
 
 use crate::loaded::Loaded;
 use crate::running::whole_run;
@@ -77,10 +75,10 @@ impl Machine {
         requires budget { budget ≤ 1000000000 }
         requires input { I.faults input.old + 1 < 2 ^ 64 }
         requires out { O.faults out.old + 1 < 2 ^ 64 }
-        ensures told { self.old.ended ≡ None → (left taken : List ℕ) → I.left input.old ≡ Some left → O.taken out.old ≡ Some taken → RunAnswers code.now left budget (record { heap = self.old.kept.memory.heap.len; stack = self.old.stack }) taken result (I.left input.new) (O.taken out.new) }
-        ensures made { self.old.ended ≡ None → (left taken : List ℕ) → I.left input.old ≡ Some left → O.taken out.old ≡ Some taken → MakesSteps code.now left budget (record { heap = self.old.kept.memory.heap.len; stack = self.old.stack }) result (steps_made self.new) }
+        ensures told { AnswersMeaning code.now self.old budget (I.left input.old) (O.taken out.old) result (I.left input.new) (O.taken out.new) }
+        ensures made { MakesStepsOf code.now self.old budget (I.left input.old) (O.taken out.old) result (steps_made self.new) }
         ensures kept { self.old.ended ≡ None → KeepsSome self.new.kept.memory }
-        ensures left { self.old.ended ≡ None → (left taken : List ℕ) → I.left input.old ≡ Some left → O.taken out.old ≡ Some taken → LeavesImage code.now left budget (record { heap = self.old.kept.memory.heap.len; stack = self.old.stack }) result self.new.kept }
+        ensures left { LeavesImageOf code.now self.old budget (I.left input.old) (O.taken out.old) result self.new.kept }
         ensures faults { self.old.ended ≡ None → RunCounts result (I.faults input.old) (I.faults input.new) (O.faults out.old) (O.faults out.new) }
         ensures ends { self.new.ended ≡ Some result }
         ensures loaded { IsOf code.now self.new }
@@ -117,7 +115,7 @@ impl Machine {
     /// that it has not freed). Behind a run these are the objects of its last state.
     pub fn leak(&self, after: Line) -> Option<Leak>
         requires { KeepsSome self.now.kept.memory }
-        ensures { (places : ℕ → ℕ) (objects : List Object) → Keeps self.now.kept.memory places objects → result ≡ leak_after after objects }
+        ensures { ForKept self.now.kept.memory (λ _ all. result ≡ leak_after after all) }
     {
         self.state.leak::<Brand>(after, &self.right, Blank::new(1))
     }

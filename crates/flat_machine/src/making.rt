@@ -1,17 +1,9 @@
 //! Instructions that make objects of the heap (C99 7.20.3.1, 7.20.3.3).
 
-ghost use Rattle.std.specs.Prelude.{◌≡◌, ◌+◌, ◌<◌, ◌^◌, ℕ, Ok, Some, slice_get};
-ghost use Rattle.c_types.specs.declared.layouts.Layout.{Layout};
-ghost use Rattle.adjusters.specs.ObjectSlots.{element_of};
-ghost use Rattle.flat_code.specs.declared.program.Code.{Code as Program};
+ghost use Rattle.std.specs.Prelude.{◌≡◌, ◌+◌, ◌<◌, ◌^◌};
 ghost use Rattle.object_meaning.specs.objects.Values.{size_in};
-ghost use Rattle.object_meaning.specs.objects.Heap.{make};
-ghost use Rattle.object_meaning.specs.code.CodeState.{CodeState, same_numbers};
-ghost use Rattle.object_meaning.specs.code.Entering.{layout_in};
-ghost use Rattle.object_meaning.specs.code.CodeMeaning.{act};
-ghost use Rattle.flat_machine.specs.Standing.{Stands, fits_now};
 ghost use Rattle.flat_machine.specs.Groups.{IsMaking};
-ghost use Rattle.flat_machine.specs.Leading.{Alone};
+ghost use Rattle.flat_machine.specs.Instructions.{ActsMaking, MakesObject};
 
 use crate::state::State;
 use byte_memory::Steps;
@@ -40,7 +32,7 @@ impl State {
     )
         requires point { self.old.calls.running.point + 1 < 2 ^ 64 }
         requires births { self.old.births + 1 < 2 ^ 64 }
-        ensures { (element : Layout) (places : ℕ → ℕ) (c : CodeState) → Stands places c self.old → slice_get self.old.memory.forms layout ≡ Some (element_of element) → Alone places c self.old (same_numbers c.numbers (make (fits_now places c self.old) line r size element c.state)) self.new (Ok tt) }
+        ensures { MakesObject self.old self.new line r layout size }
     {
         match self.new_object(size, layout, line, steps) {
             Some(addr) => self.give(Some(r), Word::Address(addr)),
@@ -59,7 +51,7 @@ impl State {
         requires point { self.old.calls.running.point + 1 < 2 ^ 64 }
         requires making { IsMaking op }
         requires births { self.old.births + 1 < 2 ^ 64 }
-        ensures { (code : Program) (places : ℕ → ℕ) (c : CodeState) → Stands places c self.old → slice_get self.old.memory.forms instr.b ≡ Some (element_of (layout_in code instr.b)) → Alone places c self.old (act code (fits_now places c self.old) line instr op c.handed c.numbers c.state) self.new (Ok tt) }
+        ensures { ActsMaking self.old self.new line instr op }
     {
         let size = size_in(self.integer(0));
         match op {

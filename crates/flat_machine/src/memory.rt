@@ -1,16 +1,12 @@
 //! Instructions that read and write objects (C99 6.5.3.2, 6.5.16).
 
-ghost use Rattle.std.specs.Prelude.{◌≡◌, ◌+◌, ◌<◌, ◌^◌, ℕ, Bool, IfErr};
-ghost use Rattle.flat_code.specs.declared.program.Code.{Code as Program};
+ghost use Rattle.std.specs.Prelude.{◌≡◌, ◌+◌, ◌<◌, ◌^◌, IfErr};
 ghost use Rattle.flat_code.specs.declared.instructions.Op.TheVariants as ops;
 ghost use Rattle.flat_objects.specs.Keeping.{IsKept};
-ghost use Rattle.flat_objects.specs.Counting.{IsStorable};
-ghost use Rattle.object_meaning.specs.code.CodeState.{CodeState};
-ghost use Rattle.object_meaning.specs.code.CodeMeaning.{act};
 ghost use Rattle.flat_machine.specs.Words.{address_at};
-ghost use Rattle.flat_machine.specs.Standing.{Stands};
 ghost use Rattle.flat_machine.specs.Groups.{IsMemory};
-ghost use Rattle.flat_machine.specs.Leading.{Alone};
+ghost use Rattle.flat_machine.specs.Instructions.{ActsAlone};
+ghost use Rattle.flat_machine.specs.StateMemory.{MayStoreHanded};
 
 use crate::state::State;
 use byte_memory::Steps;
@@ -31,8 +27,8 @@ impl State {
         requires point { self.old.calls.running.point + 1 < 2 ^ 64 }
         requires memory { IsMemory op }
         requires kept { IsKept self.old.memory (address_at self.old.handed 0) }
-        requires stores { op ≡ ops.Storep → IsStorable self.old.memory (address_at self.old.handed 0) (address_at self.old.handed 1) }
-        ensures alone { (code : Program) (fits : ℕ → Bool) (places : ℕ → ℕ) (c : CodeState) → Stands places c self.old → Alone places c self.old (act code fits line instr op c.handed c.numbers c.state) self.new result }
+        requires stores { op ≡ ops.Storep → MayStoreHanded self.old }
+        ensures alone { ActsAlone self.old self.new line instr op result }
         ensures unchanged { IfErr result (λ _. self.new ≡ self.old) }
     {
         let addr = self.address(0);

@@ -1,18 +1,16 @@
 //! Instructions that write and read bytes (C99 7.19.7, 7.20.4).
 
-ghost use Rattle.std.specs.Prelude.{◌≡◌, ◌+◌, ◌++◌, ◌<◌, ◌^◌, [], ℕ, List, All, IfErr, Some};
+ghost use Rattle.std.specs.Prelude.{◌≡◌, ◌+◌, ◌<◌, ◌^◌, [], ℕ, IfErr};
 ghost use Rattle.hs_base.specs.declared.ends.End.TheVariants as end;
 ghost use Rattle.core_tree.specs.declared.statements.LibName.TheVariants as libs;
-ghost use Rattle.object_meaning.specs.objects.Builtins.{byte_in, call_lib, get_byte, put_byte};
-ghost use Rattle.meaning_run.specs.Leading.{with_input};
-ghost use Rattle.object_meaning.specs.code.CodeState.{CodeState, same_numbers};
+ghost use Rattle.object_meaning.specs.objects.Builtins.{byte_in};
 ghost use Rattle.flat_objects.specs.Keeping.{IsKept};
 ghost use Rattle.flat_machine.specs.Words.{address_at};
-ghost use Rattle.flat_machine.specs.Standing.{Stands};
 ghost use Rattle.flat_machine.specs.Groups.{IsPlainLib};
-ghost use Rattle.flat_machine.specs.Noting.{left_behind};
-ghost use Rattle.flat_machine.specs.Leading.{Counted, Moves, Seen};
-ghost use Rattle.meaning_laws.specs.code.Objects.{IsByte};
+ghost use Rattle.flat_machine.specs.Leading.{Counted};
+ghost use Rattle.flat_machine.specs.Consoles.{CountsStep};
+ghost use Rattle.flat_machine.specs.Instructions.{ForStates, get_next, plain_next, put_next};
+ghost use Rattle.flat_machine.specs.Telling.{MovesOn, MovesSomehow, Puts, Tells};
 
 use crate::calling::byte_in;
 use crate::console::{Console, Lent};
@@ -35,10 +33,10 @@ impl State {
         requires point { self.old.calls.running.point + 1 < 2 ^ 64 }
         requires count { O.faults out.old + 1 < 2 ^ 64 }
         requires kept { IsKept self.old.memory (address_at self.old.handed 0) }
-        ensures told { (places : ℕ → ℕ) (c : CodeState) (taken : List ℕ) → Stands places c self.old → O.taken out.old ≡ Some taken → Seen places c self.old (same_numbers c.numbers (call_lib line libs.Puts r c.handed c.state)) c.state.input taken result self.new (Some c.state.input) (O.taken out.new) }
+        ensures told { Puts (O.taken out.old) (O.taken out.new) self.old self.new (plain_next line libs.Puts r) result }
         ensures faults { (i : ℕ) → Counted result i i (O.faults out.old) (O.faults out.new) }
         ensures unchanged { IfErr result (λ _. self.new ≡ self.old) }
-        ensures moves { (places : ℕ → ℕ) (c : CodeState) → Stands places c self.old → Moves self.old (same_numbers c.numbers (call_lib line libs.Puts r c.handed c.state)) self.new result }
+        ensures moves { MovesOn self.old self.new (plain_next line libs.Puts r) result }
     {
         match self.put_line(self.address(0), out, steps) {
             Ok(()) => {
@@ -53,10 +51,10 @@ impl State {
     fn put_char<O: Sink>(&mut self, r: Option<u32>, n: i128, out: &mut O) -> Result<(), End>
         requires point { self.old.calls.running.point + 1 < 2 ^ 64 }
         requires count { O.faults out.old + 1 < 2 ^ 64 }
-        ensures told { (places : ℕ → ℕ) (c : CodeState) (taken : List ℕ) → Stands places c self.old → O.taken out.old ≡ Some taken → Seen places c self.old (same_numbers c.numbers (put_byte r (byte_in n) c.state)) c.state.input taken result self.new (Some c.state.input) (O.taken out.new) }
+        ensures told { Puts (O.taken out.old) (O.taken out.new) self.old self.new (put_next r (byte_in n)) result }
         ensures faults { (i : ℕ) → Counted result i i (O.faults out.old) (O.faults out.new) }
         ensures unchanged { IfErr result (λ _. self.new ≡ self.old) }
-        ensures moves { (places : ℕ → ℕ) (c : CodeState) → Stands places c self.old → Moves self.old (same_numbers c.numbers (put_byte r (byte_in n) c.state)) self.new result }
+        ensures moves { MovesOn self.old self.new (put_next r (byte_in n)) result }
     {
         let byte = byte_in(n);
         match put_all(out, &[byte]) {
@@ -77,11 +75,11 @@ impl State {
         requires point { self.old.calls.running.point + 1 < 2 ^ 64 }
         requires input { I.faults console.old.input.now + 1 < 2 ^ 64 }
         requires out { O.faults console.old.out.now + 1 < 2 ^ 64 }
-        ensures told { (places : ℕ → ℕ) (c : CodeState) (taken : List ℕ) → Stands places c self.old → left_behind K.left (console.old.done.notes ++ console.old.page.notes) ≡ Some c.state.input → Some (console.old.done.notes ++ console.old.page.notes) ≡ Some taken → Seen places c self.old (same_numbers c.numbers (get_byte r c.state.input c.state)) c.state.input taken result self.new (left_behind K.left (console.new.done.notes ++ console.new.page.notes)) (Some (console.new.done.notes ++ console.new.page.notes)) }
-        ensures faults { Counted result (I.faults console.old.input.now) (I.faults console.new.input.now) (O.faults console.old.out.now) (O.faults console.new.out.now) }
+        ensures told { Tells console.old console.new self.old self.new (get_next r) result }
+        ensures faults { CountsStep console.old console.new result }
         ensures settled { IfErr result (λ e. e ≡ end.InputFault → console.new.page.notes ≡ []) }
         ensures unchanged { IfErr result (λ _. self.new ≡ self.old) }
-        ensures moves { (places : ℕ → ℕ) (c : CodeState) → Stands places c self.old → (left : List ℕ) × All IsByte left × Moves self.old (same_numbers c.numbers (get_byte r left (with_input left c.state))) self.new result }
+        ensures moves { MovesSomehow self.old self.new (get_next r) result }
     {
         match console.next() {
             Ok(Some(byte)) => {
@@ -110,11 +108,11 @@ impl State {
         requires kept { (k : ℕ) → IsKept self.old.memory (address_at self.old.handed k) }
         requires input { I.faults console.old.input.now + 1 < 2 ^ 64 }
         requires out { O.faults console.old.out.now + 1 < 2 ^ 64 }
-        ensures told { (places : ℕ → ℕ) (c : CodeState) (taken : List ℕ) → Stands places c self.old → left_behind K.left (console.old.done.notes ++ console.old.page.notes) ≡ Some c.state.input → Some (console.old.done.notes ++ console.old.page.notes) ≡ Some taken → Seen places c self.old (same_numbers c.numbers (call_lib line name r c.handed c.state)) c.state.input taken result self.new (left_behind K.left (console.new.done.notes ++ console.new.page.notes)) (Some (console.new.done.notes ++ console.new.page.notes)) }
-        ensures faults { (places : ℕ → ℕ) (c : CodeState) → Stands places c self.old → Counted result (I.faults console.old.input.now) (I.faults console.new.input.now) (O.faults console.old.out.now) (O.faults console.new.out.now) }
+        ensures told { Tells console.old console.new self.old self.new (plain_next line name r) result }
+        ensures faults { ForStates self.old (λ _ _. CountsStep console.old console.new result) }
         ensures settled { IfErr result (λ e. e ≡ end.InputFault → console.new.page.notes ≡ []) }
         ensures unchanged { IfErr result (λ _. self.new ≡ self.old) }
-        ensures moves { (places : ℕ → ℕ) (c : CodeState) → Stands places c self.old → (left : List ℕ) × All IsByte left × Moves self.old (same_numbers c.numbers (call_lib line name r c.handed (with_input left c.state))) self.new result }
+        ensures moves { MovesSomehow self.old self.new (plain_next line name r) result }
     {
         match name {
             LibName::Getchar => self.get(r, console),

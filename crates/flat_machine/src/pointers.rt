@@ -1,15 +1,11 @@
 //! Instructions that move, subtract and compare pointers (C99 6.5.6, 6.5.8, 6.5.9).
 
-ghost use Rattle.std.specs.Prelude.{◌≡◌, ◌+◌, ◌<◌, ◌<ℤ◌, ◌^◌, ℕ, Bool, IfErr, pos};
+ghost use Rattle.std.specs.Prelude.{◌≡◌, ◌+◌, ◌<◌, ◌<ℤ◌, ◌^◌, ℕ, IfErr, pos};
 ghost use Rattle.flat_code.specs.declared.instructions.Op.TheVariants as ops;
-ghost use Rattle.flat_code.specs.declared.program.Code.{Code as Program};
 ghost use Rattle.flat_objects.specs.Keeping.{IsKept};
-ghost use Rattle.object_meaning.specs.code.CodeState.{CodeState};
-ghost use Rattle.object_meaning.specs.code.CodeMeaning.{act};
 ghost use Rattle.flat_machine.specs.Words.{address_at};
-ghost use Rattle.flat_machine.specs.Standing.{Stands};
 ghost use Rattle.flat_machine.specs.Groups.{IsPointers};
-ghost use Rattle.flat_machine.specs.Leading.{Alone};
+ghost use Rattle.flat_machine.specs.Instructions.{ActsAlone};
 
 use crate::state::State;
 use byte_memory::Steps;
@@ -31,7 +27,7 @@ impl State {
         requires pointers { IsPointers op }
         requires kept { (k : ℕ) → IsKept self.old.memory (address_at self.old.handed k) }
         requires element { op ≡ ops.Diff → pos 0 <ℤ instr.imm }
-        ensures alone { (code : Program) (fits : ℕ → Bool) (places : ℕ → ℕ) (c : CodeState) → Stands places c self.old → Alone places c self.old (act code fits line instr op c.handed c.numbers c.state) self.new result }
+        ensures alone { ActsAlone self.old self.new line instr op result }
         ensures unchanged { IfErr result (λ _. self.new ≡ self.old) }
     {
         let p = self.address(0);

@@ -1,23 +1,18 @@
 //! printf (C99 7.19.6.3).
 
-ghost use Rattle.std.specs.Prelude.{◌≡◌, ◌+◌, ◌<◌, ◌≤◌, ◌^◌, ℕ, List, All, IfErr, IfOk, IfSome, None, Some, drop, length};
-ghost use Rattle.hs_base.specs.Object.{Object};
+ghost use Rattle.std.specs.Prelude.{◌≡◌, ◌+◌, ◌<◌, ◌≤◌, ◌^◌, ℕ, List, All, IfErr, IfOk, IfSome, None, drop, length};
 ghost use Rattle.hs_base.specs.Outside.{CountsFaults};
 ghost use Rattle.hs_base.specs.PutAll.{PutsAll};
-ghost use Rattle.hs_base.specs.declared.values.Pointer.{Pointer};
 ghost use Rattle.hs_base.specs.declared.values.Value as spec;
 ghost use Rattle.c_print.specs.Format.{IsGiven};
-ghost use Rattle.c_print.specs.Pieces.{pieces_of};
-ghost use Rattle.object_meaning.specs.objects.Meaning.{print_format};
-ghost use Rattle.object_meaning.specs.objects.Printing.{arguments_behind, printed};
+ghost use Rattle.object_meaning.specs.objects.Printing.{arguments_behind};
 ghost use Rattle.meaning_state.specs.Printing.{piece_text, PrintsNoString};
-ghost use Rattle.object_meaning.specs.code.CodeState.{CodeState, same_numbers};
-ghost use Rattle.flat_objects.specs.Keeping.{KeepsAt, IsKept};
+ghost use Rattle.flat_objects.specs.Keeping.{IsKept, ForPointer};
 ghost use Rattle.flat_machine.specs.Words.{address_at};
-ghost use Rattle.flat_machine.specs.Standing.{Stands};
-ghost use Rattle.flat_machine.specs.Leading.{Counted, Moves, Seen};
-ghost use Rattle.flat_machine.specs.Putting.{CountsPut, IsLengthOf, PutsText};
-ghost use Rattle.flat_machine.specs.Writing.{padded, padded_at, text_at, HasString, IsString, KeepsWords, PrintsString, PutsPrinted};
+ghost use Rattle.flat_machine.specs.Leading.{Counted};
+ghost use Rattle.flat_machine.specs.Putting.{CountsPut, IsLengthOf};
+ghost use Rattle.flat_machine.specs.Writing.{padded_at, text_at, HasString, PrintsString};
+ghost use Rattle.flat_machine.specs.Telling.{ForHanded, IsPaddedLength, MovesPrinting, Prints, PutsField, PutsPadded, PutsPiece, PutsPieces};
 
 use crate::put_error::PutError;
 use crate::state::State;
@@ -106,8 +101,8 @@ impl State {
     ) -> Result<u64, Failed>
         requires count { O.faults out.old + 1 < 2 ^ 64 }
         requires string { HasString self.now.memory addr len }
-        ensures bytes { (places : ℕ → ℕ) (objects : List Object) (p : Pointer) (text : List ℕ) → IsString self.now.memory places objects p addr text → len ≡ length text → PutsAll (O.taken out.old) (O.taken out.new) (padded field text) result }
-        ensures len { IfOk result (λ n. (text : List ℕ) → len ≡ length text → n ≡ length (padded field text)) }
+        ensures bytes { PutsPadded (O.taken out.old) (O.taken out.new) self.now.memory addr len field result }
+        ensures len { IfOk result (IsPaddedLength field len) }
         ensures cause { CountsFaults (O.faults out.old) (O.faults out.new) result }
     {
         let fill = field.width.saturating_sub(len);
@@ -132,8 +127,8 @@ impl State {
     ) -> Result<u64, PutError>
         requires count { O.faults out.old + 1 < 2 ^ 64 }
         requires kept { IsKept self.now.memory addr }
-        ensures puts { (places : ℕ → ℕ) (objects : List Object) (p : Pointer) → KeepsAt self.now.memory places objects p addr → PutsText (O.taken out.old) (O.taken out.new) (padded_at objects p field) result }
-        ensures len { (places : ℕ → ℕ) (objects : List Object) (p : Pointer) → KeepsAt self.now.memory places objects p addr → IfOk result (IsLengthOf (padded_at objects p field)) }
+        ensures puts { PutsField (O.taken out.old) (O.taken out.new) self.now.memory addr field result }
+        ensures len { ForPointer self.now.memory addr (λ _ all p. IfOk result (IsLengthOf (padded_at all p field))) }
         ensures cause { CountsPut (O.faults out.old) (O.faults out.new) result }
     {
         match self.string_length(addr, steps) {
@@ -153,8 +148,8 @@ impl State {
         requires count { O.faults out.old + 1 < 2 ^ 64 }
         requires given { IsGiven piece.now }
         requires kept { IsKept self.now.memory (address_at self.now.handed place) }
-        ensures puts { (places : ℕ → ℕ) (objects : List Object) (values : List spec.Value) → KeepsWords self.now.memory places objects values self.now.handed → PutsText (O.taken out.old) (O.taken out.new) (text_at objects piece.now values place) result }
-        ensures len { (places : ℕ → ℕ) (objects : List Object) (values : List spec.Value) → KeepsWords self.now.memory places objects values self.now.handed → IfOk result (IsLengthOf (text_at objects piece.now values place)) }
+        ensures puts { PutsPiece (O.taken out.old) (O.taken out.new) self.now piece.now place result }
+        ensures len { ForHanded self.now (λ all vs. IfOk result (IsLengthOf (text_at all piece.now vs place))) }
         ensures cause { CountsPut (O.faults out.old) (O.faults out.new) result }
     {
         match string_field(piece) {
@@ -173,7 +168,7 @@ impl State {
         requires count { O.faults out.old + 1 < 2 ^ 64 }
         requires given { All IsGiven pieces.now }
         requires kept { (k : ℕ) → IsKept self.now.memory (address_at self.now.handed k) }
-        ensures puts { (places : ℕ → ℕ) (objects : List Object) (values : List spec.Value) → KeepsWords self.now.memory places objects values self.now.handed → PutsPrinted (O.taken out.old) (O.taken out.new) (printed objects pieces.now values) result }
+        ensures puts { PutsPieces (O.taken out.old) (O.taken out.new) self.now pieces.now result }
         ensures cause { CountsPut (O.faults out.old) (O.faults out.new) result }
     {
         let mut place = 0;
@@ -202,10 +197,10 @@ impl State {
         requires count { O.faults out.old + 1 < 2 ^ 64 }
         requires given { All IsGiven pieces.now }
         requires kept { (k : ℕ) → IsKept self.old.memory (address_at self.old.handed k) }
-        ensures told { (places : ℕ → ℕ) (c : CodeState) (format taken : List ℕ) → Stands places c self.old → pieces.now ≡ pieces_of format → O.taken out.old ≡ Some taken → Seen places c self.old (same_numbers c.numbers (print_format line r format c.handed c.state)) c.state.input taken result self.new (Some c.state.input) (O.taken out.new) }
+        ensures told { Prints (O.taken out.old) (O.taken out.new) self.old self.new line r pieces.now result }
         ensures faults { (i : ℕ) → Counted result i i (O.faults out.old) (O.faults out.new) }
         ensures unchanged { IfErr result (λ _. self.new ≡ self.old) }
-        ensures moves { (places : ℕ → ℕ) (c : CodeState) (format : List ℕ) → Stands places c self.old → pieces.now ≡ pieces_of format → Moves self.old (same_numbers c.numbers (print_format line r format c.handed c.state)) self.new result }
+        ensures moves { MovesPrinting self.old self.new line r pieces.now result }
     {
         match self.put_pieces(pieces, out, steps) {
             Ok(n) => {

@@ -1,25 +1,19 @@
 //! Instructions on ranges of bytes (C99 6.5.16.1, 6.7.8, 7.21.2.1, 7.21.2.2, 7.21.6.1).
 
-ghost use Rattle.std.specs.Prelude.{◌≡◌, ◌+◌, ◌++◌, ◌<◌, ◌^◌, [], ℕ, Bool, List, All, IfErr, Some};
+ghost use Rattle.std.specs.Prelude.{◌≡◌, ◌+◌, ◌<◌, ◌^◌, [], ℕ, IfErr};
 ghost use Rattle.hs_base.specs.declared.ends.End.TheVariants as end;
 ghost use Rattle.core_tree.specs.declared.statements.LibName.TheVariants as libs;
-ghost use Rattle.flat_code.specs.declared.program.Code.{Code as Program};
-ghost use Rattle.flat_code.specs.declared.instructions.Instr.{Instr};
 ghost use Rattle.flat_code.specs.declared.instructions.Op.TheVariants as ops;
-ghost use Rattle.object_meaning.specs.objects.Builtins.{call_lib};
 ghost use Rattle.object_meaning.specs.objects.Values.{bytes_in};
-ghost use Rattle.meaning_run.specs.Leading.{with_input};
-ghost use Rattle.object_meaning.specs.code.CodeState.{CodeState, other_numbers};
-ghost use Rattle.object_meaning.specs.code.CodeMeaning.{act, behind_lib};
-ghost use Rattle.meaning_laws.specs.code.Objects.{IsByte};
 ghost use Rattle.flat_objects.specs.Keeping.{IsKept};
-ghost use Rattle.flat_objects.specs.Counting.{IsStorable};
 ghost use Rattle.flat_objects.specs.Ranges.{IsSettable};
 ghost use Rattle.flat_machine.specs.Words.{address_at, integer_at};
-ghost use Rattle.flat_machine.specs.Standing.{Stands};
 ghost use Rattle.flat_machine.specs.Groups.{IsRanges, IsRangeLib};
-ghost use Rattle.flat_machine.specs.Noting.{left_behind};
-ghost use Rattle.flat_machine.specs.Leading.{Alone, Counted, Moves, Seen};
+ghost use Rattle.flat_machine.specs.Leading.{Counted};
+ghost use Rattle.flat_machine.specs.Consoles.{CountsStep};
+ghost use Rattle.flat_machine.specs.Instructions.{ActsAnyhow, ForStates, LeadsAlone, lib_next};
+ghost use Rattle.flat_machine.specs.StateMemory.{MayStoreHanded};
+ghost use Rattle.flat_machine.specs.Telling.{MovesSomehow, Tells};
 
 use crate::calling::byte_in;
 use crate::console::{Console, Lent};
@@ -44,9 +38,9 @@ impl State {
     /// Copies a range of bytes.
     fn copy_range<L: Ledger>(&mut self, line: Line, steps: &mut Steps<L>) -> Result<(), End>
         requires point { self.old.calls.running.point + 1 < 2 ^ 64 }
-        requires storable { IsStorable self.old.memory (address_at self.old.handed 0) (address_at self.old.handed 1) }
+        requires storable { MayStoreHanded self.old }
         requires small { bytes_in (integer_at self.old.handed 2) < 2 ^ 64 }
-        ensures alone { (code : Program) (fits : ℕ → Bool) (instr : Instr) (places : ℕ → ℕ) (c : CodeState) → Stands places c self.old → Alone places c self.old (act code fits line instr ops.Copy c.handed c.numbers c.state) self.new result }
+        ensures alone { ActsAnyhow self.old self.new line ops.Copy result }
         ensures unchanged { IfErr result (λ _. self.new ≡ self.old) }
     {
         let to = self.address(0);
@@ -66,7 +60,7 @@ impl State {
         requires point { self.old.calls.running.point + 1 < 2 ^ 64 }
         requires settable { IsSettable self.old.memory (address_at self.old.handed 0) }
         requires small { bytes_in (integer_at self.old.handed 1) < 2 ^ 64 }
-        ensures alone { (code : Program) (fits : ℕ → Bool) (instr : Instr) (places : ℕ → ℕ) (c : CodeState) → Stands places c self.old → Alone places c self.old (act code fits line instr ops.Clear c.handed c.numbers c.state) self.new result }
+        ensures alone { ActsAnyhow self.old self.new line ops.Clear result }
         ensures unchanged { IfErr result (λ _. self.new ≡ self.old) }
     {
         let start = self.address(0);
@@ -89,10 +83,10 @@ impl State {
     ) -> Result<(), End>
         requires point { self.old.calls.running.point + 1 < 2 ^ 64 }
         requires ranges { IsRanges op }
-        requires storable { IsStorable self.old.memory (address_at self.old.handed 0) (address_at self.old.handed 1) }
+        requires storable { MayStoreHanded self.old }
         requires settable { IsSettable self.old.memory (address_at self.old.handed 0) }
         requires small { (k : ℕ) → bytes_in (integer_at self.old.handed k) < 2 ^ 64 }
-        ensures alone { (code : Program) (fits : ℕ → Bool) (instr : Instr) (places : ℕ → ℕ) (c : CodeState) → Stands places c self.old → Alone places c self.old (act code fits line instr op c.handed c.numbers c.state) self.new result }
+        ensures alone { ActsAnyhow self.old self.new line op result }
         ensures unchanged { IfErr result (λ _. self.new ≡ self.old) }
     {
         match op {
@@ -110,8 +104,8 @@ impl State {
         steps: &mut Steps<L>,
     ) -> Result<(), End>
         requires point { self.old.calls.running.point + 1 < 2 ^ 64 }
-        requires storable { IsStorable self.old.memory (address_at self.old.handed 0) (address_at self.old.handed 1) }
-        ensures leads { (places : ℕ → ℕ) (c : CodeState) → Stands places c self.old → Alone places c self.old (other_numbers (behind_lib libs.Memcpy c.handed c.numbers) c.numbers (call_lib line libs.Memcpy r c.handed c.state)) self.new result }
+        requires storable { MayStoreHanded self.old }
+        ensures leads { LeadsAlone self.old self.new (lib_next line libs.Memcpy r) result }
         ensures faults { (i o : ℕ) → Counted result i i o o }
         ensures unchanged { IfErr result (λ _. self.new ≡ self.old) }
     {
@@ -135,7 +129,7 @@ impl State {
     ) -> Result<(), End>
         requires point { self.old.calls.running.point + 1 < 2 ^ 64 }
         requires settable { IsSettable self.old.memory (address_at self.old.handed 0) }
-        ensures leads { (places : ℕ → ℕ) (c : CodeState) → Stands places c self.old → Alone places c self.old (other_numbers (behind_lib libs.Memset c.handed c.numbers) c.numbers (call_lib line libs.Memset r c.handed c.state)) self.new result }
+        ensures leads { LeadsAlone self.old self.new (lib_next line libs.Memset r) result }
         ensures faults { (i o : ℕ) → Counted result i i o o }
         ensures unchanged { IfErr result (λ _. self.new ≡ self.old) }
     {
@@ -160,9 +154,9 @@ impl State {
     ) -> Result<(), End>
         requires point { self.old.calls.running.point + 1 < 2 ^ 64 }
         requires name { IsRangeLib name }
-        requires storable { IsStorable self.old.memory (address_at self.old.handed 0) (address_at self.old.handed 1) }
+        requires storable { MayStoreHanded self.old }
         requires settable { IsSettable self.old.memory (address_at self.old.handed 0) }
-        ensures leads { (places : ℕ → ℕ) (c : CodeState) → Stands places c self.old → Alone places c self.old (other_numbers (behind_lib name c.handed c.numbers) c.numbers (call_lib line name r c.handed c.state)) self.new result }
+        ensures leads { LeadsAlone self.old self.new (lib_next line name r) result }
         ensures faults { (i o : ℕ) → Counted result i i o o }
         ensures unchanged { IfErr result (λ _. self.new ≡ self.old) }
     {
@@ -185,15 +179,15 @@ impl State {
     ) -> Result<(), End>
         requires point { self.old.calls.running.point + 1 < 2 ^ 64 }
         requires kept { (k : ℕ) → IsKept self.old.memory (address_at self.old.handed k) }
-        requires storable { IsStorable self.old.memory (address_at self.old.handed 0) (address_at self.old.handed 1) }
+        requires storable { MayStoreHanded self.old }
         requires settable { IsSettable self.old.memory (address_at self.old.handed 0) }
         requires input { I.faults console.old.input.now + 1 < 2 ^ 64 }
         requires out { O.faults console.old.out.now + 1 < 2 ^ 64 }
-        ensures told { (places : ℕ → ℕ) (c : CodeState) (taken : List ℕ) → Stands places c self.old → left_behind K.left (console.old.done.notes ++ console.old.page.notes) ≡ Some c.state.input → Some (console.old.done.notes ++ console.old.page.notes) ≡ Some taken → Seen places c self.old (other_numbers (behind_lib name c.handed c.numbers) c.numbers (call_lib line name r c.handed c.state)) c.state.input taken result self.new (left_behind K.left (console.new.done.notes ++ console.new.page.notes)) (Some (console.new.done.notes ++ console.new.page.notes)) }
-        ensures faults { (places : ℕ → ℕ) (c : CodeState) → Stands places c self.old → Counted result (I.faults console.old.input.now) (I.faults console.new.input.now) (O.faults console.old.out.now) (O.faults console.new.out.now) }
+        ensures told { Tells console.old console.new self.old self.new (lib_next line name r) result }
+        ensures faults { ForStates self.old (λ _ _. CountsStep console.old console.new result) }
         ensures settled { IfErr result (λ e. e ≡ end.InputFault → console.new.page.notes ≡ []) }
         ensures unchanged { IfErr result (λ _. self.new ≡ self.old) }
-        ensures moves { (places : ℕ → ℕ) (c : CodeState) → Stands places c self.old → (left : List ℕ) × All IsByte left × Moves self.old (other_numbers (behind_lib name c.handed c.numbers) c.numbers (call_lib line name r c.handed (with_input left c.state))) self.new result }
+        ensures moves { MovesSomehow self.old self.new (lib_next line name r) result }
     {
         match name {
             LibName::Memcpy | LibName::Memmove | LibName::Memset => {

@@ -1,17 +1,16 @@
 //! Runs: one instruction after another, until the end.
 
-ghost use Rattle.std.specs.Prelude.{◌≡◌, ◌+◌, ◌++◌, ◌-◌, ◌<◌, ◌≤◌, ◌^◌, [], ℕ, List, IfOk, IfErr, Some};
+ghost use Rattle.std.specs.Prelude.{◌≡◌, ◌+◌, ◌<◌, ◌≤◌, ◌^◌, [], ℕ, IfOk, IfErr};
 ghost use Rattle.hs_base.specs.declared.ends.End.TheVariants as end;
-ghost use Rattle.hs_base.specs.declared.ends.Limits.{Limits};
 ghost use Rattle.flat_code.specs.WellFormed.{IsWellFormed};
 ghost use Rattle.meaning_laws.specs.code.Laws.{HoldsBytes};
 ghost use Rattle.flat_machine.specs.Loaded.{IsLoaded};
 ghost use Rattle.flat_machine.specs.Well.{IsWell};
 ghost use Rattle.flat_machine.specs.First.{IsFirst};
-ghost use Rattle.flat_machine.specs.Running.{Reached, RunAnswers, RunCounts, RunNotes};
-ghost use Rattle.flat_machine.specs.Noting.{left_behind};
-ghost use Rattle.flat_machine.specs.Lasting.{LeavesImage};
+ghost use Rattle.flat_machine.specs.Running.{RunCounts};
 ghost use Rattle.flat_objects.specs.Leaks.{KeepsSome};
+ghost use Rattle.flat_machine.specs.Consoles.{CountsRun};
+ghost use Rattle.flat_machine.specs.Telling.{AnswersOn, AnswersRun, BeginsRun, EndsAtOnce, LeavesAtOnce, LeavesOn, LeavesRun, LeavesWhole, TellsRun};
 
 use crate::console::{Console, Lent};
 use crate::loaded::Loaded;
@@ -37,11 +36,11 @@ fn end_of_run<I: Source, O: Sink, K: Lent, L: Ledger>(
     requires well { IsWell code.now state.old }
     requires input { I.faults console.old.input.now + 1 < 2 ^ 64 }
     requires out { O.faults console.old.out.now + 1 < 2 ^ 64 }
-    ensures told { (left : List ℕ) (n : ℕ) (limits : Limits) → state.old.calls.room ≡ limits.stack → Reached code.now left n limits [] state.old (left_behind K.left (console.old.done.notes ++ console.old.page.notes)) (Some (console.old.done.notes ++ console.old.page.notes)) → RunNotes code.now left n limits [] result (left_behind K.left (console.new.done.notes ++ console.new.page.notes)) (Some (console.new.done.notes ++ console.new.page.notes)) }
+    ensures told { TellsRun code.now console.old console.new state.old result }
     ensures settled { result ≡ end.InputFault → console.new.page.notes ≡ [] }
     ensures kept { KeepsSome state.new.memory }
-    ensures left { (left : List ℕ) (n : ℕ) (limits : Limits) → state.old.calls.room ≡ limits.stack → Reached code.now left n limits [] state.old (left_behind K.left (console.old.done.notes ++ console.old.page.notes)) (Some (console.old.done.notes ++ console.old.page.notes)) → LeavesImage code.now left n limits result state.new }
-    ensures faults { RunCounts result (I.faults console.old.input.now) (I.faults console.new.input.now) (O.faults console.old.out.now) (O.faults console.new.out.now) }
+    ensures left { LeavesRun code.now console.old state.old state.new result }
+    ensures faults { CountsRun console.old console.new result }
 {
     step_stays_good();
     step_leaves_less();
@@ -74,9 +73,9 @@ fn run_lent<'i, 'o, I: Source, O: Sink, K: Lent, L: Ledger>(
     requires lent_taken { O.taken out.old ≡ K.taken }
     ensures input { result.0.ghost_name ≡ input.entry.ghost_name }
     ensures out { result.1.ghost_name ≡ out.entry.ghost_name }
-    ensures told { (left : List ℕ) (n : ℕ) (limits : Limits) (taken : List ℕ) → state.old.calls.room ≡ limits.stack → I.left input.old ≡ Some left → O.taken out.old ≡ Some taken → Reached code.now left n limits [] state.old (Some left) (Some []) → RunAnswers code.now left n limits taken result.2 (I.left result.0.now) (O.taken result.1.now) }
+    ensures told { AnswersOn code.now state.old (I.left input.old) (O.taken out.old) result.2 (I.left result.0.now) (O.taken result.1.now) }
     ensures kept { KeepsSome state.new.memory }
-    ensures left { (left : List ℕ) (n : ℕ) (limits : Limits) → state.old.calls.room ≡ limits.stack → I.left input.old ≡ Some left → Reached code.now left n limits [] state.old (Some left) (Some []) → LeavesImage code.now left n limits result.2 state.new }
+    ensures left { LeavesOn code.now state.old (I.left input.old) result.2 state.new }
     ensures faults { RunCounts result.2 (I.faults input.old) (I.faults result.0.now) (O.faults out.old) (O.faults result.1.now) }
 {
     let mut console = Console::<I, O, K>::new(input, out);
@@ -101,9 +100,9 @@ fn begin<L: Ledger>(
     requires budget { state.old.steps ≤ 1000000000 }
     ensures well { IfOk result (λ _. IsWell code.now state.new) }
     ensures room { IfOk result (λ _. state.new.calls.room ≡ stack) }
-    ensures reaches { IfOk result (λ _. (input : List ℕ) (n : ℕ) (limits : Limits) → n ≡ state.old.steps → limits.stack ≡ stack → limits.heap ≡ state.old.memory.heap.len → Reached code.now input n limits [] state.new (Some input) (Some [])) }
-    ensures ends { IfErr result (λ e. (input : List ℕ) (n : ℕ) (limits : Limits) (taken : List ℕ) → n ≡ state.old.steps → limits.stack ≡ stack → RunAnswers code.now input n limits taken e (Some input) (Some taken)) }
-    ensures left { IfErr result (λ e. (input : List ℕ) (n : ℕ) (limits : Limits) → n ≡ state.old.steps → limits.stack ≡ stack → LeavesImage code.now input n limits e state.new) }
+    ensures reaches { IfOk result (λ _. BeginsRun code.now state.old stack state.new) }
+    ensures ends { IfErr result (EndsAtOnce code.now state.old stack) }
+    ensures left { IfErr result (λ e. LeavesAtOnce code.now state.old stack e state.new) }
     ensures faults { IfErr result (λ e. (i o : ℕ) → RunCounts e i i o o) }
     ensures kept { IfErr result (λ _. KeepsSome state.new.memory) }
 {
@@ -151,9 +150,9 @@ pub(crate) fn whole_run<I: Source, O: Sink, L: Ledger>(
     requires budget { state.old.steps ≤ 1000000000 }
     requires input { I.faults input.old + 1 < 2 ^ 64 }
     requires out { O.faults out.old + 1 < 2 ^ 64 }
-    ensures told { (left : List ℕ) (n : ℕ) (limits : Limits) (taken : List ℕ) → n ≡ state.old.steps → limits.stack ≡ stack → limits.heap ≡ state.old.memory.heap.len → I.left input.old ≡ Some left → O.taken out.old ≡ Some taken → RunAnswers code.now left n limits taken result (I.left input.new) (O.taken out.new) }
+    ensures told { AnswersRun code.now state.old stack (I.left input.old) (O.taken out.old) result (I.left input.new) (O.taken out.new) }
     ensures kept { KeepsSome state.new.memory }
-    ensures left { (left : List ℕ) (n : ℕ) (limits : Limits) (taken : List ℕ) → n ≡ state.old.steps → limits.stack ≡ stack → limits.heap ≡ state.old.memory.heap.len → I.left input.old ≡ Some left → O.taken out.old ≡ Some taken → LeavesImage code.now left n limits result state.new }
+    ensures left { LeavesWhole code.now state.old stack (I.left input.old) (O.taken out.old) result state.new }
     ensures faults { RunCounts result (I.faults input.old) (I.faults input.new) (O.faults out.old) (O.faults out.new) }
 {
     let mut steps = Steps::<L>::new(blank, right);

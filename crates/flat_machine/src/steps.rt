@@ -1,27 +1,21 @@
 //! One instruction.
 
-ghost use Rattle.std.specs.Prelude.{◌≡◌, ◌+◌, ◌++◌, ◌-◌, ◌<◌, ◌<ℤ◌, ◌≤◌, ◌^◌, [], ℕ, Bool, pos, List, All, IfErr, IfOk, Some, map, length, slice_get, slice_index, slice_index_or};
-ghost use Rattle.c_print.specs.Format.{IsGiven};
+ghost use Rattle.std.specs.Prelude.{◌≡◌, ◌+◌, ◌-◌, ◌<◌, ◌<ℤ◌, ◌^◌, [], ℕ, pos, IfErr, slice_index_or};
 ghost use Rattle.hs_base.specs.declared.ends.End.TheVariants as end;
-ghost use Rattle.c_print.specs.Pieces.{pieces_of};
 ghost use Rattle.flat_code.specs.WellFormed.{IsWellFormed};
 ghost use Rattle.flat_code.specs.declared.instructions.Op.TheVariants as ops;
 ghost use Rattle.flat_objects.specs.Keeping.{IsKept};
 ghost use Rattle.object_meaning.specs.objects.Values.{bytes_in};
-ghost use Rattle.meaning_run.specs.Leading.{with_input};
-ghost use Rattle.object_meaning.specs.code.CodeState.{CodeState};
-ghost use Rattle.object_meaning.specs.code.CodeMeaning.{handed_value, hand_or_act, step_by};
-ghost use Rattle.meaning_laws.specs.code.Objects.{IsByte};
 ghost use Rattle.flat_machine.specs.Words.{address_at, no_word, integer_at};
-ghost use Rattle.flat_machine.specs.Standing.{Stands, fits_now};
-ghost use Rattle.flat_machine.specs.Groups.{IsHanding, IsValues, IsJump, IsMemory, IsPointers, IsMaking, IsRanges, IsAlone};
-ghost use Rattle.flat_machine.specs.Growing.{IsBefore, about_to_write};
+ghost use Rattle.flat_machine.specs.Groups.{IsHanding, IsMemory, IsPointers, IsMaking, IsRanges, IsAlone};
+ghost use Rattle.flat_machine.specs.Growing.{IsBefore};
 ghost use Rattle.flat_machine.specs.Loaded.{HasPins, IsLoaded};
-ghost use Rattle.flat_machine.specs.Pinning.{CountsWell, IsReturning, IsStanding};
-ghost use Rattle.flat_machine.specs.Well.{IsGoodSoFar, IsWell};
-ghost use Rattle.flat_machine.specs.Noting.{left_behind};
-ghost use Rattle.flat_machine.specs.Leading.{Alone, Counted, Moves, Seen, WaitsAtCall, HasAllLocals, HandsFresh, MayHand, MayMake, MayCall};
-ghost use Rattle.flat_machine.specs.Image.{StopsIn};
+ghost use Rattle.flat_machine.specs.Pinning.{IsReturning, IsStanding};
+ghost use Rattle.flat_machine.specs.Well.{IsWell};
+ghost use Rattle.flat_machine.specs.Leading.{WaitsAtCall, HasAllLocals, MayHand, MayMake, MayCall};
+ghost use Rattle.flat_machine.specs.Consoles.{CountsStep};
+ghost use Rattle.flat_machine.specs.Instructions.{CallsStep, StepsAlone, StopsAtCallStep, StopsAtStep};
+ghost use Rattle.flat_machine.specs.Telling.{MovesStep, StopsAfter, TellsStep};
 
 use crate::calling::chosen;
 use crate::console::{Console, Lent};
@@ -61,8 +55,8 @@ fn call<L: Ledger>(
     requires loaded { IsLoaded code.now loaded.now }
     requires may { MayCall code.now instr state.old }
     requires standing { IsStanding state.old }
-    ensures alone { (fits : ℕ → Bool) (places : ℕ → ℕ) (c : CodeState) → Stands places c state.old → CountsWell state.old c → instr.op ≡ ops.Call → Alone places c state.old (hand_or_act code.now fits line instr (handed_value c.state.running instr ops.Call) c) state.new result }
-    ensures image { (fits : ℕ → Bool) (places : ℕ → ℕ) (c : CodeState) → HasPins code.now state.old.pins → Stands places c state.old → CountsWell state.old c → instr.op ≡ ops.Call → IfErr result (StopsIn code.now (hand_or_act code.now fits line instr (handed_value c.state.running instr ops.Call) c) state.new) }
+    ensures alone { CallsStep code.now state.old state.new line instr result }
+    ensures image { StopsAtCallStep code.now state.old state.new line instr result }
 {
     let f = instr.b as usize;
     let Some(callee) = code.funcs.get(f) else {
@@ -104,8 +98,8 @@ fn act_alone<L: Ledger>(
     requires pins { HasPins code.now state.old.pins }
     requires deep { state.old.memory.scopes.depth < 2 ^ 64 - 1 }
     requires open { op ≡ ops.Leave → 0 < state.old.memory.scopes.depth }
-    ensures alone { (places : ℕ → ℕ) (c : CodeState) → Stands places c state.old → CountsWell state.old (about_to_write instr op c) → HandsFresh instr op c → instr.op ≡ op → Alone places c state.old (hand_or_act code.now (fits_now places c state.old) line instr (handed_value c.state.running instr op) c) state.new result }
-    ensures image { (places : ℕ → ℕ) (c : CodeState) → Stands places c state.old → CountsWell state.old (about_to_write instr op c) → HandsFresh instr op c → instr.op ≡ op → IfErr result (StopsIn code.now (hand_or_act code.now (fits_now places c state.old) line instr (handed_value c.state.running instr op) c) state.new) }
+    ensures alone { StepsAlone code.now state.old state.new line instr op result }
+    ensures image { StopsAtStep code.now state.old state.new line instr op result }
 {
     match op {
         Op::HandReg
@@ -155,11 +149,11 @@ pub(crate) fn one_step<I: Source, O: Sink, K: Lent, L: Ledger>(
     requires well { IsWell code.now state.old }
     requires input { I.faults console.old.input.now + 1 < 2 ^ 64 }
     requires out { O.faults console.old.out.now + 1 < 2 ^ 64 }
-    ensures told { (places : ℕ → ℕ) (c : CodeState) (taken : List ℕ) → Stands places c state.old → IsGoodSoFar code.now c → left_behind K.left (console.old.done.notes ++ console.old.page.notes) ≡ Some c.state.input → Some (console.old.done.notes ++ console.old.page.notes) ≡ Some taken → Seen places c state.old (step_by code.now (fits_now places c state.old) c) c.state.input taken result state.new (left_behind K.left (console.new.done.notes ++ console.new.page.notes)) (Some (console.new.done.notes ++ console.new.page.notes)) }
-    ensures faults { Counted result (I.faults console.old.input.now) (I.faults console.new.input.now) (O.faults console.old.out.now) (O.faults console.new.out.now) }
+    ensures told { TellsStep code.now console.old console.new state.old state.new result }
+    ensures faults { CountsStep console.old console.new result }
     ensures settled { IfErr result (λ e. e ≡ end.InputFault → console.new.page.notes ≡ []) }
-    ensures image { (places : ℕ → ℕ) (c : CodeState) → Stands places c state.old → IsGoodSoFar code.now c → IfErr result (StopsIn code.now (step_by code.now (fits_now places c state.old) c) state.new) }
-    ensures moves { (places : ℕ → ℕ) (c : CodeState) → Stands places c state.old → IsGoodSoFar code.now c → (left : List ℕ) × All IsByte left × Moves state.old (step_by code.now (fits_now places c state.old) (record c { state = with_input left c.state })) state.new result }
+    ensures image { StopsAfter code.now state.old state.new result }
+    ensures moves { MovesStep code.now state.old state.new result }
 {
     running_pins_are_fresh();
     state.all_fit();

@@ -1,19 +1,15 @@
 //! Strings that are read and written (C99 7.19.7.10, 7.21.4.2, 7.21.6.3).
 
-ghost use Rattle.std.specs.Prelude.{◌≡◌, ◌+◌, ◌<◌, ◌≤◌, ◌^◌, ℕ, List, IfErr, drop, length, take};
-ghost use Rattle.hs_base.specs.Object.{Object};
+ghost use Rattle.std.specs.Prelude.{◌≡◌, ◌+◌, ◌<◌, ◌≤◌, ◌^◌, ℕ, IfErr};
 ghost use Rattle.hs_base.specs.Outside.{CountsFaults};
-ghost use Rattle.hs_base.specs.PutAll.{PutsAll};
-ghost use Rattle.hs_base.specs.declared.values.Pointer.{Pointer};
-ghost use Rattle.flat_objects.specs.Keeping.{KeepsAt, IsKept};
-ghost use Rattle.object_meaning.specs.objects.Builtins.{call_lib};
-ghost use Rattle.object_meaning.specs.code.CodeState.{CodeState, same_numbers};
+ghost use Rattle.flat_objects.specs.Keeping.{IsKept};
 ghost use Rattle.flat_machine.specs.Words.{address_at};
-ghost use Rattle.flat_machine.specs.Standing.{Stands};
 ghost use Rattle.flat_machine.specs.Groups.{IsStringLib};
-ghost use Rattle.flat_machine.specs.Leading.{Alone, Counted};
-ghost use Rattle.flat_machine.specs.Putting.{CountsPut, PutsText};
-ghost use Rattle.flat_machine.specs.Writing.{line_at, HasString, IsString};
+ghost use Rattle.flat_machine.specs.Leading.{Counted};
+ghost use Rattle.flat_machine.specs.Putting.{CountsPut};
+ghost use Rattle.flat_machine.specs.Writing.{HasString};
+ghost use Rattle.flat_machine.specs.Instructions.{LeadsAlone, plain_next};
+ghost use Rattle.flat_machine.specs.Telling.{IsChunk, PutsLine, PutsString};
 
 use crate::put_error::PutError;
 use crate::state::State;
@@ -38,7 +34,7 @@ impl State {
         requires short { count ≤ 64 }
         requires fits { from + count < 2 ^ 32 }
         requires string { (len : ℕ) × HasString self.now.memory addr len × (from + count ≤ len) }
-        ensures { (places : ℕ → ℕ) (objects : List Object) (p : Pointer) (text : List ℕ) → IsString self.now.memory places objects p addr text → from + count ≤ length text → take count result ≡ take count (drop from text) }
+        ensures { IsChunk self.now.memory addr from count result }
     {
         let mut chunk = [0; CHUNK];
         for i in 0..count {
@@ -58,7 +54,7 @@ impl State {
     ) -> Result<(), Failed>
         requires count { O.faults out.old + 1 < 2 ^ 64 }
         requires string { HasString self.now.memory addr len }
-        ensures bytes { (places : ℕ → ℕ) (objects : List Object) (p : Pointer) (text : List ℕ) → IsString self.now.memory places objects p addr text → len ≡ length text → PutsAll (O.taken out.old) (O.taken out.new) text result }
+        ensures bytes { PutsString (O.taken out.old) (O.taken out.new) self.now.memory addr len result }
         ensures cause { CountsFaults (O.faults out.old) (O.faults out.new) result }
     {
         let mut done = 0;
@@ -80,7 +76,7 @@ impl State {
     ) -> Result<(), PutError>
         requires count { O.faults out.old + 1 < 2 ^ 64 }
         requires kept { IsKept self.now.memory addr }
-        ensures puts { (places : ℕ → ℕ) (objects : List Object) (p : Pointer) → KeepsAt self.now.memory places objects p addr → PutsText (O.taken out.old) (O.taken out.new) (line_at objects p) result }
+        ensures puts { PutsLine (O.taken out.old) (O.taken out.new) self.now.memory addr result }
         ensures cause { CountsPut (O.faults out.old) (O.faults out.new) result }
     {
         let len = match self.string_length(addr, steps) {
@@ -103,7 +99,7 @@ impl State {
         requires point { self.old.calls.running.point + 1 < 2 ^ 64 }
         requires name { IsStringLib name }
         requires kept { (k : ℕ) → IsKept self.old.memory (address_at self.old.handed k) }
-        ensures leads { (places : ℕ → ℕ) (c : CodeState) → Stands places c self.old → Alone places c self.old (same_numbers c.numbers (call_lib line name r c.handed c.state)) self.new result }
+        ensures leads { LeadsAlone self.old self.new (plain_next line name r) result }
         ensures faults { (i o : ℕ) → Counted result i i o o }
         ensures unchanged { IfErr result (λ _. self.new ≡ self.old) }
     {

@@ -1,4 +1,5 @@
 use Rattle.std.proofs.Common.{ap, sym, ◌++◌, ◌∙◌}
+use Rattle.flat_machine.specs.Running.{RunCounts}
 use Rattle.flat_machine.proofs.Answered.{counts_finished, finished, left_finished, reached_lent}
 use Rattle.flat_machine.proofs.running.run_lent.Goals as goal
 
@@ -19,5 +20,7 @@ returns-clause-left g c = λ left n room stack l first.
 
 pub returns-clause-faults : goal.returns-clause-faults
 returns-clause-faults g c =
-    let counts = rw (c.new-console.ensures.input, c.new-console.ensures.out) at c.end_of_run-stopped.ensures.faults in
+    let faults : RunCounts c.end_of_run-stopped.result (g.I.Source.faults c.new-console.result.input.now) (g.I.Source.faults c.end_of_run-stopped.new.console.input.now) (g.O.Sink.faults c.new-console.result.out.now) (g.O.Sink.faults c.end_of_run-stopped.new.console.out.now) =
+    c.end_of_run-stopped.ensures.faults in
+    let counts = rw (c.new-console.ensures.input, c.new-console.ensures.out) at faults in
     counts_finished c.end_of_run-stopped.result c.finish-end.result _ _ _ _ _ _ counts c.finish-end.ensures.faults
