@@ -1,10 +1,9 @@
 -- The type of an expression that is elaborated is the one that its types alone give it.
-use Rattle.std.proofs.Common.{◌≡◌, ◌&&◌, ℕ, pos, Bool, true, false, not, cond, List, Option, Some, Ok, Err, refl, sym, ap, ◌∙◌, subst, ◌+◌, [], ◌∷◌, length, None, arith}
+use Rattle.std.proofs.Common.{◌≡◌, ◌&&◌, ℕ, pos, Bool, true, false, not, cond, List, Option, Some, Ok, refl, sym, ap, ◌∙◌, subst, ◌+◌, [], ◌∷◌, length, None, arith}
 use Rattle.core_soundness.proofs.Words.Trees.{Tree, Trees, Leaf, At, Node, none, ◌▹◌, AssignOp, BinaryOp, UnaryOp}
 use Rattle.core_soundness.proofs.Words.Types.{TagTable, PlainType, PlainTypes, Void, Int, Pointer, Array, named, Callee, Takes, Prints, NoFunction, called, call, no_function, line_of, answered, wanted, one, two, string, typed, values, calling, int_constant, char_constant, joined, literal, first_literal, typename, PlainNamed, held_place, element, dot, arrow, cast, choice, assigned, changed, changed_types, is_written, behind_comma, Checked, then, unless, found as declaration, address, unary, unary_of, binary, PlainTyped, Operand, Number, operand, read, is_null_constant, int, wanted_value, place, value, is_record, constant, NotLvalue, TypeTooLarge}
 use Rattle.core_soundness.proofs.Words.Core.{Atom, Copy}
 use Rattle.core_soundness.proofs.Words.Elaborating.{record_assigned, set_to, scalar_assigned, old_value, change_place, changed_answer, changed_by, stepped, Argument, types_of, first_type, rest_types, argument_from, Code, Context, With, asked, told, emit, here, new_label, Found, Value, Empty, Unknown, found_as, atom_in, valued_from, valued, size_or_zero, unused, wanted_from, valued_as, name_answer, literal_answer, unevaluated, address_answer, changing, cast_operand, comma_answer, callee_name, callee, parameters, format_argument, is_printf, call_answer, found, arguments, offset_of, constant_found, object_found, built_in_found, name_found, indexed, member_of, dotted, target_of, pointed, apply, applied, before_number, left_operand, tells_equal, is_pointer_ahead, ahead, between, cast_to, and_ended, or_ended, choose_first, choose_last, choice_found, chosen, and_then, or_else, choose, type_ahead}
-use Rattle.c_types.specs.Types as ct
 use Rattle.c_types.specs.declared.types.IntType.TheVariants as i
 use Rattle.core_tree.specs.declared.statements.Atom.TheVariants as atom
 use Rattle.c_tree.specs.Forms as f
@@ -13,11 +12,10 @@ use Rattle.c_tree.specs.declared.operator.AssignOp.TheVariants as a
 use Rattle.c_tree.specs.declared.operator.BinaryOp.TheVariants as b
 use Rattle.c_tree.specs.declared.operator.UnaryOp.TheVariants as u
 use Rattle.c_decls.specs.Expressions as types
-use Rattle.c_decls.specs.Named as n
 use Rattle.c_decls.specs.PlaceRules as rules
 use Rattle.c_decls.specs.TypeNames as names
 use Rattle.core_soundness.proofs.CodeWalk.{Quiet, quiet_read, quiet_convert, quiet_tested_value, quiet_write, quiet_before, quiet_combined, quiet_changed, quiet_literal, quiet_compare_again, quiet_chosen_by, quiet_choose_last, quiet_argument, quiet_call}
-use Rattle.core_soundness.proofs.Growth.{good, bad, ok_same, never}
+use Rattle.core_soundness.proofs.Growth.{good, ok_same, never}
 use Rattle.core_soundness.proofs.Choices.{either_way}
 
 -- what came before an answer
@@ -27,8 +25,7 @@ pub record Came {A B : Type 0} (r : Checked A) (next : A → Checked B) (y : B) 
   pub last : next value ≡ Ok y
 
 pub came : {A B : Type 0} (r : Checked A) {next : A → Checked B} {y : B} → then r next ≡ Ok y → Came r next y
-came (Ok x) {next} {y} h = record { value = x; is = refl; last = h }
-came (Err x) {next} {y} h = never (Came (bad x) next y) x y h
+came r h = search (arith, never) fits 100
 
 -- what is read and written was gone through first
 pub changing_first : (tree : Tree) (answer : With Found) (z : Context × Found) → changing tree answer ≡ Ok z → answer ≡ Ok z
@@ -41,8 +38,7 @@ pub record Ruled (r : Checked PlainTyped) (known : names.Context) (z : Context �
 
 pub ruled : (r : Checked PlainTyped) (make : PlainTyped → Context × Found) (known : names.Context) (z : Context × Found) → ((t : PlainTyped) → (make t).1.typed ≡ t) → ((t : PlainTyped) → asked (make t).0 ≡ known)
     → then r (λ t. Ok (make t)) ≡ Ok z → Ruled r known z
-ruled (Ok t) make known z g h e = search (arith, ok_same)
-ruled (Err x) make known z g h e = never (Ruled (bad x) known z) x z e
+ruled r make known z g h e = search (arith, ok_same, never) fits 100
 
 -- two answers agree: they have the same type and the same scopes and tags
 abbrev pub Agreed : types.Found → Context × Found → Type 0
@@ -94,17 +90,13 @@ changing_agrees tree answer x z h e = grind (arith, came, ok_same, changing_is)
 -- names and literals
 
 object_typed : (t : PlainTyped) (inner : Bool) (index : ℕ) → (object_found t inner index).typed ≡ t
-object_typed t true index = refl
-object_typed t false index = refl
+object_typed t inner index = search arith fits 100
 
 built_in_typed : (t : PlainTyped) (null : Bool) → (built_in_found t null).typed ≡ t
-built_in_typed t true = refl
-built_in_typed t false = refl
+built_in_typed t null = search arith fits 100
 
 name_typed : (t : PlainTyped) (inner : Bool) (declared : Option PlainNamed) → (name_found t inner declared).typed ≡ t
-name_typed t inner (Some (n.Object type index)) = object_typed t inner index
-name_typed t inner (Some (n.BuiltIn index)) = built_in_typed t t.is_null
-name_typed t inner other = refl
+name_typed t inner declared = search (arith, object_typed, built_in_typed) fits 100
 
 pub name_agrees : (line : ℕ) (name : List ℕ) (declared : Option PlainNamed) (c : Context) (z : Context × Found) → name_answer line name declared c ≡ Ok z → Agreed (answered (asked c) (named line declared)) z
 name_agrees line name declared c z h = search (arith, ruled, name_typed, finish, answered_is)
@@ -135,8 +127,7 @@ address_rule line c e z h = ruled (address line e.typed) (λ t. (c, found_as t (
 -- an operator before a value: what is no integer is refused, but for `*` and `!`
 
 quiet_number : (line : ℕ) (op : UnaryOp) (t : PlainTyped) (o : Operand) (c : Context) (e : Found) → Quiet c (before_number line op t o c e).0
-quiet_number line op t (Number ty) c e = quiet_before line op ty (atom_in e) c
-quiet_number line op t other c e = refl
+quiet_number line op t o c e = search (arith, quiet_before) fits 100
 
 quiet_apply : (line : ℕ) (op : UnaryOp) (tree : Tree) (t : PlainTyped) (c : Context) (e : Found) → Quiet c (apply line op tree t c e).0
 quiet_apply line u.Deref tree t c e = refl
@@ -144,10 +135,7 @@ quiet_apply line u.Not tree t c e = quiet_tested_value tree (c, e)
 quiet_apply line op tree t c e = quiet_number line op t (operand e.typed.type) c e
 
 apply_of : (line : ℕ) (op : UnaryOp) (tree : Tree) (t : PlainTyped) (c : Context) (e : Found) (o : Operand) → operand e.typed.type ≡ o → unary_of line op e.typed o ≡ Ok t → (apply line op tree t c e).1.typed ≡ t
-apply_of line u.Deref tree t c e o is h = refl
-apply_of line u.Not tree t c e o is h = refl
-apply_of line op tree t c e (Number ty) is h = ap (λ (x : Operand). (before_number line op t x c e).1.typed) is
-apply_of line other tree t c e rest is h = never _ _ t h
+apply_of line op tree t c e o is h = search (arith, never) fits 100
 
 pub applied_rule : (line : ℕ) (op : UnaryOp) (tree : Tree) (c : Context) (e : Found) (z : Context × Found) → applied line op tree c e ≡ Ok z → Ruled (unary line op c.tags e.typed) (asked c) z
 applied_rule line op tree c e z h = search (arith, came, ok_same, apply_of, quiet_apply)
@@ -201,20 +189,17 @@ quiet_change_place : (line : ℕ) (op : BinaryOp) (t : PlainTyped) (target : Fou
 quiet_change_place line op t target old e y c = search (arith, quiet_write, quiet_changed)
 
 quiet_answer : (keeps_old : Bool) (t : PlainTyped) (old : Atom) (v : Context × Atom) → Quiet v.0 (changed_answer keeps_old t old v).0
-quiet_answer true t old v = refl
-quiet_answer false t old v = refl
+quiet_answer keeps_old t old v = search arith fits 100
 
 answer_typed : (keeps_old : Bool) (t : PlainTyped) (old : Atom) (v : Context × Atom) → (changed_answer keeps_old t old v).1.typed ≡ t
-answer_typed true t old v = refl
-answer_typed false t old v = refl
+answer_typed keeps_old t old v = search arith fits 100
 
 pub changed_rule : (line : ℕ) (op : AssignOp) (keeps_old : Bool) (target : Found) (old : Atom) (d : Context × Found) (z : Context × Found) → changed_by line op keeps_old target old d ≡ Ok z → Ruled (changed line op d.0.tags target.typed d.1.typed) (asked d.0) z
 changed_rule line op keeps_old target old d z h = search (arith, ruled, answer_typed, quiet_answer, quiet_change_place)
 
 -- `--` is refused where `++` is
 steps_alike : (line : ℕ) (tags : TagTable) (type : PlainType) (o : Operand) → changed_types line a.Subtract tags type o (Number i.Int) ≡ changed_types line a.Add tags type o (Number i.Int)
-steps_alike line tags type (Number ty) = refl
-steps_alike line tags type other = refl
+steps_alike line tags type o = search arith fits 100
 
 pub stepped_alike : (line : ℕ) (tags : TagTable) (t : PlainTyped) → changed line a.Subtract tags t int ≡ changed line a.Add tags t int
 stepped_alike line tags t = ap (λ (x : Checked PlainTyped). unless (not (is_written t)) NotLvalue line x) (steps_alike line tags t.type (operand t.type))
@@ -230,8 +215,7 @@ abbrev CalleeAgrees : Checked (names.Context × Callee) → Context × Callee �
 CalleeAgrees x z = x ≡ Ok (asked z.0, z.1)
 
 name_callee : (r : Checked Callee) (c : Context) (z : Context × Callee) → then r (λ function. good (c, function)) ≡ Ok z → CalleeAgrees (then r (λ function. good (asked c, function))) z
-name_callee (Ok function) c z h = subst (CalleeAgrees (good (asked c, function))) (ok_same (c, function) z h) refl
-name_callee (Err x) c z h = never (CalleeAgrees (bad x) z) x z h
+name_callee r c z h = search (arith, ok_same, never) fits 100
 
 other_callee : (tree : Tree) (answer : With Found) (x : types.Found) (z : Context × Callee) → ((d : Context × Found) → answer ≡ Ok d → Agreed x d) → then (valued tree answer) (λ d. good (d.0, NoFunction)) ≡ Ok z
     → CalleeAgrees (then x (λ d. then (no_function (line_of tree) d.0.tags (Ok d.1)) (λ function. good (d.0, function)))) z
@@ -245,8 +229,7 @@ callee_agrees tree c answer x z h e = other_callee tree answer x z h e
 
 string_text : (test : Bool) (line k : ℕ) (known : names.Context) (t : names.Context × PlainTyped) → then (unless test TypeTooLarge line (good (place (Array (Int i.Char) k)))) (λ e. good (known, e)) ≡ Ok t
     → t ≡ (known, place (Array (Int i.Char) k))
-string_text true line k known t h = never (t ≡ (known, place (Array (Int i.Char) k))) _ t h
-string_text false line k known t h = sym (ok_same (known, place (Array (Int i.Char) k)) t h)
+string_text test line k known t h = search (arith, never, ok_same) fits 100
 
 abbrev TextOf : Option (List ℕ) → names.Context → names.Context × PlainTyped → Type 0
 TextOf None known t = Unit {0}
@@ -270,25 +253,16 @@ SameTypes (Takes answer params) xs ys = xs ≡ ys
 SameTypes NoFunction xs ys = xs ≡ ys
 
 same_all : (function : Callee) (xs : List PlainTyped) → SameTypes function xs xs
-same_all Prints [] = tt
-same_all other xs = refl
+same_all function xs = search arith fits 100
 
 same_rest : (function : Callee) (x : PlainTyped) (xs ys : List PlainTyped) → xs ≡ ys → SameTypes function (x ∷ xs) (x ∷ ys)
-same_rest Prints x xs ys e = e
-same_rest other x xs ys e = ap (λ (l : List PlainTyped). x ∷ l) e
+same_rest function x xs ys e = search arith fits 100
 
 call_same : (line : ℕ) (format : Option (List ℕ)) (function : Callee) (xs ys : List PlainTyped) → SameTypes function xs ys → call line format function xs ≡ call line format function ys
-call_same line format (Takes answer params) xs ys h = ap (λ (l : List PlainTyped). call line format (Takes answer params) l) h
-call_same line format NoFunction xs ys h = refl
-call_same line None Prints xs ys h = refl
-call_same line (Some bytes) Prints [] [] h = refl
-call_same line (Some bytes) Prints [] (y ∷ ys) h = absurd h
-call_same line (Some bytes) Prints (x ∷ xs) [] h = absurd h
-call_same line (Some bytes) Prints (x ∷ xs) (y ∷ ys) h = ap (λ (l : List PlainTyped). call line (Some bytes) Prints (x ∷ l)) h
+call_same line format function xs ys h = search arith fits 100
 
 argument_typed : (line : ℕ) (params : PlainTypes) (before : Code) (c : Context) (e : Found) → (argument_from line params before c e).1.0 ≡ e.typed
-argument_typed line ct.none before c e = refl
-argument_typed line (ct.first type rest) before c e = refl
+argument_typed line params before c e = search arith fits 100
 
 -- an argument with its type as a value
 record Argued (function : Callee) (x : types.Found) (c : Context) (d : Context × Found) : Type 0 where

@@ -1,13 +1,13 @@
 -- Fixed addresses and pointers of statics are those of objects that are there.
-use Rattle.std.proofs.Common.{◌≡◌, ◌≤◌, ◌+◌, ◌*◌, ◌/◌, ◌%◌, ◌&&◌, ◌==◌, ℕ, ℤ, pos, negsuc, neg_ℤ, ◌+ℤ◌, ◌*ℤ◌, Bool, true, false, cond, length, is_some, List, [], ◌∷◌, ◌++◌, slice_get, Option, Some, None, Ok, refl, sym, ap, ◌∙◌, subst, arith, not}
+use Rattle.std.proofs.Common.{◌≡◌, ◌≤◌, ◌+◌, ◌*◌, ◌/◌, ◌%◌, ◌&&◌, ◌==◌, ℕ, ℤ, pos, negsuc, neg_ℤ, ◌+ℤ◌, Bool, true, false, cond, length, is_some, List, [], ◌∷◌, ◌++◌, slice_get, Option, Some, None, Ok, refl, sym, ap, ◌∙◌, subst, arith, not}
 use Rattle.std.proofs.lemmas.Bool.{and_parts, leb-true, eq-eqb}
 use Rattle.std.specs.Option.{option_or}
 use Rattle.std.specs.Ordering.{int_eq}
 use Rattle.std.specs.Prelude.{int_le, nat_le, unsigned_abs}
 use Rattle.core_soundness.proofs.Words.Trees.{Tree, Trees, Leaf, At, Node, none, ◌▹◌, count, AssignOp, BinaryOp, UnaryOp}
-use Rattle.core_soundness.proofs.Words.Types.{PlainType, Void, Array, Struct, Union, Layout, IntType, named, Callee, line_of, string, int_constant, char_constant, joined, typed, typename, PlainNamed, element, dot, arrow, choice, assigned, unconverted, Checked, refused, then, Table, named_in, found_from, found as declaration, binary, address, PlainTyped, Operand, Number, PointerTo, operand, read, is_null_constant, is_record, constant, StaticTooLarge, Assignment, Folded, Is}
+use Rattle.core_soundness.proofs.Words.Types.{PlainType, Void, Array, Layout, IntType, named, Callee, line_of, string, int_constant, char_constant, joined, typed, typename, PlainNamed, element, dot, arrow, choice, assigned, unconverted, Checked, refused, then, Table, named_in, found_from, found as declaration, binary, address, PlainTyped, Operand, Number, operand, read, is_null_constant, is_record, constant, StaticTooLarge, Assignment, Folded}
 use Rattle.core_soundness.proofs.Words.Core.{block_size, Start, Atom}
-use Rattle.core_soundness.proofs.Words.Elaborating.{record_assigned, scalar_assigned, old_value, changed_answer, changed_by, one_found, stepped, Argument, Code, Context, Variable, With, file_variable, literal_object, asked, told, new_label, Found, Fixed, Unknown, Nowhere, Inside, atom_in, code_line, read_spot, read_fixed, valued_from, valued, convert, size_or_zero, unused, name_answer, literal_answer, address_answer, unevaluated, changing, comma_answer, callee, callee_name, parameters, call_answer, found, arguments, cast_operand, Target, InRegister, InMemory, InStatic, static_integer, static_address, static_pointer, static_scalar, fill_scalar, scalar, fill_record, whole, fill_text, is_character, text, by_text, by_expression, parts_of, takes_braces, is_scalar_type, all_surplus, initialize, initialize_parts, static_size, moved_by, moved_times, fixed_sum_of, fixed_sum, combined, offset_of, member_address, opened, object_found, built_in_found, name_found, is_inner, with_static, with_literal, literal_found, indexed, dotted, target_of, pointed, before_number, apply, applied, tells_equal, is_pointer_ahead, ahead, left_operand, between, cast_to, constant_found, and_then, and_ended, or_else, or_ended, choose, type_ahead, choose_first, chosen}
+use Rattle.core_soundness.proofs.Words.Elaborating.{record_assigned, scalar_assigned, old_value, changed_answer, changed_by, one_found, stepped, Argument, Code, Context, Variable, With, file_variable, literal_object, asked, told, new_label, Found, Fixed, Unknown, Nowhere, Inside, atom_in, code_line, read_spot, read_fixed, valued_from, valued, convert, unused, name_answer, literal_answer, address_answer, unevaluated, changing, comma_answer, callee, callee_name, parameters, call_answer, found, arguments, cast_operand, Target, InRegister, InMemory, InStatic, static_integer, static_address, static_pointer, static_scalar, fill_scalar, scalar, fill_record, whole, fill_text, is_character, text, by_text, by_expression, parts_of, takes_braces, is_scalar_type, all_surplus, initialize, initialize_parts, static_size, moved_by, moved_times, fixed_sum_of, fixed_sum, combined, offset_of, member_address, opened, object_found, built_in_found, name_found, is_inner, with_static, with_literal, literal_found, indexed, dotted, target_of, pointed, before_number, apply, applied, tells_equal, is_pointer_ahead, ahead, left_operand, between, cast_to, constant_found, and_then, and_ended, or_else, or_ended, choose, type_ahead, choose_first, chosen}
 use Rattle.c_types.specs.Types as ct
 use Rattle.c_tree.specs.Forms as f
 use Rattle.c_tree.specs.Words as w
@@ -84,10 +84,7 @@ variable_room : (c : Context) (k : ℕ) (v : Variable) → slice_get c.variables
 variable_room c k v e = search (arith, even_test, half_even)
 
 odd_test : (k : ℕ) → (literal_object k % 2 == 0) ≡ false
-odd_test k = subst (λ (j : ℕ). (j == 0) ≡ false) (sym one) refl
-  where
-    one : literal_object k % 2 ≡ 1
-    one = omega arith
+odd_test k = search arith fits 100
 
 literal_room : (c : Context) (k : ℕ) (bytes : List ℕ) → slice_get c.literals k ≡ Some bytes → static_size c (literal_object k) ≡ length bytes + 1
 literal_room c k bytes e = search (arith, odd_test, half_odd)
@@ -115,19 +112,14 @@ moved_in c distance Nowhere h = either_way (FixedAt c) (int_eq distance (pos 0))
 moved_in c distance (Inside g at) h = moved_to c g h.0 (at +ℤ distance) h.2
 
 times_in : (c : Context) (down : Bool) (size : ℕ) (folded : Folded) (fixed : Fixed) → FixedAt c fixed → FixedAt c (moved_times c down size folded fixed)
-times_in c down size (Is k) fixed h = moved_in c (cond down (neg_ℤ (k *ℤ pos size)) (k *ℤ pos size)) fixed h
-times_in c down size other fixed h = tt
+times_in c down size folded fixed h = search (arith, moved_in, neg_ℤ) fits 100
 
 sum_of_in : (c : Context) (down : Bool) (s t : Operand) (x y : Found) → FixedAt c x.fixed → FixedAt c y.fixed → FixedAt c (fixed_sum_of c down s t x y)
-sum_of_in c down (PointerTo target) (Number t) x y h k = times_in c down (size_or_zero c target) y.typed.folded x.fixed h
-sum_of_in c down (Number s) (PointerTo target) x y h k = times_in c down (size_or_zero c target) x.typed.folded y.fixed k
-sum_of_in c down others other x y h k = tt
+sum_of_in c down s t x y h k = search (arith, times_in) fits 100
 
 pub sum_in : (c : Context) (op : BinaryOp) (x y : Found) → FixedAt c x.fixed → FixedAt c y.fixed → FixedAt c (fixed_sum c op x y)
 unfolding fixed_sum
-sum_in c b.Add x y h k = sum_of_in c false (operand x.typed.type) (operand y.typed.type) x y h k
-sum_in c b.Subtract x y h k = sum_of_in c true (operand x.typed.type) (operand y.typed.type) x y h k
-sum_in c op x y h k = tt
+sum_in c op x y h k = search (arith, sum_of_in) fits 100
 
 -- names and literals
 
@@ -149,13 +141,10 @@ object_in c typed name type i false q h e =
     let r = h name type i (found_outside c.scopes.file c.scopes.inner name (n.Object type i) q e) in (0, refl, in_variable i r.0 refl r.1 (omega arith))
 
 built_in_aimed : (c : Context) (typed : PlainTyped) (t : Bool) → FixedAt c (built_in_found typed t).fixed
-built_in_aimed c typed true = tt
-built_in_aimed c typed false = tt
+built_in_aimed c typed t = search arith fits 100
 
 name_in : (c : Context) (typed : PlainTyped) (name : List ℕ) (o : Option PlainNamed) → declaration c.scopes name ≡ o → There c → FixedAt c (name_found typed (is_inner c name) o).fixed
-name_in c typed name (Some (n.Object type i)) e h = object_in c typed name type i (is_inner c name) refl h e
-name_in c typed name (Some (n.BuiltIn i)) e h = built_in_aimed c typed typed.is_null
-name_in c typed name other e h = tt
+name_in c typed name o e h = search (arith, object_in, built_in_aimed) fits 100
 
 pub name_aimed : (line : ℕ) (name : List ℕ) (c : Context) (z : Context × Found) → There c → name_answer line name (declaration c.scopes name) c ≡ Ok z → Aimed z
 name_aimed line name c z h q =
@@ -180,12 +169,10 @@ string_aimed line bytes c z h =
 -- values
 
 read_in : (vs : List Variable) (ls : List (List ℕ)) (type : PlainType) (fixed : Fixed) → FixedIn vs ls fixed → FixedIn vs ls (read_fixed type fixed)
-read_in vs ls (ct.Array element length) fixed h = h
-read_in vs ls other fixed h = tt
+read_in vs ls type fixed h = search arith fits 100
 
 either_in : (vs : List Variable) (ls : List (List ℕ)) (t : Bool) (one other : Fixed) → FixedIn vs ls one → FixedIn vs ls other → FixedIn vs ls (cond t one other)
-either_in vs ls true one other h k = h
-either_in vs ls false one other h k = k
+either_in vs ls t one other h k = search arith fits 100
 
 pub valued_from_aimed : (tree : Tree) (c : Context) (e : Found) (z : Context × Found) → FixedAt c e.fixed → valued_from tree c e ≡ Ok z → Aimed z
 valued_from_aimed tree c e z h q =
@@ -284,8 +271,7 @@ unevaluated_aimed : (c : Context) (answer : Checked (names.Context × PlainTyped
 unevaluated_aimed c answer z q = let t = came answer q in subst Aimed (ok_same _ z t.last) tt
 
 answer_aimed : (keeps : Bool) (typed : PlainTyped) (old : Atom) (v : Context × Atom) → Aimed (changed_answer keeps typed old v)
-answer_aimed true typed old v = tt
-answer_aimed false typed old v = tt
+answer_aimed keeps typed old v = search arith fits 100
 
 changed_aimed : (line : ℕ) (op : AssignOp) (keeps : Bool) (target : Found) (old : Atom) (d z : Context × Found) → changed_by line op keeps target old d ≡ Ok z → Aimed z
 changed_aimed line op keeps target old d z q = search (arith, came, ok_same, answer_aimed)
@@ -440,8 +426,7 @@ pointer_points : (line offset : ℕ) (start : Start) (c : Context) (e : Found) �
 pointer_points line offset start c e h k = led_cond (StartIn c) (is_null_constant e.typed) (Ok start) (static_address line offset start e.fixed) (led_ok (StartIn c) h) (address_points line offset start c e.fixed h k)
 
 integer_points : (line : ℕ) (ty : IntType) (offset : ℕ) (start : Start) (c : Context) (folded : Folded) → StartIn c start → Led (StartIn c) (static_integer line ty offset start folded)
-integer_points line ty offset start c (Is v) h = led_ok (StartIn c) h
-integer_points line ty offset start c other h = led_refused (StartIn c)
+integer_points line ty offset start c folded h = search (arith, led_ok, led_refused) fits 100
 
 static_points : (line : ℕ) (type : PlainType) (offset : ℕ) (start : Start) (c : Context) (e : Found) → StartIn c start → FixedAt c e.fixed → Led (StartIn c) (static_scalar line type offset start e)
 static_points line (ct.Int ty) offset start c e h k = integer_points line ty offset start c e.typed.folded h
@@ -465,16 +450,13 @@ scalar_points e line type offset target c n h =
     (fill_points e line type offset begun.code target c d (settled_trans c begun d.0 o (grows_settled begun d.0 (value_grew e type begun d q))) (value_aimed e type begun d (there_on c begun o n) q) h))
 
 record_points : (e : Tree) (line : ℕ) (type : PlainType) (offset : ℕ) (c : Context) (d : Context × Found) (target : Target) → TargetIn c target → Led (Points c) (fill_record e line type offset d target)
-record_points e line type offset c d (InMemory at mem) h = absurd h
-record_points e line type offset c d other h = led_refused (Points c)
+record_points e line type offset c d target h = search (arith, led_refused) fits 100
 
 whole_points : (e : Tree) (line : ℕ) (type : PlainType) (offset : ℕ) (target : Target) (c : Context) → TargetIn c target → Led (Points c) (whole e line type offset target c)
 whole_points e line type offset target c h = search (arith, led_after, led_unless, not, record_points)
 
 text_points : (e : Tree) (line : ℕ) (bytes : List ℕ) (size offset : ℕ) (target : Target) (c : Context) → TargetIn c target → Led (Points c) (fill_text e line bytes size offset target c)
-text_points e line bytes size offset (InMemory at mem) c h = absurd h
-text_points e line bytes size offset (InStatic start) c h = led_ok (Points c) (settled_refl c, h)
-text_points e line bytes size offset (InRegister at register) c h = led_refused (Points c)
+text_points e line bytes size offset target c h = search (arith, led_ok, settled_refl, led_refused) fits 100
 
 by_text_points : (e : Tree) (line : ℕ) (element : PlainType) (size offset : ℕ) (o : Option (List ℕ)) (target : Target) (c : Context) → TargetIn c target → Led (Points c) (by_text e line element size offset o target c)
 by_text_points e line element size offset None target c h = whole_points e line (Array element size) offset target c h
@@ -484,9 +466,7 @@ by_text_points e line element size offset (Some bytes) target c h =
 
 by_expression_points : (e : Tree) (line : ℕ) (type : PlainType) (offset : ℕ) (target : Target) (c : Context) → There c → TargetIn c target → Led (Points c) (by_expression e line type offset target c)
 by_expression_points e line (Array element size) offset target c n h = by_text_points e line element size offset (text e) target c h
-by_expression_points e line (Struct tag) offset target c n h = whole_points e line (Struct tag) offset target c h
-by_expression_points e line (Union tag) offset target c n h = whole_points e line (Union tag) offset target c h
-by_expression_points e line type offset target c n h = scalar_points e line type offset target c n h
+by_expression_points e line type offset target c n h = search (arith, whole_points, scalar_points) fits 100
 
 mutual
   unfolding initialize initialize_parts

@@ -5,7 +5,7 @@ use Rattle.std.proofs.lemmas.Bool.{and_parts}
 use Rattle.std.specs.List.{flat_map}
 use Rattle.std.specs.Option.{option_or}
 use Rattle.core_soundness.proofs.Words.Trees.{Form, Tree, Trees, Leaf, At, Node, none, ◌▹◌, AssignOp}
-use Rattle.core_soundness.proofs.Words.Types.{TagTable, PlainType, PlainTypes, Void, kind_of, built_ins, Callee, Takes, Prints, NoFunction, built_in_callee, function_callee, no_function, built_in_named, built_in_called, callee_at, named, called, call, prints, is_format, suit, suits_type, line_of, first_literal, promoted, PlainNamed, Tag, unconverted, changed, assigned, all_convert, length_of, Checked, then, unless, named_in, ScopeList, Table, found_from, found as declaration, PlainTyped, Neither, operand, value, is_scalar, is_record, same, has_no_size, read, has_no_value, wanted_value, BuiltIn, NotLvalue, Incomplete, Operands, Assignment, ArgumentCount, Format}
+use Rattle.core_soundness.proofs.Words.Types.{TagTable, PlainType, PlainTypes, Void, built_ins, Callee, Takes, Prints, NoFunction, built_in_callee, function_callee, no_function, built_in_called, callee_at, called, call, prints, is_format, suit, suits_type, line_of, first_literal, PlainNamed, Tag, unconverted, changed, assigned, all_convert, length_of, Checked, then, unless, named_in, ScopeList, Table, found_from, found as declaration, PlainTyped, Neither, operand, value, is_scalar, is_record, same, has_no_size, read, has_no_value, wanted_value, BuiltIn, NotLvalue, Incomplete, Operands, Assignment, ArgumentCount, Format}
 use Rattle.core_soundness.proofs.Words.Core.{width, pieces_of, Piece, Pointer, Sort, Integer, lib_takes, lib_gives, piece_takes, Atom, StmKind, Copy, Call, Malloc, Calloc, Realloc, Free, Lib, Printf, Enter, Leave}
 use Rattle.core_soundness.proofs.Words.Elaborating.{plain_name, record_assigned, set_to, scalar_assigned, old_value, change_place, changed_answer, changed_by, one_found, stepped, Argument, types_of, atoms_of, atom_at, rest_types, argument_from, lib_name, result_by, pointer_result, with_format, printing, call_built_in, call_of_built_in, call_named, element_layout, Context, emit, With, Found, Empty, Unknown, found_as, atom_in, code_line, convert, write, valued_from, size_or_zero, Spot, Local, valued, unused, call_answer, parameters as params_of, name_answer, changed_to, operator_of, name_found, object_found, built_in_found}
 use Rattle.core_soundness.proofs.Words.Facts.{is_register, NoRegister, TakesAddress, Spoken, AllSpoken, World, world, Holds, Held, StandsAs, Stands, HoldAll, Receives, IsPrinted, Fits, type_sort, param_sorts, result_sort, local_sort, InnerFits, FileFits, NamesFit, TableFits, TablesFit}
@@ -31,8 +31,7 @@ pub converting_of : (type : PlainType) (e : PlainTyped) → unconverted type e �
 converting_of type e h = grind arith
 
 flag_first : (x y : Bool) → not (x && y) ≡ false → x ≡ true
-flag_first true y e = refl
-flag_first false y e = cc
+flag_first x y e = search arith fits 100
 
 stands_flag : (w : World) (e : Found) (k : Bool) → e.typed.is_place ≡ k → Stands w e → StandsAs w k e.typed.type e.spot
 stands_flag w e k q h = subst (λ (x : Bool). StandsAs w x e.typed.type e.spot) q h
@@ -40,33 +39,21 @@ stands_flag w e k q h = subst (λ (x : Bool). StandsAs w x e.typed.type e.spot) 
 -- structs and unions
 
 record_operand : (type : PlainType) → is_record type ≡ true → (operand type ≡ Neither) × (is_scalar type ≡ false)
-record_operand (types.Struct tag) e = (refl, refl)
-record_operand (types.Union tag) e = (refl, refl)
-record_operand other e = cc
+record_operand type e = search arith fits 100
 
 pub same_record : (s t : PlainType) → is_record s ≡ true → same s t ≡ true → is_scalar t ≡ false
 unfolding same
-same_record (types.Struct tag) (types.Int ty) r e = cc
-same_record (types.Struct tag) (types.Pointer target) r e = cc
-same_record (types.Union tag) (types.Int ty) r e = cc
-same_record (types.Union tag) (types.Pointer target) r e = cc
-same_record (types.Struct tag) other r e = refl
-same_record (types.Union tag) other r e = refl
-same_record other t r e = cc
+same_record s t r e = search arith fits 100
 
 cond_true : {A : Type 0} (k : Bool) (x y : Checked A) (v : A) → k ≡ true → cond k x y ≡ Ok v → x ≡ Ok v
-cond_true true x y v e h = h
-cond_true false x y v e h = cc
+cond_true k x y v e h = search arith fits 100
 
 cond_false : {A : Type 0} (k : Bool) (x y : Checked A) (v : A) → k ≡ false → cond k x y ≡ Ok v → y ≡ Ok v
-cond_false true x y v e h = cc
-cond_false false x y v e h = h
+cond_false k x y v e h = search arith fits 100
 
 record_again : (s t : PlainType) → is_record s ≡ true → same s t ≡ true → is_record t ≡ true
 unfolding same
-record_again (types.Struct tag) (types.Struct other) r e = refl
-record_again (types.Union tag) (types.Union other) r e = refl
-record_again other t r e = cc
+record_again s t r e = search arith fits 100
 
 -- a struct or a union that is no assignment is a place
 record_place : (type : PlainType) (e : PlainTyped) → is_record type ≡ true → same type e.type ≡ true → has_no_value e ≡ false → e.is_place ≡ true
@@ -180,8 +167,7 @@ ArgumentsHeld w params [] = Unit {0}
 ArgumentsHeld w params (v ∷ vs) = ArgumentHeld w params v × ArgumentsHeld w (rest_types params) vs
 
 argument_grew : (u v : World) (params : PlainTypes) (x : Argument) → Grew u v → ArgumentHeld u params x → ArgumentHeld v params x
-argument_grew u v types.none x g h = held_grew u v x.0.type x.1 g h
-argument_grew u v (types.first type rest) x g h = λ k. held_grew u v type x.1 g (h k)
+argument_grew u v params x g h = search (arith, held_grew) fits 100
 
 pub arguments_grew : (u v : World) (params : PlainTypes) (xs : List Argument) → Grew u v → ArgumentsHeld u params xs → ArgumentsHeld v params xs
 arguments_grew u v params [] g h = tt
@@ -205,9 +191,7 @@ argument_goes line (types.first type rest) b c e l g h = let k = converted line 
 
 -- an argument that converts has the sort of its parameter
 param_held : (w : World) (type : PlainType) (e : PlainTyped) (a : Atom) → unconverted type e ≡ None → Held w type a → Holds w (type_sort type) a
-param_held w (types.Int ty) e a u h = h
-param_held w (types.Pointer target) e a u h = h
-param_held w other e a u h = cc
+param_held w type e a u h = search arith fits 100
 
 pub params_held : (w : World) (line : ℕ) (params : PlainTypes) (vs : List Argument) (r : Checked PlainTyped) (e : PlainTyped) → length (types_of vs) ≡ length_of params → all_convert line params (types_of vs) r ≡ Ok e → ArgumentsHeld w params vs → HoldAll w (param_sorts params) (atoms_of vs) × (r ≡ Ok e)
 params_held w line types.none [] r e same h k = (tt, h)
@@ -264,13 +248,10 @@ pointer_answered : (type : PlainType) (c : Context) (d : Context × Atom) → Gi
 pointer_answered type c d g = record { goes = g.goes; stands = g.holds; apart = tt }
 
 first_at : (w : World) (s : Sort) (sorts : List Sort) (vs : List Argument) → HoldAll w (s ∷ sorts) (atoms_of vs) → Holds w s (atom_at vs 0)
-first_at w s sorts [] h = absurd h
-first_at w s sorts (v ∷ vs) h = h.0
+first_at w s sorts vs h = search arith fits 100
 
 second_at : (w : World) (s t : Sort) (sorts : List Sort) (vs : List Argument) → HoldAll w (s ∷ t ∷ sorts) (atoms_of vs) → Holds w t (atom_at vs 1)
-second_at w s t sorts [] h = absurd h
-second_at w s t sorts (v ∷ []) h = absurd h.1
-second_at w s t sorts (v ∷ u ∷ vs) h = h.1.0
+second_at w s t sorts vs h = search arith fits 100
 
 lib_answered : (line : ℕ) (name : BuiltIn) (answer : PlainType) (vs : List Argument) (c : Context) → 1 ≤ line → result_sort answer ≡ lib_gives (lib_name name) → HoldAll (world c) (lib_takes (lib_name name)) (atoms_of vs)
     → Answered c (value answer) (result_by line answer (λ r. Lib (lib_name name) r (atoms_of vs)) c)
@@ -332,15 +313,7 @@ built_in_answered other line answer wanted params format vs c l e h = cc
 -- `printf`
 
 suited : (w : World) (conv bytes : ℕ) (type : PlainType) (a : Atom) → suits_type conv bytes type ≡ true → Held w type a → Holds w (cond (conv == 115) Pointer Integer) a
-suited w conv bytes (types.Int ty) a e h = by (conv == 115) e
-  where
-    by : (k : Bool) → not k && nat_eq (width (kind_of (promoted ty))) (cond (bytes == 8) 8 4) ≡ true → Holds w (cond k Pointer Integer) a
-    by false e = h
-    by true e = cc
-suited w conv bytes (types.Pointer (types.Int i.Char)) a e h = subst (λ (k : Bool). Holds w (cond k Pointer Integer) a) (sym e) h
-suited w conv bytes (types.Pointer (types.Int i.SChar)) a e h = subst (λ (k : Bool). Holds w (cond k Pointer Integer) a) (sym e) h
-suited w conv bytes (types.Pointer (types.Int i.UChar)) a e h = subst (λ (k : Bool). Holds w (cond k Pointer Integer) a) (sym e) h
-suited w conv bytes type a e h = cc
+suited w conv bytes type a e h = search (arith, nat_eq) fits 100
 
 all_suited : (w : World) (pieces : List Piece) (vs : List Argument) → suit pieces (types_of vs) ≡ true → ArgumentsHeld w types.none vs → HoldAll w (flat_map piece_takes pieces) (atoms_of vs)
 all_suited w [] [] e h = tt
@@ -372,18 +345,11 @@ no_function_is : (line : ℕ) (tags : TagTable) (answer : Checked PlainTyped) (f
 no_function_is line tags answer function h = search (arith, came, ok_same)
 
 built_in_of : (line : ℕ) (tags : TagTable) (o : Option BuiltIn) (k : Callee) (function : Callee) → built_in_called line tags o k ≡ Ok function → (function ≡ k) ⊎ (function ≡ NoFunction)
-built_in_of line tags o NoFunction function h = inr (no_function_is line tags (built_in_named line o) function h)
-built_in_of line tags o other function h = inl (sym (ok_same _ function h))
+built_in_of line tags o k function h = search (arith, no_function_is, ok_same) fits 100
 
 pub call_of : (line : ℕ) (v : World) (tags : TagTable) (name : List ℕ) (o : Option PlainNamed) (function : Callee) → ((type : PlainType) (index : ℕ) → o ≡ Some (n.Function type index) → named_in name v.file ≡ Some (n.Function type index)) → called line tags o ≡ Ok function → CallOf v o function
 call_of line v tags name (Some (n.Function type index)) function k h = (sym (ok_same _ function h), (name, k type index refl))
-call_of line v tags name (Some (n.BuiltIn index)) function k h = built_in_of line tags (slice_get built_ins index) (callee_at (slice_get built_ins index)) function h
-call_of line v tags name (Some (n.Object type index)) function k h = no_function_is line tags (named line (Some (n.Object type index))) function h
-call_of line v tags name (Some (n.Register type index)) function k h = no_function_is line tags (named line (Some (n.Register type index))) function h
-call_of line v tags name (Some (n.Typedef type)) function k h = no_function_is line tags (named line (Some (n.Typedef type))) function h
-call_of line v tags name (Some (n.Constant type c)) function k h = no_function_is line tags (named line (Some (n.Constant type c))) function h
-call_of line v tags name (Some (n.Tag type)) function k h = no_function_is line tags (named line (Some (n.Tag type))) function h
-call_of line v tags name None function k h = no_function_is line tags (named line None) function h
+call_of line v tags name o function k h = search (arith, built_in_of, no_function_is) fits 100
 
 same_length : (a b : ℕ) → not (a == b) ≡ false → a ≡ b
 same_length a b e = eqb-true a b (not_false (a == b) e)
@@ -462,24 +428,17 @@ pub sort_kept : (a b : World) (k : ℕ) (sort : Sort) → Grew a b → local_sor
 sort_kept a b k sort g h = grind (arith, option_map)
 
 pub inner_kept : (a b : World) (v : PlainNamed) → Grew a b → InnerFits a v → InnerFits b v
-inner_kept a b (n.Object type i) g h = omega (arith, h, g.mems)
-inner_kept a b (n.Register type i) g h = (h.0, sort_kept a b i (type_sort type) g h.1)
-inner_kept a b (n.Function type i) g h = h
-inner_kept a b other g h = tt
+inner_kept a b v g h = search (arith, sort_kept) fits 100
 
 pub file_kept : (a b : World) (v : PlainNamed) → Grew a b → FileFits a v → FileFits b v
-file_kept a b (n.Object type i) g h = omega (arith, h, g.variables)
-file_kept a b (n.Register type i) g h = h
-file_kept a b other g h = tt
+file_kept a b v g h = search arith fits 100
 
 table_more : (P Q : PlainNamed → Type 0) (one other : Table) → ((v : PlainNamed) → P v → Q v) → ((type : PlainType) → Q (Tag type)) → MoreTags one other → TableFits P one → TableFits Q other
 table_more P Q one other up tags m h name v e = search (arith, some_same)
 
 tables_more : (P Q : PlainNamed → Type 0) (one other : List Table) → ((v : PlainNamed) → P v → Q v) → ((type : PlainType) → Q (Tag type)) → MoreAll one other → TablesFit P one → TablesFit Q other
-tables_more P Q [] [] up tags m h = tt
-tables_more P Q [] (t ∷ ts) up tags m h = absurd m
-tables_more P Q (s ∷ ss) [] up tags m h = absurd m
 tables_more P Q (s ∷ ss) (t ∷ ts) up tags m h = (table_more P Q s t up tags m.0 h.0, tables_more P Q ss ts up tags m.1 h.1)
+tables_more P Q one other up tags m h = search arith fits 100
 
 pub names_more : (a b : World) (s t : ScopeList) → Grew a b → More s t → NamesFit a s → NamesFit b t
 names_more a b s t g m h = record {
@@ -490,9 +449,6 @@ names_more a b s t g m h = record {
 -- registers
 
 register_from : (f g : Table) (ss ts : List Table) (name : List ℕ) → MoreTags f g → MoreAll ss ts → is_register (found_from f name ss) ≡ false → is_register (found_from g name ts) ≡ false
-register_from f g [] [] name m k h = search arith
-register_from f g [] (t ∷ ts) name m k h = absurd k
-register_from f g (s ∷ ss) [] name m k h = absurd k
 register_from f g (s ∷ ss) (t ∷ ts) name m k h =
     ⊎_elim
     (λ (q : named_in name t ≡ named_in name s). same (named_in name s) (named_in name t) q (λ j. register_from f g ss ts name m k.1 j) h)
@@ -502,15 +458,14 @@ register_from f g (s ∷ ss) (t ∷ ts) name m k h =
     same : (x y : Option PlainNamed) → y ≡ x → (is_register (found_from f name ss) ≡ false → is_register (found_from g name ts) ≡ false) → is_register (option_or x (found_from f name ss)) ≡ false → is_register (option_or y (found_from g name ts)) ≡ false
     same (Some v) y e again q = ap (λ (o : Option PlainNamed). is_register (option_or o (found_from g name ts))) e ∙ q
     same None y e again q = ap (λ (o : Option PlainNamed). is_register (option_or o (found_from g name ts))) e ∙ again q
+register_from f g ss ts name m k h = search arith fits 100
 
 no_register_more : (s t : ScopeList) (o : Option (List ℕ)) → More s t → NoRegister s o → NoRegister t o
-no_register_more s t None m h = tt
-no_register_more s t (Some name) m h = register_from s.file t.file s.inner t.inner name m.file m.inner h
+no_register_more s t o m h = search (arith, register_from) fits 100
 
 address_more : (s t : ScopeList) (form : Form) (parts : Trees) → More s t → TakesAddress s form parts → TakesAddress t form parts
 unfolding TakesAddress
-address_more s t (f.Unary u.Address) (line ▹ e ▹ none) m h = no_register_more s t (plain_name e) m h
-address_more s t form parts m h = tt
+address_more s t form parts m h = search (arith, no_register_more) fits 100
 
 mutual
   unfolding Spoken AllSpoken
@@ -541,8 +496,7 @@ abbrev pub LocalNamed : Context → Tree → Spot → Type 0
 LocalNamed c tree spot = (r : ℕ) → spot ≡ Local r → NamesRegister c.scopes (plain_name tree)
 
 pub apart_named : (c : Context) (tree : Tree) (spot : Spot) → Apart spot → LocalNamed c tree spot
-apart_named c tree (Local r) a k e = absurd a
-apart_named c tree spot a k e = cc
+apart_named c tree spot a k e = search arith fits 100
 
 -- what is known of an expression that was elaborated
 pub record Rests (c : Context) (tree : Tree) (z : Context × Found) : Type 0 where
@@ -556,18 +510,13 @@ rests c tree z line e l h = record { sits = lands_sits c z h; local = apart_name
 -- the name of a local
 
 plain_spot : (k : Bool) (typed : PlainTyped) (index r : ℕ) → (object_found typed k index).spot ≡ Local r → ⊥
-plain_spot true typed index r e = cc
-plain_spot false typed index r e = cc
+plain_spot k typed index r e = search arith fits 100
 
 built_in_spot : (k : Bool) (typed : PlainTyped) (r : ℕ) → (built_in_found typed k).spot ≡ Local r → ⊥
-built_in_spot true typed r e = cc
-built_in_spot false typed r e = cc
+built_in_spot k typed r e = search arith fits 100
 
 spot_named : (o : Option PlainNamed) (typed : PlainTyped) (inner : Bool) (r : ℕ) → (name_found typed inner o).spot ≡ Local r → is_register o ≡ true
-spot_named (Some (n.Register type i)) typed inner r e = refl
-spot_named (Some (n.Object type i)) typed inner r e = absurd (plain_spot inner typed i r e)
-spot_named (Some (n.BuiltIn i)) typed inner r e = absurd (built_in_spot typed.is_null typed r e)
-spot_named other typed inner r e = cc
+spot_named o typed inner r e = search (arith, plain_spot, built_in_spot) fits 100
 
 pub name_local : (line : ℕ) (name : List ℕ) (o : Option PlainNamed) (c : Context) (z : Context × Found) (r : ℕ) → name_answer line name o c ≡ Ok z → z.1.spot ≡ Local r → is_register o ≡ true
 name_local line name o c z r h e = search (arith, came, ok_same, spot_named)

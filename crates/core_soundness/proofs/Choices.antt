@@ -2,21 +2,16 @@
 use Rattle.std.proofs.Common.{◌≡◌, ◌<◌, ℕ, zero, suc, Bool, true, false, not, ◌&&◌, cond, List, [], ◌∷◌, length, Option, Some, None, is_some, slice_get, refl, arith}
 
 pub either_way : {A : Type 0} (P : A → Type 0) (test : Bool) {x y : A} → P x → P y → P (cond test x y)
-either_way P true g h = g
-either_way P false g h = h
+either_way P test g h = search arith fits 100
 
 pub some_same : {A : Type 0} (x y : A) → Some x ≡ Some y → x ≡ y
 some_same x y e = cc
 
 pub not_false : (t : Bool) → not t ≡ false → t ≡ true
-not_false true e = refl
-not_false false e = cc
+not_false t e = search arith fits 100
 
 pub three_parts : (x y z : Bool) → x && y && z ≡ true → (x ≡ true) × (y ≡ true) × (z ≡ true)
-three_parts true true true e = (refl, refl, refl)
-three_parts true true false e = cc
-three_parts true false z e = cc
-three_parts false y z e = cc
+three_parts x y z e = search arith fits 100
 
 pub get_some : {A : Type 0} (xs : List A) (k : ℕ) → k < length xs → (x : A) × (slice_get xs k ≡ Some x)
 get_some [] k h = absurd (omega (arith, h))

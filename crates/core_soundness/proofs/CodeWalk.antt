@@ -1,9 +1,9 @@
 -- One walk over what writes the code of expressions, and what it leaves as it was.
-use Rattle.std.proofs.Common.{◌≡◌, ◌≤◌, ◌+◌, refl, sym, subst, ℕ, pos, Bool, true, false, cond, List, [], ◌∷◌, ◌++◌, length, drop, Option, Some, None, unwrap_or, arith, Ok, ◌∙◌}
+use Rattle.std.proofs.Common.{◌≡◌, ◌≤◌, ◌+◌, refl, sym, subst, ℕ, pos, Bool, true, false, cond, List, [], ◌∷◌, ◌++◌, length, drop, Option, Some, None, unwrap_or, arith, Ok}
 use Rattle.core_soundness.proofs.Words.Trees.{Tree, AssignOp, BinaryOp, UnaryOp}
-use Rattle.core_soundness.proofs.Words.Types.{PlainType, PlainTypes, Int, Pointer, none, first, kind_of, IntType, line_of, promoted, common_type, PlainNamed, cast, choice, dot, arrow, element, assigned, changed, result_type, unary, binary, PlainTyped, Operand, Number, PointerTo, operand, read, BuiltIn}
-use Rattle.core_soundness.proofs.Words.Core.{IsShort, Atom, StmKind, Copy, Store, Storep, Jump, Free, Enter, Leave, Set, Conv, Zero, Load, Loadp, Test, Un, Bin, Cmp, Add, Sub, Off, Diff, Pcmp, Call, Malloc, Calloc, Realloc, Lib, Printf}
-use Rattle.core_soundness.proofs.Words.Elaborating.{record_assigned, set_to, scalar_assigned, old_value, change_place, changed_answer, changed_by, one_found, stepped, Argument, argument_from, atom_at, atoms_of, element_layout, built_in_at, lib_name, result_by, printing, with_format, call_built_in, call_of_built_in, call_named, Context, With, emit, here, pointer_by, new_label, with_labels, integer_by, Code, asked, Found, Spot, Local, Memory, read_spot, code_line, valued_from, valued, atom_in, holds_all, convert_integer, convert_to, convert, tested, tested_value, write, size_or_zero, unused, working, Working, Calculates, Shifts, Compares, Branches, convert_both, work, on_integers, before_integer, move_pointer, between_pointers, pointer_beside, beside_integer, combine, combined, change, changed_to, member_address, offset_of, operator_of, set_again, compare_again, indexed, dotted, target_of, pointed, before_number, apply, applied, left_operand, between, cast_to, and_then, and_ends, and_ended, or_else, or_ends, or_ended, chosen_by, choose_first, choose_last, chosen, with_literal}
+use Rattle.core_soundness.proofs.Words.Types.{PlainType, PlainTypes, Int, Pointer, first, kind_of, IntType, line_of, promoted, common_type, PlainNamed, choice, element, assigned, result_type, PlainTyped, Operand, Number, PointerTo, operand, BuiltIn}
+use Rattle.core_soundness.proofs.Words.Core.{IsShort, Atom, StmKind, Copy, Jump, Free, Enter, Leave, Set, Conv, Zero, Load, Loadp, Test, Un, Bin, Cmp, Add, Sub, Off, Diff, Pcmp, Call, Malloc, Calloc, Realloc, Lib, Printf}
+use Rattle.core_soundness.proofs.Words.Elaborating.{record_assigned, set_to, scalar_assigned, old_value, change_place, changed_answer, changed_by, one_found, stepped, Argument, argument_from, atom_at, atoms_of, element_layout, built_in_at, lib_name, result_by, printing, with_format, call_built_in, call_of_built_in, call_named, Context, With, emit, here, pointer_by, new_label, with_labels, integer_by, Code, asked, Found, Spot, Local, Memory, read_spot, code_line, valued_from, valued, atom_in, holds_all, convert_integer, convert_to, convert, tested, tested_value, write, size_or_zero, unused, working, Working, Calculates, Shifts, Compares, Branches, convert_both, work, on_integers, before_integer, move_pointer, between_pointers, pointer_beside, beside_integer, combine, combined, change, changed_to, member_address, set_again, compare_again, indexed, dotted, pointed, before_number, apply, applied, left_operand, between, cast_to, and_then, and_ends, and_ended, or_else, or_ends, or_ended, chosen_by, choose_first, choose_last, chosen, with_literal}
 use Rattle.core_tree.specs.declared.statements.Atom.TheVariants as atom
 use Rattle.core_tree.specs.declared.statements.CmpOp.TheVariants as cmp
 use Rattle.core_tree.specs.declared.statements.UnOp.TheVariants as un
@@ -40,8 +40,7 @@ pub record Writes (R : ℕ → Context → Context → Type 0) : Type 0 where
 -- a test makes no label
 tested_labels : (line : ℕ) (type : PlainType) (a : Atom) (c : Context) → (tested line type a c).0.code.labels ≡ c.code.labels
 unfolding tested
-tested_labels line (Pointer target) a c = refl
-tested_labels line type a c = refl
+tested_labels line type a c = search arith fits 100
 
 -- a format that is printed is short
 abbrev pub PrintsShort : Option BuiltIn → Option (List ℕ) → Type 0
@@ -56,8 +55,7 @@ module _ (R : ℕ → Context → Context → Type 0) (steps : Writes R) where
   within {a} {b} m k e x = steps.join m 0 k a b b (omega (arith, e)) x (steps.stop 0 b)
 
   either : {A : Type 0} (n : ℕ) (b : Context) (test : Bool) (x y : Context × A) → R n b x.0 → R n b y.0 → R n b (cond test x y).0
-  either n b true x y g h = g
-  either n b false x y g h = h
+  either n b test x y g h = search arith fits 100
 
   pub read_keeps : (line : ℕ) (type : PlainType) (spot : Spot) (c : Context) → R 1 c (read_spot line type spot c).0
   unfolding read_spot
@@ -68,9 +66,7 @@ module _ (R : ℕ → Context → Context → Type 0) (steps : Writes R) where
   read_keeps line type spot c = steps.stop 1 c
 
   pub valued_from_keeps : (tree : Tree) (c : Context) (e : Found) → Reached (R 1 c) (valued_from tree c e)
-  valued_from_keeps tree c e =
-      reached_after (R 1 c) (read (line_of tree) c.tags e.typed)
-      (λ typed h. reached_ok (R 1 c) (read_keeps (code_line tree) e.typed.type e.spot c))
+  valued_from_keeps tree c e = search (arith, reached_after, reached_ok, read_keeps) fits 100
 
   pub unused_keeps : (n : ℕ) (tree : Tree) (b : Context) (answer : With Found) → Reached (R n b) answer → Reached (R (n + 1) b) (unused tree answer)
   unused_keeps n tree b answer g =
@@ -109,10 +105,7 @@ module _ (R : ℕ → Context → Context → Type 0) (steps : Writes R) where
 
   pub write_keeps : (line : ℕ) (type : PlainType) (spot : Spot) (a : Atom) (c : Context) → R 0 c (write line type spot a c)
   unfolding write
-  write_keeps line type (Local r) a c = steps.emits line (Set r a) c tt
-  write_keeps line (Int ty) (Memory p) a c = steps.emits line (Store (kind_of ty) p a) c tt
-  write_keeps line (Pointer target) (Memory p) a c = steps.emits line (Storep p a) c tt
-  write_keeps line type spot a c = steps.stop 0 c
+  write_keeps line type spot a c = search arith fits 100
 
   -- operators
 
@@ -184,12 +177,10 @@ module _ (R : ℕ → Context → Context → Type 0) (steps : Writes R) where
   member_keeps line offset p c = steps.pointer line (λ r. Off r p (pos offset)) c (λ r. tt)
 
   set_again_keeps : (line : ℕ) (t a : Atom) (c : Context) → R 0 c (set_again line t a c)
-  set_again_keeps line (atom.Reg r) a c = steps.emits line (Set r a) c tt
-  set_again_keeps line other a c = steps.stop 0 c
+  set_again_keeps line t a c = search arith fits 100
 
   pub compare_again_keeps : (line : ℕ) (t a : Atom) (c : Context) → R 0 c (compare_again line t a c)
-  compare_again_keeps line (atom.Reg r) a c = steps.emits line (Cmp cmp.Ne r a (atom.Int (pos 0))) c tt
-  compare_again_keeps line other a c = steps.stop 0 c
+  compare_again_keeps line t a c = search arith fits 100
 
   -- places
 
@@ -199,20 +190,15 @@ module _ (R : ℕ → Context → Context → Type 0) (steps : Writes R) where
       (λ typed h. reached_ok (R 3 c) (combined_keeps 0 line b.Add c x y c (steps.stop 0 c)))
 
   pub dotted_keeps : (line : ℕ) (name : List ℕ) (c : Context) (e : Found) → Reached (R 1 c) (dotted line name c e)
-  dotted_keeps line name c e =
-      reached_after (R 1 c) (dot line name c.tags e.typed)
-      (λ typed h. reached_ok (R 1 c) (member_keeps line (offset_of c.tags name e.typed.type) (atom_in e) c))
+  dotted_keeps line name c e = search (arith, reached_after, reached_ok, member_keeps) fits 100
 
   pub pointed_keeps : (line : ℕ) (name : List ℕ) (c : Context) (e : Found) → Reached (R 1 c) (pointed line name c e)
-  pointed_keeps line name c e =
-      reached_after (R 1 c) (arrow line name c.tags e.typed) (λ typed h. reached_ok (R 1 c)
-      (member_keeps line (offset_of c.tags name (target_of (operand e.typed.type))) (atom_in e) c))
+  pointed_keeps line name c e = search (arith, reached_after, reached_ok, member_keeps) fits 100
 
   -- operators
 
   before_number_keeps : (line : ℕ) (op : UnaryOp) (typed : PlainTyped) (o : Operand) (c : Context) (e : Found) → R 2 c (before_number line op typed o c e).0
-  before_number_keeps line op typed (Number ty) c e = before_keeps line op ty (atom_in e) c
-  before_number_keeps line op typed other c e = steps.stop 2 c
+  before_number_keeps line op typed o c e = search (arith, before_keeps) fits 100
 
   apply_keeps : (line : ℕ) (op : UnaryOp) (tree : Tree) (typed : PlainTyped) (c : Context) (e : Found) → R 2 c (apply line op tree typed c e).0
   apply_keeps line u.Deref tree typed c e = steps.stop 2 c
@@ -222,21 +208,16 @@ module _ (R : ℕ → Context → Context → Type 0) (steps : Writes R) where
   apply_keeps line op tree typed c e = before_number_keeps line op typed (operand e.typed.type) c e
 
   pub applied_keeps : (line : ℕ) (op : UnaryOp) (tree : Tree) (c : Context) (e : Found) → Reached (R 2 c) (applied line op tree c e)
-  applied_keeps line op tree c e =
-      reached_after (R 2 c) (unary line op c.tags e.typed) (λ typed h. reached_ok (R 2 c) (apply_keeps line op tree typed c e))
+  applied_keeps line op tree c e = search (arith, reached_after, reached_ok, apply_keeps) fits 100
 
   pub left_keeps : (n : ℕ) (op : BinaryOp) (b : Context) (right : Tree) (d : Context × Found) → R n b d.0 → R n b (left_operand op b.code right d).0
   left_keeps n op b right d g = search arith
 
   pub between_keeps : (n line : ℕ) (op : BinaryOp) (b c : Context) (x y : Found) → R n b c → Reached (R (n + 3) b) (between line op b.code c x y)
-  between_keeps n line op b c x y g =
-      reached_after (R (n + 3) b) (binary line op c.tags x.typed y.typed)
-      (λ typed h. reached_ok (R (n + 3) b) (combined_keeps n line op b x y c g))
+  between_keeps n line op b c x y g = search (arith, reached_after, reached_ok, combined_keeps) fits 100
 
   pub cast_keeps : (n line : ℕ) (type : PlainType) (b c : Context) (e : Found) → R n b c → Reached (R (n + 1) b) (cast_to line type b.code c e)
-  cast_keeps n line type b c e g =
-      reached_after (R (n + 1) b) (cast line type e.typed)
-      (λ typed h. reached_ok (R (n + 1) b) (convert_keeps n line b type e.typed (atom_in e) c g))
+  cast_keeps n line type b c e g = search (arith, reached_after, reached_ok, convert_keeps) fits 100
 
   -- one way or another
 
@@ -260,8 +241,7 @@ module _ (R : ℕ → Context → Context → Type 0) (steps : Writes R) where
       (fork_at (n + 2) 0 (n + 2) t.0 w.0 (set_again line w.1 (atom.Int (pos 0)) e) line line label t.1 (omega arith) (same_labels tree d) one (set_again_keeps line w.1 (atom.Int (pos 0)) e))
 
   pub and_keeps : (n line : ℕ) (tree right : Tree) (x : Found) (d r : Context × Found) → R n (and_then line tree d) r.0 → Reached (R (n + 3) d.0) (and_ended line (new_label d.0) right x r)
-  and_keeps n line tree right x d r g =
-      reached_after (R (n + 3) d.0) (binary line b.And r.0.tags x.typed r.1.typed) (λ typed k. reached_ok (R (n + 3) d.0) (and_ends_keeps n line tree right d r g))
+  and_keeps n line tree right x d r g = search (arith, reached_after, reached_ok, and_ends_keeps) fits 100
 
   or_ends_keeps : (n line : ℕ) (tree right : Tree) (i : Atom) (d r : Context × Found) → R n (or_else line tree d).0 r.0 → R (n + 3) d.0 (or_ends line (new_label d.0 + 1) i (tested_value right r)).0
   or_ends_keeps n line tree right i d r g =
@@ -276,8 +256,7 @@ module _ (R : ℕ → Context → Context → Type 0) (steps : Writes R) where
       both 1 (n + 2) (n + 3) (omega arith) (tested_value_keeps tree d) (subst (λ (l : ℕ). R (n + 2) t.0 (here (l + 1) s)) (sym (same_labels tree d)) made)
 
   pub or_keeps : (n line : ℕ) (tree right : Tree) (i : Atom) (x : Found) (d r : Context × Found) → R n (or_else line tree d).0 r.0 → Reached (R (n + 3) d.0) (or_ended line (new_label d.0 + 1) right i x r)
-  or_keeps n line tree right i x d r g =
-      reached_after (R (n + 3) d.0) (binary line b.Or r.0.tags x.typed r.1.typed) (λ typed k. reached_ok (R (n + 3) d.0) (or_ends_keeps n line tree right i d r g))
+  or_keeps n line tree right i x d r g = search (arith, reached_after, reached_ok, or_ends_keeps) fits 100
 
   pub chosen_by_keeps : (n line : ℕ) (b : Context) (type : PlainType) (e : PlainTyped) (d : Context × Atom) → R n b d.0 → R (n + 2) b (chosen_by line b.code type e d).0
   chosen_by_keeps n line b (Int ty) e d g =
@@ -335,13 +314,10 @@ module _ (R : ℕ → Context → Context → Type 0) (steps : Writes R) where
       both 4 0 4 (omega arith) (change_keeps line op (operand typed.type) (operand e.type) old y c) (write_keeps line typed.type target.spot v.1 v.0)
 
   answer_keeps : (n : ℕ) (keeps_old : Bool) (typed : PlainTyped) (old : Atom) (v : Context × Atom) (b : Context) → R n b v.0 → R n b (changed_answer keeps_old typed old v).0
-  answer_keeps n true typed old v b g = g
-  answer_keeps n false typed old v b g = g
+  answer_keeps n keeps_old typed old v b g = search arith fits 100
 
   pub changed_keeps : (line : ℕ) (op : AssignOp) (keeps_old : Bool) (target : Found) (old : Atom) (d : Context × Found) → Reached (R 4 d.0) (changed_by line op keeps_old target old d)
-  changed_keeps line op keeps_old target old d =
-      reached_after (R 4 d.0) (changed line op d.0.tags target.typed d.1.typed) (λ typed h. reached_ok (R 4 d.0)
-      (answer_keeps 4 keeps_old typed old (change_place line (operator_of op) typed target old d.1.typed (atom_in d.1) d.0) d.0 (change_place_keeps line (operator_of op) typed target old d.1.typed (atom_in d.1) d.0)))
+  changed_keeps line op keeps_old target old d = search (arith, reached_after, reached_ok, answer_keeps, change_place_keeps) fits 100
 
   pub stepped_keeps : (line : ℕ) (op : AssignOp) (keeps_old : Bool) (d : Context × Found) → Reached (R 5 d.0) (stepped line op keeps_old d)
   stepped_keeps line op keeps_old d z q =
@@ -350,8 +326,7 @@ module _ (R : ℕ → Context → Context → Type 0) (steps : Writes R) where
   -- calls
 
   pub argument_keeps : (n line : ℕ) (params : PlainTypes) (b c : Context) (e : Found) → R n b c → R (n + 1) b (argument_from line params b.code c e).0
-  argument_keeps n line none b c e g = within n (n + 1) (omega arith) g
-  argument_keeps n line (first type rest) b c e g = convert_keeps n line b type e.typed (atom_in e) c g
+  argument_keeps n line params b c e g = search (arith, within, convert_keeps) fits 100
 
   result_keeps : (line : ℕ) (type : PlainType) (kind : Option ℕ → StmKind) (c : Context) → ((r : Option ℕ) → IsPlain (kind r)) → R 1 c (result_by line type kind c).0
   result_keeps line (Int ty) kind c h = steps.integer line (λ r. kind (Some r)) c (λ r. h (Some r))
@@ -376,8 +351,7 @@ module _ (R : ℕ → Context → Context → Type 0) (steps : Writes R) where
       within 1 2 (omega arith) (result_keeps line answer (λ r. Lib (lib_name name) r (atoms_of arguments)) c (λ r. tt))
 
   of_built_in_keeps : (line : ℕ) (name : Option BuiltIn) (answer wanted : PlainType) (format : Option (List ℕ)) (arguments : List Argument) (c : Context) → PrintsShort name format → R 2 c (call_of_built_in line name answer wanted format arguments c).0
-  of_built_in_keeps line None answer wanted format arguments c h = steps.stop 2 c
-  of_built_in_keeps line (Some name) answer wanted format arguments c h = built_in_keeps line name answer wanted format arguments c h
+  of_built_in_keeps line name answer wanted format arguments c h = search (arith, built_in_keeps) fits 100
 
   pub call_keeps : (line : ℕ) (name : Option PlainNamed) (answer wanted : PlainType) (format : Option (List ℕ)) (arguments : List Argument) (c : Context) → PrintsShort (built_in_at name) format → R 2 c (call_named line name answer wanted format arguments c).0
   call_keeps line (Some (n.Function type index)) answer wanted format arguments c h =
@@ -395,18 +369,7 @@ abbrev Still : ℕ → Context → Context → Type 0
 Still n c d = Quiet c d
 
 quiet_writes : Writes Still
-quiet_writes = record {
-  stop = λ n c. refl;
-  join = λ m n k a b c h x y. y ∙ x;
-  emits = λ line kind c h. refl;
-  integer = λ line kind c h. refl;
-  pointer = λ line kind c h. refl;
-  forgets = λ n b c g. g;
-  forks = λ m n k t r s line at a h x y. y ∙ x;
-  formats = λ bytes c h. refl;
-  calls = λ calls c. refl;
-  frees = λ line a c. refl;
-}
+quiet_writes = search arith fits 100
 
 pub quiet_read : (line : ℕ) (type : PlainType) (spot : Spot) (c : Context) → Quiet c (read_spot line type spot c).0
 quiet_read line type spot c = read_keeps Still quiet_writes line type spot c
@@ -447,25 +410,17 @@ quiet_choose_last line before type t d = choose_last_keeps Still quiet_writes 0 
 -- calls, also of formats that are long
 
 quiet_result : (line : ℕ) (type : PlainType) (kind : Option ℕ → StmKind) (c : Context) → Quiet c (result_by line type kind c).0
-quiet_result line (Int ty) kind c = refl
-quiet_result line type kind c = refl
+quiet_result line type kind c = search arith fits 100
 
 quiet_built_in : (line : ℕ) (name : BuiltIn) (answer wanted : PlainType) (format : Option (List ℕ)) (arguments : List Argument) (c : Context) → Quiet c (call_built_in line name answer wanted format arguments c).0
 unfolding call_built_in
-quiet_built_in line bi.Malloc answer wanted format arguments c = refl
-quiet_built_in line bi.Calloc answer wanted format arguments c = refl
-quiet_built_in line bi.Realloc answer wanted format arguments c = refl
-quiet_built_in line bi.Free answer wanted format arguments c = refl
-quiet_built_in line bi.Printf answer wanted format arguments c = refl
-quiet_built_in line name answer wanted format arguments c = quiet_result line answer (λ r. Lib (lib_name name) r (atoms_of arguments)) c
+quiet_built_in line name answer wanted format arguments c = search (arith, quiet_result) fits 100
 
 quiet_of_built_in : (line : ℕ) (name : Option BuiltIn) (answer wanted : PlainType) (format : Option (List ℕ)) (arguments : List Argument) (c : Context) → Quiet c (call_of_built_in line name answer wanted format arguments c).0
-quiet_of_built_in line None answer wanted format arguments c = refl
-quiet_of_built_in line (Some name) answer wanted format arguments c = quiet_built_in line name answer wanted format arguments c
+quiet_of_built_in line name answer wanted format arguments c = search (arith, quiet_built_in) fits 100
 
 pub quiet_call : (line : ℕ) (name : Option PlainNamed) (answer wanted : PlainType) (format : Option (List ℕ)) (arguments : List Argument) (c : Context) → Quiet c (call_named line name answer wanted format arguments c).0
-quiet_call line (Some (n.Function type index)) answer wanted format arguments c = quiet_result line answer (λ r. Call index r (atoms_of arguments)) (record c { calls = c.calls ++ (index, line) ∷ [] })
-quiet_call line other answer wanted format arguments c = quiet_of_built_in line (built_in_at other) answer wanted format arguments c
+quiet_call line name answer wanted format arguments c = search (arith, quiet_result, quiet_of_built_in) fits 100
 
 pub quiet_literal : (line : ℕ) (bytes : List ℕ) (c : Context) (d : Context × ℕ) → with_literal line bytes c ≡ Ok d → Quiet c d.0
 quiet_literal line bytes c d = grind (arith, true, false, ok_same)

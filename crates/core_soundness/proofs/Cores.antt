@@ -6,8 +6,8 @@ use Rattle.std.proofs.lemmas.Slice.Eq.{bytes_eq-Decides}
 use Rattle.std.proofs.lemmas.Bool.{and_parts}
 use Rattle.core_soundness.proofs.Words.Trees.{Trees}
 use Rattle.core_soundness.proofs.Words.Types.{TagTable, PlainType, PlainNamed, named_in}
-use Rattle.core_soundness.proofs.Words.Core.{block_size, EachFunc, EachStatement, LeadsOn, HasScopes, code_size, is_main, operands, edges, Core, Func, Static, Stm, StmKind, Call, Lib, Printf, Return}
-use Rattle.core_soundness.proofs.Words.Elaborating.{Piece, Does, Here, Context, Walked, Declared, walked, elaborated, piece_length, is_defined, Numbers, numbered, atom_by, point_in, body_of, numbers_of, function_of, core_of, function_by}
+use Rattle.core_soundness.proofs.Words.Core.{block_size, EachFunc, EachStatement, LeadsOn, HasScopes, code_size, is_main, operands, edges, Core, Func, Static, Stm, StmKind, Call, Return}
+use Rattle.core_soundness.proofs.Words.Elaborating.{Piece, Does, Here, Context, Walked, Declared, walked, elaborated, piece_length, is_defined, Numbers, numbered, point_in, body_of, numbers_of, function_of, core_of, function_by}
 use Rattle.core_soundness.proofs.Words.Facts.{HasFlow, HasSizes, CallsInside}
 use Rattle.c_decls.specs.Named as n
 use Rattle.elaboration.specs.Externals as externals
@@ -85,12 +85,7 @@ static_sum c = search (arith, sum_by-append, sum_by_map, variable_bytes, sum_by_
 
 operands_length : (num : Numbers) (kind : StmKind) → length (operands (numbered num kind)) ≡ length (operands kind)
 unfolding numbered
-operands_length num (Call f r args) = length-map args (atom_by num)
-operands_length num (Lib name r args) = length-map args (atom_by num)
-operands_length num (Printf r k args) = length-map args (atom_by num)
-operands_length num (Return None) = refl
-operands_length num (Return (Some a)) = refl
-operands_length num kind = refl
+operands_length num kind = search (arith, length-map) fits 100
 
 body_size : (num : Numbers) (pieces : List Piece) → sum_by (λ (stm : Stm). 1 + length (operands stm.kind)) (body_of num pieces) ≡ sum_by piece_length pieces
 body_size num [] = refl
@@ -183,8 +178,7 @@ record IsMain (fs : List Declared) (o : Option PlainNamed) : Type 0 where
   defined : is_defined (slice_get fs index) ≡ true
 
 main_is : (fs : List Declared) (o : Option PlainNamed) → externals.is_main fs o ≡ true → IsMain fs o
-main_is fs (Some (n.Function type index)) e = search (arith, and_parts)
-main_is fs other e = cc
+main_is fs o e = search (arith, and_parts) fits 100
 
 same_number : (name : List ℕ) (t v : PlainType) (i j : ℕ) (o : Option PlainNamed) → o ≡ Some (n.Function t i) → o ≡ Some (n.Function v j) → i ≡ j
 same_number name t v i j o x y = let both : Some (n.Function t i) ≡ Some (n.Function v j) = sym x ∙ y in cc

@@ -1,7 +1,7 @@
 -- Declarators and declarations go in step with the walk over addresses.
 use Rattle.std.proofs.Common.{◌≡◌, ◌||◌, ℕ, suc, ℤ, pos, ◌+ℤ◌, false, is_some, length, reverse, List, [], ◌∷◌, ◌++◌, Option, Some, None, Ok, refl, sym, ap, ◌∙◌, subst, Bool, true, cond, IsSome, ◌≤◌, ◌+◌, arith}
 use Rattle.std.specs.Option.{option_or}
-use Rattle.core_soundness.proofs.Words.Trees.{Form, shape, name_of, places, name_among, has_typedef, is_scope, leads_to_name, suffix_params, first_list, params_of, params_among, Tree, Trees, Leaf, At, Node, none, ◌▹◌, count, RecordSort}
+use Rattle.core_soundness.proofs.Words.Trees.{Form, shape, name_of, places, name_among, has_typedef, is_scope, leads_to_name, suffix_params, params_of, params_among, Tree, Trees, Leaf, At, Node, none, ◌▹◌, count, RecordSort}
 use Rattle.core_soundness.proofs.Words.Types.{PlainType, PlainTypes, first, line_of, typed, wanted, PlainNamed, Checked, unless, named_in, innermost, tag_name, Table, found_from, first_or, Layer, ArrayOf, FunctionOf, word_type, special_type, array_length, with_layers, with_param_layers, adjusted, tag_named, is_void, is_record, is_function, has_no_size, DeclaredTwice, Incomplete, LeftOut}
 use Rattle.core_soundness.proofs.Words.Core.{wrapped, I32}
 use Rattle.core_soundness.proofs.Words.Elaborating.{Taken, left_scope, taken, all_taken, with_known, declare, nothing_taken, params_taken, Context, asked, told, entered, Spot, Storage, Typedef, Outside, storage_of, specs_alone, specs_before, fill_local, local_object, local_name, name_in, entry, entries, declaration, declared_function, constant, with_type, maybe_name, member, enumerator, is_declared, param, left_params, specs, words_type, tag_type, members, member_names, enumerators, layers, suffix_layers, suffix_layer, params, body_begun, with_init_layers, declared_as, with_param, is_twice, with_local}
@@ -81,12 +81,7 @@ enumerator_stepped line name v t c z h q =
 -- parameters
 
 new_name : (name : Option (List ℕ)) (c : Context) → is_declared name c ≡ false → IsNew name c
-new_name None c e = tt
-new_name (Some name) c e = by (named_in name (innermost c.scopes)) e
-  where
-    by : (o : Option PlainNamed) → is_some o ≡ false → o ≡ None
-    by None e = refl
-    by (Some v) e = cc
+new_name name c e = search (arith, is_some) fits 100
 
 param_stepped_in : (line : ℕ) (name : Option (List ℕ)) (type : PlainType) (t : Taken) (c : Context) (z : Context × PlainType) → HasScope c.scopes.inner → Follows t c → param line name type c ≡ Ok z → Stepped t c (walk.with_local name t) z.0
 param_stepped_in line name type t c z deep h q =
@@ -191,10 +186,7 @@ mutual
       (stepped_names t (each suffixes t1) (taken (Node f.Direct (base ▹ Node f.Suffixes suffixes ▹ none)) t) c s.value.0 (direct_taken t base suffixes) (stepped_trans t t1 (each suffixes t1) c l.value.0 s.value.0 a b))
   layers_stepped (Node f.Parens (At line ▹ declarator ▹ none)) t c z g o h q =
       stepped_names t (taken declarator t) (taken (Node f.Parens (At line ▹ declarator ▹ none)) t) c z.0 (refl, refl) (layers_stepped declarator t c z g.1.1.0 g.0 h q)
-  layers_stepped (Node f.Nothing none) t c z g o h q =
-      subst (λ (y : Context × List Layer). Stepped t c (taken (Node f.Nothing none) t) y.0) (ok_same (c, []) z q) (stepped_names t t (taken (Node f.Nothing none) t) c c (refl, refl) (stepped_refl t c h))
-  layers_stepped (Node _ parts) t c z g o h q = absurd o
-  layers_stepped other t c z g o h q = subst (λ (y : Context × List Layer). Stepped t c t y.0) (ok_same (c, []) z q) (stepped_refl t c h)
+  layers_stepped tree t c z g o h q = search (arith, ok_same, stepped_names, stepped_refl) fits 100
 
   suffixes_stepped : (parts : Trees) (t : Taken) (c : Context) (z : Context × List Layer) → AreSuffixes parts → AllFormed parts → Follows t c → suffix_layers parts c ≡ Ok z → Stepped t c (each parts t) z.0
   suffixes_stepped none t c z o g h q = subst (λ (y : Context × List Layer). Stepped t c t y.0) (ok_same (c, []) z q) (stepped_refl t c h)
@@ -269,8 +261,7 @@ is_typedef storage = false
 -- an initializer behind its name
 inits_after : (inits : Trees) (u : Taken) → inits ≡ none → SameNames u (taken (Node f.MaybeInit inits) u)
 unfolding taken all_taken left
-inits_after none u e = (refl, refl)
-inits_after (init ▹ rest) u e = cc
+inits_after inits u e = search arith fits 100
 
 -- a local name of a type, and what is asked of its initializer
 record Locals (line : ℕ) (name : List ℕ) (type : PlainType) (inits : Trees) (u : Taken) (c z : Context) : Type 0 where
@@ -368,8 +359,7 @@ each_adds none t k h = h
 each_adds (tree ▹ rest) t k h = each_adds rest (taken tree t) k (taken_adds tree t k h)
 
 no_inits : (declared : Tree) (inits rest : Trees) → NoInits (Node f.Entry (declared ▹ Node f.MaybeInit inits ▹ none) ▹ rest) → (inits ≡ none) × NoInits rest
-no_inits declared none rest h = (refl, h)
-no_inits declared (init ▹ more) rest h = absurd h
+no_inits declared inits rest h = search arith fits 100
 
 entry_typed : (declared : Tree) (inits : Trees) (t : Taken) → (taken (Node f.Entry (declared ▹ Node f.MaybeInit inits ▹ none)) t).typedef ≡ t.typedef
 unfolding taken left
@@ -410,13 +400,10 @@ record Specified (words : Tree) (t : Taken) (c : Context) (z : Context) : Type 0
   none : (taken words t).typedef ≡ true → of_typedefs words ≡ true
 
 typed_storage : (typedef outside before : Bool) → before ≡ false → typedef || before ≡ is_typedef (cond typedef Typedef (cond outside Outside storages.Plain))
-typed_storage true outside before e = refl
-typed_storage false true before e = e
-typed_storage false false before e = e
+typed_storage typedef outside before e = search arith fits 100
 
 typed_words : (typedef before : Bool) → before ≡ false → typedef || before ≡ true → typedef ≡ true
-typed_words true before e h = refl
-typed_words false before e h = sym e ∙ h
+typed_words typedef before e h = search arith fits 100
 
 specified : (line : ℕ) (words : Trees) (t : Taken) (c z : Context) → t.typedef ≡ false → Stayed c (taken (Node f.Specs (At line ▹ words)) t) z → Specified (Node f.Specs (At line ▹ words)) t c z
 unfolding taken left has_typedef
@@ -500,12 +487,7 @@ follows_none c zero_yet flat h = (sym zero_yet, λ name e. absurd (entered_none 
 
 -- a register of the innermost scope is what is found under its name
 first_found : (file : Table) (inner : List Table) (name : List ℕ) → is_register (named_in name (first_or [] inner)) ≡ true → is_register (found_from file name inner) ≡ true
-first_found file [] name e = cc
-first_found file (t ∷ ts) name e = by (named_in name t) e
-  where
-    by : (o : Option PlainNamed) → is_register o ≡ true → is_register (option_or o (found_from file name ts)) ≡ true
-    by (Some v) e = e
-    by None e = cc
+first_found file inner name e = search arith fits 100
 
 -- suffixes
 
@@ -572,13 +554,7 @@ suffixes_start (suffix ▹ rest) c z i g s zero_yet flat h q =
 -- the parameters of a part alone are those of the part
 alone_is : (tree : Tree) → IsSome (params_among (tree ▹ none)) → params_of tree ≡ params_among (tree ▹ none)
 unfolding params_of params_among suffix_params
-alone_is (Leaf word) h = no_params h
-alone_is (At line) h = no_params h
-alone_is (Node form parts) h = by (params_of (Node form parts))
-  where
-    by : (o : Option Trees) → o ≡ first_list o None
-    by None = refl
-    by (Some list) = refl
+alone_is tree h = search (arith, no_params) fits 100
 
 -- those of a base are those of the declarator, where the base is no name
 base_is : (form : Form) (parts suffixes : Trees) → IsSome (params_among (Node form parts ▹ Node f.Suffixes suffixes ▹ none)) → params_of (Node form parts) ≡ params_among (Node form parts ▹ Node f.Suffixes suffixes ▹ none)

@@ -1,9 +1,9 @@
 -- What declarations do to what is known.
-use Rattle.std.proofs.Common.{◌≡◌, ℕ, suc, Bool, true, false, cond, is_some, List, [], ◌∷◌, length, unwrap_or, Option, Some, None, ◌≤◌, refl, arith, slice_get, sym, ◌∙◌, subst, ◌+◌, pos, not, min, ◌++◌, Ok, ap, ltb-false, ltb-true, zero, option_map, slice_set, sum_by, true≢false}
+use Rattle.std.proofs.Common.{◌≡◌, ℕ, suc, Bool, true, false, cond, is_some, List, [], ◌∷◌, length, unwrap_or, Option, Some, None, ◌≤◌, refl, arith, slice_get, sym, ◌∙◌, subst, ◌+◌, pos, not, min, ◌++◌, Ok, ap, ltb-false, ltb-true, option_map, slice_set, true≢false}
 use Rattle.std.proofs.lemmas.List.Sums.{sum_by-append, sum_by-cons}
 use Rattle.std.specs.Prelude.{nat_lt}
 use Rattle.core_soundness.proofs.Words.Trees.{name_of, Tree, Trees, At, Node, none, ◌▹◌, count, Leaf}
-use Rattle.core_soundness.proofs.Words.Types.{no_layout, TagTable, PlainType, Int, Array, Struct, Union, Layout, line_of, PlainNamed, unconverted, Checked, refused, then, unless, ScopeList, Table, named_in, innermost, with_name, tag_name, after_declaration, tag_named, is_function, has_no_size, TypeKind, DeclaredTwice, Assignment, Incomplete, LeftOut}
+use Rattle.core_soundness.proofs.Words.Types.{no_layout, TagTable, PlainType, Int, Array, Layout, line_of, PlainNamed, unconverted, Checked, refused, then, unless, ScopeList, Table, named_in, innermost, with_name, tag_name, after_declaration, tag_named, is_function, has_no_size, TypeKind, DeclaredTwice, Assignment, Incomplete, LeftOut}
 use Rattle.core_soundness.proofs.Words.Core.{block_size, Start, Atom, Off, Copy, Enter, Set, Clear}
 use Rattle.core_soundness.proofs.Words.Elaborating.{Context, Running, asked, told, entered, local_register, emit, anew, Declared, Walked, Variable, Memory, Found, Local, code_line, atom_in, valued, convert, write, size_or_zero, Spot, function_number, function_number_of, with_function, declared_function, Storage, Typedef, Outside, Plain, storage_of, specs_alone, specs_before, zero_of, cleared, fill_memory, fill_register, fill_at, local_object, local_name, no_initializer, variable_number_of, with_new_variable, with_variable, start_of, started_variable, started, fill_variable, file_object, file_function, file_value, file_name, name_in, entry, entries, declaration, constant, with_type, left_params, specs, layers, param, suffix_layer, found, Target, InRegister, InMemory, InStatic, static_scalar, member_place, store_at, fill_scalar, scalar, copy_to, fill_record, whole, fill_text, is_character, text, by_text, by_expression, parts_of, takes_braces, is_scalar_type, all_surplus, initialize, initialize_parts, surplus, no_start, with_init_layers, is_twice, declared_as, next_is_memory, with_register, with_memory, counted, with_named, memory_param, register_param, function_param, prototype_param, is_prototype, with_param, local_in, with_local, is_twice_in, reallocates, opened, closed, with_literal}
 use Rattle.c_types.specs.declared.types.IntType.TheVariants as i
@@ -105,8 +105,7 @@ pub with_type_passes : (answer : Checked (names.Context × PlainType)) (b c : Co
 with_type_passes answer b c g p = search (arith, reached_after, reached_ok, passes_trans, told_passes)
 
 pub tail_depth : (inner : List Table) (k : ℕ) → length inner ≡ suc k → length (scopes.tail inner) ≡ k
-tail_depth [] k e = absurd (omega arith)
-tail_depth (t ∷ ts) k e = omega arith
+tail_depth inner k e = search arith fits 100
 
 -- a list of parameters in a scope of its own
 left_params_passes : (c x : Context) → Passes (entered c) x → Passes c (left_params x)
@@ -165,8 +164,7 @@ pub declared_levels : (line : ℕ) (name : List ℕ) (named : PlainNamed) (b c :
 declared_levels line name named b c h p = search (arith, led_unless, led_ok, levels_trans, beside_levels, declared_objects, with_name_objects, after_depth)
 
 named_levels : (name : Option (List ℕ)) (named : PlainNamed) (c : Context) → 1 ≤ length c.scopes.inner → Levels c (with_named name named c)
-named_levels None named c deep = levels_refl c
-named_levels (Some name) named c deep = beside_levels c _ refl refl (inner_objects c.scopes name named deep) (with_name_depth c.scopes name named)
+named_levels name named c deep = search (arith, levels_refl, beside_levels, inner_objects, with_name_depth) fits 100
 
 with_param_levels : (name : Option (List ℕ)) (type : PlainType) (c : Context) → 1 ≤ length c.scopes.inner → Levels c (with_param name type c)
 with_param_levels name type c deep = let r = by (is_prototype c.scopes) in record { settled = record { variables = r.settled.variables; literals = r.settled.literals; objects = r.settled.objects }; depth = r.depth }
@@ -319,8 +317,7 @@ not_opened e b c r same closed_one g =
 
 text_opens_none : (e : Tree) (s : ScopeList) (bytes : List ℕ) → text e ≡ Some bytes → reallocates s e ≡ false
 unfolding reallocates
-text_opens_none (Node f.Str (At line ▹ Node f.Strings parts ▹ none)) s bytes h = refl
-text_opens_none e s bytes h = cc
+text_opens_none e s bytes h = search arith fits 100
 
 fill_text_fills : (e : Tree) (line : ℕ) (bytes : List ℕ) (size offset : ℕ) (t : Target) (b : Context) → text e ≡ Some bytes → Safe b.scopes → Led (Fills t b) (fill_text e line bytes size offset t b)
 fill_text_fills e line bytes size offset (InMemory at mem) b is s =
@@ -333,9 +330,7 @@ fill_text_fills e line bytes size offset (InMemory at mem) b is s =
     (not_opened e b _ (reallocates b.scopes e) refl (text_opens_none e b.scopes bytes is)
     (grows_trans begun d.0 _ (grown_literal line bytes begun begun (grows_refl begun) d h)
     (grows_trans d.0 place.0 _ (grows_place at mem offset d.0) (grows_emit at (Copy place.1 (atom.Static d.1) (pos k)) place.0 tt))))))
-fill_text_fills e line bytes size offset (InStatic start) b is s =
-    led_ok (Fills (InStatic start) b) (static_fills start _ b b (passes_refl b s).stays)
-fill_text_fills e line bytes size offset (InRegister at register) b is s = led_refused (Fills (InRegister at register) b)
+fill_text_fills e line bytes size offset t b is s = search (arith, led_ok, static_fills, passes_refl, led_refused) fits 100
 
 by_text_fills : (e : Tree) (line : ℕ) (element : PlainType) (size offset : ℕ) (found_text : Option (List ℕ)) (t : Target) (b : Context) → text e ≡ found_text → Safe b.scopes
     → Led (Fills t b) (by_text e line element size offset found_text t b)
@@ -347,9 +342,7 @@ by_text_fills e line element size offset (Some bytes) t b is s =
 
 by_expression_fills : (e : Tree) (line : ℕ) (type : PlainType) (offset : ℕ) (t : Target) (b : Context) → Safe b.scopes → Led (Fills t b) (by_expression e line type offset t b)
 by_expression_fills e line (Array element size) offset t b s = by_text_fills e line element size offset (text e) t b refl s
-by_expression_fills e line (Struct tag) offset t b s = whole_fills e line (Struct tag) offset t b s
-by_expression_fills e line (Union tag) offset t b s = whole_fills e line (Union tag) offset t b s
-by_expression_fills e line type offset t b s = scalar_fills e line type offset t b s
+by_expression_fills e line type offset t b s = search (arith, whole_fills, scalar_fills) fits 100
 
 mutual
   unfolding initialize initialize_parts
@@ -379,8 +372,7 @@ pub record Introduced (name : List ℕ) (index : ℕ) (c d : Context) : Type 0 w
   pub there : named_in name d.scopes.file ≡ Some (n.Function type index)
 
 unless_ok : {A : Type 0} (test : Bool) (kind : TypeKind) (line : ℕ) (x d : A) → unless test kind line (good x) ≡ Ok d → x ≡ d
-unless_ok true kind line x d h = never (x ≡ d) _ d h
-unless_ok false kind line x d h = ok_same x d h
+unless_ok test kind line x d h = search (arith, never, ok_same) fits 100
 
 refused_first : (R : Context → Type 0) (line : ℕ) (x : Checked Context) (next : Context → Checked Context) → Led R (then (unless true DeclaredTwice line x) next)
 refused_first R line x next d h = never (R d) _ d h
@@ -490,8 +482,7 @@ no_initializer_stays (init ▹ rest) c s = led_after (Stays c) (surplus init c) 
 
 -- the layout of a variable is that of its type
 same_size : (layout : Option Layout) → (unwrap_or layout no_layout).size ≡ unwrap_or (option_map (λ (l : Layout). l.size) layout) 0
-same_size None = refl
-same_size (Some l) = refl
+same_size layout = search arith fits 100
 
 more_variable_bytes : (variables : List Variable) (v : Variable) → variable_bytes (variables ++ v ∷ []) ≡ variable_bytes variables + block_size v.layout.size
 more_variable_bytes variables v = grind (arith, sum_by-append, variable_bytes)
@@ -503,18 +494,13 @@ variable_stays : (line index : ℕ) (name : List ℕ) (type : PlainType) (c : Co
 variable_stays line index name type c s flat = either_way (Led (Stays c)) (nat_lt index (length c.variables)) (led_ok (Stays c) (passes_refl c s).stays) (new_variable_stays line name type c s flat)
 
 set_bytes : (variables : List Variable) (index : ℕ) (v : Variable) (start : Option Start) → slice_get variables index ≡ Some v → variable_bytes (slice_set variables index (record v { start = start })) ≡ variable_bytes variables
-set_bytes [] index v start e = refl
-set_bytes (x ∷ xs) zero v start e =
-    let same : x ≡ v = cc in
-    let size : Variable → ℕ = λ (y : Variable). block_size y.layout.size in
-    sum_by-cons size (record v { start = start }) xs ∙ ap (λ (y : Variable). size y + sum_by size xs) (sym same) ∙ sym (sum_by-cons size x xs)
 set_bytes (x ∷ xs) (suc i) v start e =
     let size : Variable → ℕ = λ (y : Variable). block_size y.layout.size in
     sum_by-cons size x (slice_set xs i (record v { start = start })) ∙ ap (λ k. size x + k) (set_bytes xs i v start e) ∙ sym (sum_by-cons size x xs)
+set_bytes variables index v start e = search (arith, sum_by-cons) fits 100
 
 started_bytes : (variables : List Variable) (index : ℕ) (start : Start) (v : Option Variable) → slice_get variables index ≡ v → variable_bytes (started_variable index start v variables) ≡ variable_bytes variables
-started_bytes variables index start None e = refl
-started_bytes variables index start (Some v) e = set_bytes variables index v (Some start) e
+started_bytes variables index start v e = search (arith, set_bytes) fits 100
 
 started_stays : (index : ℕ) (d : Context × Target) → Safe d.0.scopes → length d.0.scopes.inner ≡ 0 → Stays d.0 (started index d)
 started_stays index d s flat = search (arith, tied_refl, started_bytes)

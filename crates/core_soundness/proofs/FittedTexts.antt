@@ -1,11 +1,11 @@
 -- The first bytes and pointers of statics fill their layouts.
-use Rattle.std.proofs.Common.{◌≡◌, ◌≤◌, ◌+◌, ◌*◌, not, ℕ, Bool, true, false, cond, take, List, [], ◌∷◌, Option, Some, None, Ok, refl, sym, ap, ◌∙◌, subst, arith, length-take, ◌<◌, ◌++◌, ◌==◌, ◌&&◌, is_some, nat_lt, codes, All, length, slice_get, slice_set, unwrap_or, ⊎_elim, bytes_eq}
+use Rattle.std.proofs.Common.{◌≡◌, ◌≤◌, ◌+◌, ◌*◌, not, ℕ, Bool, true, false, cond, take, List, [], ◌∷◌, Option, Some, None, Ok, refl, sym, ap, ◌∙◌, subst, arith, length-take, ◌<◌, ◌++◌, ◌==◌, ◌&&◌, is_some, nat_lt, All, length, slice_get, slice_set, unwrap_or, ⊎_elim, bytes_eq}
 use Rattle.std.proofs.lemmas.Bool.{ltb-true, ltb-false, eqb-true}
 use Rattle.std.specs.List.{find}
 use Rattle.core_soundness.proofs.Words.Trees.{name_of, Tree, Trees, At, Node, none, ◌▹◌, count}
 use Rattle.core_soundness.proofs.Words.Types.{layout_of, number_layout, pointer_layout, array_layout, Known, no_layout, CompletedTag, known, TagTable, layout_in, PlainType, Void, Int, Pointer, Array, Struct, Union, Function, width_of, Layout, TagInfo, IntType, built_ins, numbered_from, line_of, typed, string, PlainNamed, unconverted, refused, then, unless, Table, named_in, is_null_constant, is_function, has_no_size, same, BuiltIn, Assignment, DeclaredTwice, Incomplete, StaticTooLarge, Folded, Is}
 use Rattle.core_soundness.proofs.Words.Core.{low_bits, block_size, IsStatic, Core, Start}
-use Rattle.core_soundness.proofs.Words.Elaborating.{addressed_in, Code, Context, asked, Variable, first_context, Found, Fixed, Unknown, Nowhere, Inside, valued, size_or_zero, Storage, Typedef, storage_of, specs_before, declared_function, no_initializer, variable_number_of, with_new_variable, with_variable, start_of, start_in, started_variable, fill_variable, file_object, file_function, file_value, file_name, name_in, entry, entries, declaration, layers, walked, elaborated, found, begun, external, externals, Target, InRegister, InMemory, InStatic, bytes_of, static_integer, static_address, static_pointer, static_scalar, fill_scalar, scalar, fill_record, whole, fill_text, is_character, text, by_text, by_expression, parts_of, takes_braces, is_scalar_type, all_surplus, initialize, initialize_parts, surplus, no_start, with_init_layers, is_twice_in, declared_as, reallocates, opened, core_of, with_static}
+use Rattle.core_soundness.proofs.Words.Elaborating.{addressed_in, Code, Context, asked, Variable, first_context, Found, Fixed, Unknown, Nowhere, Inside, valued, size_or_zero, Storage, Typedef, storage_of, specs_before, declared_function, no_initializer, variable_number_of, with_new_variable, with_variable, start_of, start_in, started_variable, fill_variable, file_object, file_function, file_name, name_in, entry, entries, declaration, layers, walked, elaborated, found, begun, external, externals, Target, InRegister, InMemory, InStatic, bytes_of, static_integer, static_address, static_pointer, static_scalar, fill_scalar, scalar, whole, fill_text, is_character, text, by_text, by_expression, parts_of, takes_braces, is_scalar_type, all_surplus, initialize, initialize_parts, no_start, with_init_layers, is_twice_in, declared_as, reallocates, opened, core_of, with_static}
 use Rattle.core_soundness.proofs.Words.Facts.{HasLayouts, Solid, TableFits, Whole, Written, AllWritten, AreWritten}
 use Rattle.c_types.proofs.MemberLemmas.{some_array, Extends, layout_stays}
 use Rattle.c_types.specs.declared.types.IntType.TheVariants as i
@@ -126,18 +126,13 @@ module _ (ts : List CompletedTag) (room : ℕ) (slots : List ℕ) where
       (λ d r. led_barred (Fills slots (offset + l.size) c) (unconverted type d.1.typed) line
       (fill_filled e line type offset low l begun.code target c d a q k seat (kept_trans c begun d.0 o (value_kept e type begun d o.solid r)) h))
 
-  record_fills : (e : Tree) (line : ℕ) (type : PlainType) (offset low high : ℕ) (c : Context) (d : Context × Found) (target : Target) → TargetFilled slots low target → Led (Fills slots high c) (fill_record e line type offset d target)
-  record_fills e line type offset low high c d (InMemory at mem) h = absurd h
-  record_fills e line type offset low high c d other h = led_refused (Fills slots high c)
-
   whole_fills : (e : Tree) (line : ℕ) (type : PlainType) (offset low high : ℕ) (target : Target) (c : Context) → TargetFilled slots low target → Led (Fills slots high c) (whole e line type offset target c)
   whole_fills e line type offset low high target c h = search (arith, led_after, led_unless, not)
 
   -- texts
 
   character_width : (element : PlainType) (m : Layout) → is_character element ≡ true → layout_of (known ts) element ≡ Some m → number_layout 1 ≡ m
-  character_width (Int i.Char) m e q = cc
-  character_width other m e q = cc
+  character_width element m e q = search arith fits 100
 
   text_fills : (e : Tree) (line : ℕ) (bytes : List ℕ) (size offset low : ℕ) (target : Target) (c : Context) → Solid c → low ≤ offset → Seat room slots offset (array_layout size (number_layout 1)) → TargetFilled slots low target → Led (Fills slots (offset + size * 1) c) (fill_text e line bytes size offset target c)
   text_fills e line bytes size offset low (InMemory at mem) c solid k seat h = absurd h
@@ -359,16 +354,7 @@ module _ (name : List ℕ) (type : PlainType) (c : Context) (file : Table) where
       below false w less = absurd (omega (arith, less, ltb-false i (length c.variables) w))
 
   first_placed : (line : ℕ) (d x : Context) → is_some (layout_in c.tags type) ≡ true → Fitted outer → unless false DeclaredTwice line (good (pushed (length c.variables))) ≡ Ok d → with_variable line (length c.variables) name type d ≡ Ok x → Placed (length c.variables) type x
-  first_placed line d x s h q k =
-      let is : pushed (length c.variables) ≡ d = ok_same (pushed (length c.variables)) d q in
-      let far : nat_lt (length c.variables) (length c.variables) ≡ false = equal (nat_lt (length c.variables) (length c.variables)) refl in
-      let made : with_new_variable line name type (pushed (length c.variables)) ≡ Ok x =
-      sym (ap (λ (b : Bool). cond b (good (pushed (length c.variables))) (with_new_variable line name type (pushed (length c.variables)))) far) ∙ (ap (λ (y : Context). with_variable line (length c.variables) name type y) is ∙ k) in
-      new_placed line (length c.variables) x refl s h made
-    where
-      equal : (b : Bool) → nat_lt (length c.variables) (length c.variables) ≡ b → b ≡ false
-      equal true w = absurd (omega (arith, ltb-true (length c.variables) (length c.variables) w))
-      equal false w = refl
+  first_placed line d x s h q k = search (arith, ok_same, nat_lt, new_placed, ltb-true) fits 100
 
   placed_by : (line : ℕ) (o : Option PlainNamed) (d x : Context) → named_in name file ≡ o → is_some (layout_in c.tags type) ≡ true → Fitted outer
       → unless (is_twice_in true (n.Object type (index_of o)) o) DeclaredTwice line (good (record outer { scopes = cond (is_some o) outer.scopes (record { file = file ++ (name, n.Object type (index_of o)) ∷ []; inner = [] }) })) ≡ Ok d
@@ -405,19 +391,15 @@ object_fitted line name type inits c flat h w ks st fit =
 -- functions and other names
 
 no_initializer_fitted : (inits : Trees) (c : Context) → Fitted c → Led Fitted (no_initializer inits c)
-no_initializer_fitted none c h = led_ok Fitted h
-no_initializer_fitted (init ▹ rest) c h = led_after Fitted (surplus init c) (λ d q. led_refused Fitted)
+no_initializer_fitted inits c h = search (arith, led_ok, led_after, led_refused) fits 100
 
-value_fitted : (line : ℕ) (name : List ℕ) (type : PlainType) (inits : Trees) (c : Context) → length c.scopes.inner ≡ 0 → Solid c → Whole (K c) type → Sorts c → SortedType c.tags.made type → Fitted c → Led Fitted (file_value line name type inits c)
-value_fitted line name type inits c flat h w ks st fit =
+file_name_fitted : (line : ℕ) (storage : Storage) (name : List ℕ) (type : PlainType) (inits : Trees) (c : Context) → length c.scopes.inner ≡ 0 → Solid c → Whole (K c) type → Sorts c → SortedType c.tags.made type → Fitted c → Led Fitted (file_name line storage name type inits c)
+file_name_fitted line Typedef name type inits c flat h w ks st fit = λ d q. fitted_on c d (declared_levels line name (n.Typedef type) c c tt (levels_refl c) d q).settled (typedef_rises c c (rises_refl c h) line name type w (λ x. st) d q).more fit
+file_name_fitted line other name type inits c flat h w ks st fit =
     led_cond Fitted (is_function type) (file_function line name type inits c) (file_object line name type inits c)
     (led_after Fitted (declared_function line name type c)
     (λ d q. no_initializer_fitted inits d (fitted_on c d (function_settled line name type c d q) (declared_function_rises line name type c h w d q).more fit)))
     (object_fitted line name type inits c flat h w ks st fit)
-
-file_name_fitted : (line : ℕ) (storage : Storage) (name : List ℕ) (type : PlainType) (inits : Trees) (c : Context) → length c.scopes.inner ≡ 0 → Solid c → Whole (K c) type → Sorts c → SortedType c.tags.made type → Fitted c → Led Fitted (file_name line storage name type inits c)
-file_name_fitted line Typedef name type inits c flat h w ks st fit = λ d q. fitted_on c d (declared_levels line name (n.Typedef type) c c tt (levels_refl c) d q).settled (typedef_rises c c (rises_refl c h) line name type w (λ x. st) d q).more fit
-file_name_fitted line other name type inits c flat h w ks st fit = value_fitted line name type inits c flat h w ks st fit
 
 name_fitted : (line : ℕ) (storage : Storage) (name : Option (List ℕ)) (type : PlainType) (inits : Trees) (c : Context) → length c.scopes.inner ≡ 0 → Solid c → Whole (K c) type → Sorts c → SortedType c.tags.made type → Fitted c → Led Fitted (name_in true line storage name type inits c)
 name_fitted line storage None type inits c flat h w ks st fit = led_ok Fitted fit

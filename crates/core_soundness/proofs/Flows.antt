@@ -2,7 +2,7 @@
 use Rattle.std.proofs.Common.{◌≡◌, ◌⊎◌, ◌≤◌, ◌<◌, ◌+◌, ℕ, false, cond, nat_eq, List, [], ◌∷◌, ◌++◌, refl, sym, ap, ◌∙◌, subst, arith, inl, inr, eq-eqb, ne_eqb, ◌-◌, zero, suc, Bool, true, length, Option, Some, option_map, slice_get, slice_index_or, All, Contains, ⊎_elim, eqb-true, true≢false}
 use Rattle.std.proofs.lemmas.Bool.{false≢true, eqb-false}
 use Rattle.std.proofs.lemmas.List.Elements.{All-nil, All-cons}
-use Rattle.core_soundness.proofs.Words.Core.{EachStatement, LeadsOn, HasScopes, Opens, start, goes, scopes_after, edges, edges_of_lib, Atom, LibName, Exit, Abort, Stm, StmKind, Jump, Zero, Case, Loop, Enter, Leave, Return, Lib}
+use Rattle.core_soundness.proofs.Words.Core.{EachStatement, LeadsOn, HasScopes, Opens, start, goes, scopes_after, edges, edges_of_lib, Atom, LibName, Stm, StmKind, Jump, Zero, Case, Loop, Enter, Leave, Return}
 use Rattle.core_soundness.proofs.Words.Elaborating.{Piece, Does, Here, Numbers, numbered, atom_by, point_in, body_of}
 
 -- the flow of control through pieces of code: where the labels stand, and how many scopes are open there
@@ -84,11 +84,7 @@ targets_append Q (Does stm ∷ a) b x y = (x.0, targets_append Q a b x.1 y)
 targets_append Q (Here l ∷ a) b x y = targets_append Q a b x y
 
 target_map : (Q R : ℕ → Type 0) (kind : StmKind) → ((l : ℕ) → Q l → R l) → Target Q kind → Target R kind
-target_map Q R (Jump l) f h = f l h
-target_map Q R (Zero a l) f h = f l h
-target_map Q R (Case a v l) f h = f l h
-target_map Q R (Loop l) f h = f l h
-target_map Q R kind f h = tt
+target_map Q R kind f h = search arith fits 100
 
 pub targets_map : (Q R : ℕ → Type 0) (a : List Piece) → ((l : ℕ) → Q l → R l) → Targets Q a → Targets R a
 targets_map Q R [] f h = tt
@@ -128,11 +124,7 @@ flows_append m (Does stm ∷ a) b p n j k x y =
 flows_append m (Here l ∷ a) b p n j k x y = (x.0, x.1, flows_append m a b p n j k x.2 y)
 
 goes_agree : (l : ℕ) (m other : Marks) (kind : StmKind) (p n k : ℕ) → Agree l m other → Target (λ t. t < l) kind → Goes m kind p n k → Goes other kind p n k
-goes_agree l m other (Jump t) p n k same below h = (same.depths t below ∙ h.0, omega (arith, same.points t below, h.1))
-goes_agree l m other (Zero a t) p n k same below h = (same.depths t below ∙ h.0, omega (arith, same.points t below, h.1), h.2)
-goes_agree l m other (Case a v t) p n k same below h = (same.depths t below ∙ h.0, omega (arith, same.points t below, h.1), h.2)
-goes_agree l m other (Loop t) p n k same below h = same.depths t below ∙ h
-goes_agree l m other kind p n k same below h = h
+goes_agree l m other kind p n k same below h = search arith fits 100
 
 pub flows_agree : (l : ℕ) (m other : Marks) (a : List Piece) (p n k : ℕ) → Agree l m other → Targets (λ t. t < l) a → Places (λ t. t < l) a → Flows m a p n k → Flows other a p n k
 flows_agree l m other [] p n k same targets places h = h
@@ -181,16 +173,13 @@ none_of : (x : ℕ) → Contains [] x → ⊥
 none_of x h = omega (arith, h.1)
 
 one_at : (a x k : ℕ) → k < 1 → slice_index_or (a ∷ []) k x ≡ x → x ≡ a
-one_at a x zero h e = sym e
-one_at a x (suc k) h e = absurd (omega arith)
+one_at a x k h e = search arith fits 100
 
 one_of : (a x : ℕ) → Contains (a ∷ []) x → x ≡ a
 one_of a x h = one_at a x h.0 h.1 h.2
 
 two_at : (a b x k : ℕ) → k < 2 → slice_index_or (a ∷ b ∷ []) k x ≡ x → (x ≡ a) ⊎ (x ≡ b)
-two_at a b x zero h e = inl (sym e)
-two_at a b x (suc zero) h e = inr (sym e)
-two_at a b x (suc (suc k)) h e = absurd (omega arith)
+two_at a b x k h e = search arith fits 100
 
 two_of : (a b x : ℕ) → Contains (a ∷ b ∷ []) x → (x ≡ a) ⊎ (x ≡ b)
 two_of a b x h = two_at a b x h.0 h.1 h.2
@@ -210,40 +199,24 @@ module _ (num : Numbers) where
   -- edges
 
   lib_inside : (name : LibName) (point long : ℕ) → point + 1 < long → All (λ next. next < long) (edges_of_lib name point)
-  lib_inside Exit point long h = All-nil _
-  lib_inside Abort point long h = All-nil _
-  lib_inside name point long h = one_all (λ next. next < long) (point + 1) h
+  lib_inside name point long h = search (arith, one_all) fits 100
 
   kind_inside : (kind : StmKind) (point long : ℕ) → Target (λ l. num.point l < long) kind → point + 1 < long → All (λ next. next < long) (edges (numbered num kind) point)
   unfolding numbered
   kind_inside (Jump l) point long t h = one_all (λ next. next < long) (num.point l) t
-  kind_inside (Zero a l) point long t h = two_all (λ next. next < long) (point + 1) (num.point l) h t
-  kind_inside (Case a v l) point long t h = two_all (λ next. next < long) (point + 1) (num.point l) h t
-  kind_inside (Loop l) point long t h = one_all (λ next. next < long) (num.point l) t
-  kind_inside (Lib name r args) point long t h = lib_inside name point long h
-  kind_inside (Return a) point long t h = All-nil _
-  kind_inside kind point long t h = one_all (λ next. next < long) (point + 1) h
+  kind_inside kind point long t h = search (arith, two_all, one_all, lib_inside) fits 100
 
   lib_ahead : (name : LibName) (point : ℕ) → All (λ next. point < next) (edges_of_lib name point)
-  lib_ahead Exit point = All-nil _
-  lib_ahead Abort point = All-nil _
-  lib_ahead name point = one_all (λ next. point < next) (point + 1) (omega arith)
+  lib_ahead name point = search (arith, one_all) fits 100
 
   module _ (m : Marks) where
     kind_ahead : (kind : StmKind) (point n k : ℕ) → Goes m kind point n k → Target (λ l. num.point l ≡ m.point l) kind → LeadsOn point (numbered num kind)
     unfolding numbered
     kind_ahead (Jump l) point n k h t = one_all (λ next. point < next) (num.point l) (omega (arith, h.1, t))
-    kind_ahead (Zero a l) point n k h t = two_all (λ next. point < next) (point + 1) (num.point l) (omega arith) (omega (arith, h.1, t))
-    kind_ahead (Case a v l) point n k h t = two_all (λ next. point < next) (point + 1) (num.point l) (omega arith) (omega (arith, h.1, t))
-    kind_ahead (Loop l) point n k h t = tt
-    kind_ahead (Lib name r args) point n k h t = lib_ahead name point
-    kind_ahead (Return a) point n k h t = All-nil _
-    kind_ahead kind point n k h t = one_all (λ next. point < next) (point + 1) (omega arith)
+    kind_ahead kind point n k h t = search (arith, two_all, lib_ahead, one_all) fits 100
 
     lib_goes : (depth : ℕ → ℕ) (name : LibName) (point n next : ℕ) → n ≡ depth (point + 1) → Contains (edges_of_lib name point) next → n ≡ depth next
-    lib_goes depth Exit point n next e h = absurd (none_of next h)
-    lib_goes depth Abort point n next e h = absurd (none_of next h)
-    lib_goes depth name point n next e h = e ∙ ap depth (sym (one_of (point + 1) next h))
+    lib_goes depth name point n next e h = search (arith, none_of, one_of) fits 100
 
     fork_goes : (depth : ℕ → ℕ) (point l n k next : ℕ) → m.depth l ≡ n → k ≡ n → depth (num.point l) ≡ m.depth l → k ≡ depth (point + 1) → Contains ((point + 1) ∷ num.point l ∷ []) next → n ≡ depth next
     fork_goes depth point l n k next d same t e h = search (arith, two_of)
@@ -252,13 +225,7 @@ module _ (num : Numbers) where
         → Contains (edges (numbered num kind) point) next → scopes_after (numbered num kind) n ≡ depth next
     unfolding numbered
     kind_goes depth (Jump l) point n k next h t e c = sym h.0 ∙ sym t ∙ ap depth (sym (one_of (num.point l) next c))
-    kind_goes depth (Zero a l) point n k next h t e c = fork_goes depth point l n k next h.0 h.2 t e c
-    kind_goes depth (Case a v l) point n k next h t e c = fork_goes depth point l n k next h.0 h.2 t e c
-    kind_goes depth (Loop l) point n k next h t e c = sym h ∙ sym t ∙ ap depth (sym (one_of (num.point l) next c))
-    kind_goes depth (Lib name r args) point n k next h t e c = lib_goes depth name point n next (sym h ∙ e) c
-    kind_goes depth Leave point n k next h t e c = let less : n - 1 ≡ k = omega arith in less ∙ e ∙ ap depth (sym (one_of (point + 1) next c))
-    kind_goes depth (Return a) point n k next h t e c = absurd (none_of next c)
-    kind_goes depth kind point n k next h t e c = sym h ∙ e ∙ ap depth (sym (one_of (point + 1) next c))
+    kind_goes depth kind point n k next h t e c = search (arith, fork_goes, one_of, lib_goes, none_of) fits 100
 
     is_leave : StmKind → Bool
     is_leave Leave = true
@@ -266,8 +233,7 @@ module _ (num : Numbers) where
 
     kind_closes : (kind : StmKind) (point n k : ℕ) → Goes m kind point n k → is_leave (numbered num kind) ≡ true → 0 < n
     unfolding numbered is_leave
-    kind_closes Leave point n k h e = omega arith
-    kind_closes kind point n k h e = absurd (false≢true e)
+    kind_closes kind point n k h e = search arith fits 100
 
     is_return : StmKind → Bool
     is_return (Return a) = true
@@ -275,8 +241,7 @@ module _ (num : Numbers) where
 
     kind_ends : (kind : StmKind) (point n k : ℕ) → Goes m kind point n k → is_return (numbered num kind) ≡ true → n ≡ 0
     unfolding numbered is_return
-    kind_ends (Return a) point n k h e = h
-    kind_ends kind point n k h e = absurd (false≢true e)
+    kind_ends kind point n k h e = search arith fits 100
 
     -- how many scopes are open at a point behind the start of pieces
     abbrev depth_at : (a : List Piece) (p n k : ℕ) → Flows m a p n k → ℕ → ℕ
@@ -299,15 +264,7 @@ module _ (num : Numbers) where
     standing : (Q : ℕ → Type 0) (a : List Piece) (p n k : ℕ) (h : Flows m a p n k) (i : ℕ) (stm : Stm) → Targets Q a → slice_get (body_of num a) i ≡ Some stm
         → Standing Q (p + i) (depth_at a p n k h i) (depth_at a p n k h (suc i)) stm
     standing Q [] p n k h i stm t e = cc
-    standing Q (Does s ∷ a) p n k h zero stm t e =
-        let same : record { line = s.line; kind = numbered num s.kind } ≡ stm = cc in
-        let here : p ≡ p + 0 = omega arith in
-        record {
-          kind = s.kind;
-          is = sym (ap (λ (x : Stm). x.kind) same);
-          goes = subst (λ q. Goes m s.kind q n (depth_at a (p + 1) h.0 k h.2 0)) here (subst (λ j. Goes m s.kind p n j) (sym (depth_start a (p + 1) h.0 k h.2)) h.1);
-          target = t.0;
-        }
+    standing Q (Does s ∷ a) p n k h zero stm t e = search (arith, depth_start) fits 100
     standing Q (Does s ∷ a) p n k h (suc i) stm t e = search (arith, (standing Q a (p + 1) h.0 k h.2 i stm t.1 e))
     standing Q (Here l ∷ a) p n k h i stm t e = standing Q a p n k h.2 i stm t e
 
@@ -387,11 +344,7 @@ module _ (num : Numbers) where
     there l x = labelled m whole 0 0 out flow l x
 
     target_of : (Q : ℕ → Type 0) (kind : StmKind) → ((l : ℕ) → Placed l whole → Q l) → Target (λ l. Placed l whole) kind → Target Q kind
-    target_of Q (Jump l) f h = f l h
-    target_of Q (Zero b l) f h = f l h
-    target_of Q (Case b v l) f h = f l h
-    target_of Q (Loop l) f h = f l h
-    target_of Q kind f h = tt
+    target_of Q kind f h = search arith fits 100
 
     pub inside : EachStatement (body_of num whole) (λ point stm. All (λ next. next < length (body_of num whole)) (edges stm.kind point))
     unfolding numbered
@@ -639,21 +592,10 @@ IsPlain (Return a) = ⊥
 IsPlain kind = Unit {0}
 
 plain_target : (Q : ℕ → Type 0) (kind : StmKind) → IsPlain kind → Target Q kind
-plain_target Q (Jump l) h = absurd h
-plain_target Q (Zero a l) h = absurd h
-plain_target Q (Case a v l) h = absurd h
-plain_target Q (Loop l) h = absurd h
-plain_target Q kind h = tt
+plain_target Q kind h = search arith fits 100
 
 plain_goes : (m : Marks) (kind : StmKind) (p n : ℕ) → IsPlain kind → Goes m kind p n n
-plain_goes m (Jump l) p n h = absurd h
-plain_goes m (Zero a l) p n h = absurd h
-plain_goes m (Case a v l) p n h = absurd h
-plain_goes m (Loop l) p n h = absurd h
-plain_goes m Enter p n h = absurd h
-plain_goes m Leave p n h = absurd h
-plain_goes m (Return a) p n h = absurd h
-plain_goes m kind p n h = refl
+plain_goes m kind p n h = search arith fits 100
 
 pub plain : (n low high : ℕ) (stm : Stm) → IsPlain stm.kind → Fragment [] n low high (Does stm ∷ []) []
 plain n low high stm h = record {

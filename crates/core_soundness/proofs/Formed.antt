@@ -1,9 +1,9 @@
 -- What the grammar says of trees.
-use Rattle.std.proofs.Common.{◌≡◌, Bool, true, false, IsSome, ◌⊎◌, replicate, ◌≤◌, ℕ, zero, suc, List, [], ◌∷◌, ◌++◌, All, Option, Some, None, refl, sym, ap, ◌∙◌, subst, inl, inr, arith, ◌||◌, nat_le, not}
+use Rattle.std.proofs.Common.{◌≡◌, Bool, true, false, IsSome, ◌⊎◌, replicate, ◌≤◌, ℕ, zero, suc, List, [], ◌∷◌, ◌++◌, All, refl, sym, ap, ◌∙◌, subst, arith, ◌||◌, nat_le, not}
 use Rattle.std.proofs.lemmas.Bool.{eqb-true, and_parts}
 use Rattle.std.proofs.lemmas.List.Elements.{All-tail}
 use Rattle.std.proofs.lemmas.Bool.{false≢true}
-use Rattle.core_soundness.proofs.Words.Trees.{IsToken, IsLexed, Token, TokenKind, Takes, IsBase, IsDeclarator, Allowed, AllAllowed, IsExternal, AreExternals, Tally, with_keyword, with_word, tally, is_one_type, are_specs, obeys, is_none, Form, Item, Says, Here, Part, key, shape, form_home, keyword_home, home, rows, some, commas, behind_commas, some_commas, expr, cond_level, HasTree, Place, Expression, name_of, has_typedef, params_of, Scope, leads_to_name, places, params_among, suffix_params, first_list, first_scope, is_scope, after, left, Piece, Said, Line, filled, spell, spell_all, IsWord, Spells, Tree, Trees, Leaf, At, Node, none, ◌▹◌, count, Word, Keyword}
+use Rattle.core_soundness.proofs.Words.Trees.{IsToken, IsLexed, Token, TokenKind, Takes, IsBase, IsDeclarator, Allowed, AllAllowed, IsExternal, AreExternals, Tally, with_keyword, with_word, tally, is_one_type, are_specs, obeys, is_none, Form, Item, Says, Here, Part, key, shape, form_home, keyword_home, home, rows, some, commas, behind_commas, some_commas, expr, HasTree, Place, name_of, has_typedef, params_of, Scope, leads_to_name, places, params_among, suffix_params, first_scope, is_scope, after, left, Piece, Said, Line, filled, spell, spell_all, IsWord, Spells, Tree, Trees, Leaf, At, Node, none, ◌▹◌, count, Word, Keyword}
 use Rattle.core_soundness.proofs.Words.Facts.{HasLists, HasParameters, IsDefinition, WordNames, Names, AllNames, IsHeld, HasParts, Written, AllWritten, Each, AreWritten}
 use Rattle.c_lexer.proofs.Constants.{constant_read}
 use Rattle.c_lexer.specs.declared.token.TokenKind.TheVariants as kind
@@ -117,11 +117,7 @@ all_formed (tree ▹ rest) h = (h.0.1, all_formed rest h.1)
 
 has_parts : (form : Form) (parts : Trees) (scope : Scope) → AllAllowed parts (places (shape form (count parts))) scope → HasParts form parts
 unfolding shape AllAllowed HasParts Takes
-has_parts f.Members none scope a = a
-has_parts f.MemberNames none scope a = a
-has_parts f.MemberNames (tree ▹ rest) scope a = a.0.1
-has_parts f.Inits none scope a = a
-has_parts form parts scope a = tt
+has_parts form parts scope a = search arith fits 100
 
 -- where no word stands, and where no node does
 
@@ -137,8 +133,7 @@ takes_word place = true
 
 word_taken : (word : Word) → takes_word (home (Leaf word)) ≡ true
 unfolding keyword_home
-word_taken (w.Key k.Void) = refl
-word_taken word = refl
+word_taken word = search arith fits 100
 
 no_word : (word : Word) (place : Place) → takes_word place ≡ false → home (Leaf word) ≡ place → ⊥
 no_word word place e h = false≢true (sym e ∙ ap takes_word (sym h) ∙ word_taken word)
@@ -151,8 +146,7 @@ takes_node place = true
 
 node_taken : (form : Form) → takes_node (form_home form) ≡ true
 unfolding form_home
-node_taken f.Unit = refl
-node_taken form = refl
+node_taken form = search arith fits 100
 
 no_node : (form : Form) (place : Place) → takes_node place ≡ false → form_home form ≡ place → ⊥
 no_node form place e h = false≢true (sym e ∙ ap takes_node (sym h) ∙ node_taken form)
@@ -161,17 +155,14 @@ no_node form place e h = false≢true (sym e ∙ ap takes_node (sym h) ∙ node_
 
 suffixes_alone : (form : Form) → form_home form ≡ p.Suffixes → form ≡ f.Suffixes
 unfolding form_home
-suffixes_alone f.Suffixes e = refl
-suffixes_alone form e = cc
+suffixes_alone form e = search arith fits 100
 
 no_list : {G : Type 0} → false ≡ true → G
 no_list e = cc
 
 list_first : (suffixes : Trees) → IsSome (suffix_params (Node f.Suffixes suffixes ▹ none)) → HasLists suffixes
 unfolding suffix_params
-list_first (Node f.FunctionSuffix parts ▹ rest) e = inl tt
-list_first (Node f.VoidSuffix parts ▹ rest) e = inl tt
-list_first other e = no_list e
+list_first suffixes e = search (arith, no_list) fits 100
 
 pub behind_stars : (consts : ℕ) → places (replicate consts (key k.Const) ++ Part p.AnyDeclarator ∷ []) ≡ p.AnyDeclarator ∷ []
 behind_stars zero = refl
@@ -206,31 +197,18 @@ base_parts (base ▹ Node form parts ▹ none) scope a = (base, parts, ap (λ (x
 -- the parameters of a part alone
 pub alone : (tree : Tree) → IsSome (params_among (tree ▹ none)) → IsSome (params_of tree)
 unfolding params_of params_among suffix_params
-alone (Leaf word) h = no_list h
-alone (At line) h = no_list h
-alone (Node form parts) h = by (params_of (Node form parts)) h
-  where
-    by : (o : Option Trees) → IsSome (first_list o None) → IsSome o
-    by None h = h
-    by (Some list) h = refl
+alone tree h = search (arith, no_list) fits 100
 
 -- the parameters of a base, or of the suffixes behind it
 base_or : (base : Tree) (suffixes : Trees) → IsBase (home base) → IsSome (params_among (base ▹ Node f.Suffixes suffixes ▹ none)) → IsSome (params_of base) ⊎ HasLists suffixes
 unfolding params_of params_among leads_to_name
-base_or (Leaf word) suffixes b h = inr (list_first suffixes h)
-base_or (At line) suffixes b h = absurd b
-base_or (Node form parts) suffixes b h = by (params_of (Node form parts)) h
-  where
-    by : (o : Option Trees) → IsSome (first_list o None) → IsSome o ⊎ HasLists suffixes
-    by None h = no_list h
-    by (Some list) h = inl refl
+base_or base suffixes b h = search (arith, list_first, no_list) fits 100
 
 layer_named : (place : Place) → place ≡ p.PointerLayer → place ≡ p.Declared → ⊥
 layer_named place h e = let clash : p.PointerLayer ≡ p.Declared = sym h ∙ e in cc
 
 either : {P Q R : Type 0} → P ⊎ R → (P → Q) → Q ⊎ R
-either (inl x) f = inl (f x)
-either (inr x) f = inr x
+either h0 f = search arith fits 100
 
 has_list : (tree : Tree) (scope : Scope) → Allowed tree scope → (home tree ≡ p.Declared → ⊥) → IsSome (params_of tree) → HasParameters tree
 unfolding Allowed AllAllowed params_of params_among leads_to_name HasParameters shape Takes form_home
@@ -257,8 +235,7 @@ has_list other scope a n h = no_list h
 
 external_defined : (tree : Tree) (scope : Scope) → IsExternal tree scope → IsDefinition tree
 unfolding IsExternal AllAllowed Allowed Takes params_of params_among leads_to_name shape
-external_defined (Node f.Function (line ▹ words ▹ Node f.Declared (declarator ▹ none) ▹ body ▹ none)) scope h = search (arith, has_list, declarator_named, alone)
-external_defined tree scope h = tt
+external_defined tree scope h = search (arith, has_list, declarator_named, alone) fits 100
 
 -- shapes
 
@@ -286,25 +263,20 @@ line_alone other scope a = tt
 name_alone : (parts : Trees) (scope : Scope) → AllAllowed parts (p.Name ∷ []) scope → NoNodes parts
 unfolding AllAllowed Takes
 name_alone (Leaf word ▹ more ▹ rest) scope a = absurd a.2
-name_alone (At line ▹ more ▹ rest) scope a = absurd a.2
-name_alone (Node form parts ▹ rest) scope a = absurd (no_node form p.Name refl a.0)
-name_alone other scope a = tt
+name_alone parts scope a = search (arith, no_node) fits 100
 
 at_most : (parts : Trees) (place : Place) (scope : Scope) → AllAllowed parts (place ∷ []) scope → AtMostOne parts
 unfolding AllAllowed
-at_most (tree ▹ more ▹ rest) place scope a = absurd a.2
-at_most other place scope a = tt
+at_most parts place scope a = search arith fits 100
 
 -- specs
 
 keyword_whole : (keyword : Keyword) (t : Tally) → (with_keyword keyword t).whole ≡ t.whole
 unfolding with_keyword
-keyword_whole k.Static t = refl
-keyword_whole keyword t = refl
+keyword_whole keyword t = search arith fits 100
 
 word_whole : (word : Word) (t : Tally) → (with_word word t).whole ≡ t.whole
-word_whole (w.Key keyword) t = keyword_whole keyword t
-word_whole word t = refl
+word_whole word t = search (arith, keyword_whole) fits 100
 
 no_nodes : (parts : Trees) → (tally parts).whole ≡ 0 → NoNodes parts
 unfolding tally
@@ -338,34 +310,14 @@ Layering p.Name = Unit {0}
 Layering place = ⊥
 
 declarator_layering : (place : Place) → IsDeclarator place → Layering place
-declarator_layering p.PointerLayer h = tt
-declarator_layering p.AnyDeclarator h = tt
-declarator_layering place h = absurd h
+declarator_layering place h = search arith fits 100
 
 base_layering : (place : Place) → IsBase place → Layering place
-base_layering p.Base h = tt
-base_layering p.Name h = tt
-base_layering place h = absurd h
+base_layering place h = search arith fits 100
 
 layer_formed : (tree : Tree) (scope : Scope) → Layering (home tree) → Allowed tree scope → IsLayer tree
 unfolding Allowed AllAllowed shape form_home
-layer_formed (Leaf word) scope l a = tt
-layer_formed (At line) scope l a = tt
-layer_formed (Node (f.Pointer consts) (At line ▹ declarator ▹ none)) scope l a = tt
-layer_formed (Node (f.Pointer consts) parts) scope l a =
-    let r = line_parts parts p.AnyDeclarator scope (subst (λ (ps : List Place). AllAllowed parts (p.Line ∷ ps) scope) (behind_stars consts) a.1) in
-    let e : parts ≡ (At r.0 ▹ r.1 ▹ none) = r.2 in cc
-layer_formed (Node f.Direct (base ▹ Node f.Suffixes suffixes ▹ none)) scope l a = tt
-layer_formed (Node f.Direct parts) scope l a =
-    let r = base_parts parts scope a.1 in
-    let e : parts ≡ (r.0 ▹ Node f.Suffixes r.1 ▹ none) = r.2 in cc
-layer_formed (Node f.Parens (At line ▹ declarator ▹ none)) scope l a = tt
-layer_formed (Node f.Parens parts) scope l a =
-    let r = line_parts parts p.PointerLayer scope a.1 in
-    let e : parts ≡ (At r.0 ▹ r.1 ▹ none) = r.2 in cc
-layer_formed (Node f.Nothing none) scope l a = tt
-layer_formed (Node f.Nothing (tree ▹ rest)) scope l a = absurd a.1
-layer_formed (Node form parts) scope l a = absurd l
+layer_formed tree scope l a = search (arith, line_parts, behind_stars, base_parts) fits 100
 
 layers_formed : (trees : Trees) (scope : Scope) → AllAllowed trees (places (behind_commas p.Declarator (count trees))) scope → AreLayers trees
 unfolding AllAllowed Takes
@@ -381,21 +333,16 @@ members_formed (tree ▹ rest) scope a = (layer_formed tree scope (declarator_la
 
 length_form : (form : Form) → form_home form ≡ p.MaybeLength → form ≡ f.MaybeLength
 unfolding form_home
-length_form f.MaybeLength e = refl
-length_form form e = cc
+length_form form e = search arith fits 100
 
 params_form : (form : Form) → form_home form ≡ p.Params → form ≡ f.Params
 unfolding form_home
-params_form f.Params e = refl
-params_form form e = cc
+params_form form e = search arith fits 100
 
 length_formed : (tree : Tree) (scope : Scope) → home tree ≡ p.MaybeLength → Allowed tree scope → (parts : Trees) × (tree ≡ Node f.MaybeLength parts) × AtMostOne parts
 unfolding Allowed AllAllowed shape
 length_formed (Leaf word) scope h a = absurd (no_word word p.MaybeLength refl h)
-length_formed (At line) scope h a = let e : p.Line ≡ p.MaybeLength = h in cc
-length_formed (Node f.MaybeLength none) scope h a = (none, refl, tt)
-length_formed (Node f.MaybeLength (e ▹ rest)) scope h a = (e ▹ rest, refl, at_most (e ▹ rest) (Expression cond_level) scope a.1)
-length_formed (Node form parts) scope h a = let e : form ≡ f.MaybeLength = length_form form h in cc
+length_formed tree scope h a = search (arith, at_most, length_form) fits 100
 
 params_formed : (tree : Tree) → home tree ≡ p.Params → (parts : Trees) × (tree ≡ Node f.Params parts)
 params_formed (Leaf word) h = absurd (no_word word p.Params refl h)
@@ -403,17 +350,12 @@ params_formed (At line) h = let e : p.Line ≡ p.Params = h in cc
 params_formed (Node form parts) h = (parts, ap (λ (x : Form). Node x parts) (params_form form h))
 
 array_formed : (line : ℕ) (parts : Trees) → AtMostOne parts → IsSuffix (Node f.ArraySuffix (At line ▹ Node f.MaybeLength parts ▹ none))
-array_formed line (e ▹ more ▹ rest) h = absurd h
-array_formed line other h = tt
+array_formed line parts h = search arith fits 100
 
 suffix_formed : (tree : Tree) (scope : Scope) → home tree ≡ p.Suffix → Allowed tree scope → IsSuffix tree
 unfolding Allowed AllAllowed Takes shape form_home
 suffix_formed (Leaf word) scope h a = absurd (no_word word p.Suffix refl h)
-suffix_formed (At line) scope h a = let e : p.Line ≡ p.Suffix = h in cc
-suffix_formed (Node f.ArraySuffix parts) scope h a = search (arith, line_parts, length_formed, array_formed)
-suffix_formed (Node f.FunctionSuffix parts) scope h a = search (arith, line_parts, params_formed)
-suffix_formed (Node f.VoidSuffix parts) scope h a = line_alone parts scope a.1
-suffix_formed (Node form parts) scope h a = let e : form_home form ≡ p.Suffix = h in cc
+suffix_formed tree scope h a = search (arith, line_parts, length_formed, array_formed, params_formed, line_alone) fits 100
 
 suffixes_formed : (trees : Trees) (scope : Scope) → AllAllowed trees (places (rows p.Suffix (count trees))) scope → AreSuffixes trees
 unfolding AllAllowed Takes
@@ -425,18 +367,15 @@ suffixes_formed (tree ▹ rest) scope a = (suffix_formed tree scope a.0 a.1, suf
 -- what is no specs keeps whether typedef names are declared
 typedef_kept : (tree : Tree) (scope : Scope) → (home tree ≡ p.Specs → ⊥) → (after tree scope).typedef ≡ scope.typedef
 unfolding after left form_home
-typedef_kept (Node f.Specs parts) scope n = absurd (n refl)
-typedef_kept other scope n = refl
+typedef_kept tree scope n = search arith fits 100
 
 typedef_begun : (words : Tree) (scope : Scope) → of_typedefs words ≡ true → (after words scope).typedef ≡ true
 unfolding after left
-typedef_begun (Node f.Specs parts) scope h = ap (λ (x : Bool). x || scope.typedef) h
-typedef_begun words scope h = cc
+typedef_begun words scope h = search arith fits 100
 
 init_form : (form : Form) → form_home form ≡ p.MaybeInit → form ≡ f.MaybeInit
 unfolding form_home
-init_form f.MaybeInit e = refl
-init_form form e = cc
+init_form form e = search arith fits 100
 
 entry_parts : (parts : Trees) (scope : Scope) → AllAllowed parts (p.Declared ∷ p.MaybeInit ∷ []) scope → (declared : Tree) × (inits : Trees) × (parts ≡ (declared ▹ Node f.MaybeInit inits ▹ none))
 unfolding AllAllowed Takes
@@ -448,16 +387,12 @@ entry_parts (declared ▹ Node form parts ▹ (more ▹ rest)) scope a = absurd 
 entry_parts (declared ▹ Node form parts ▹ none) scope a = (declared, parts, ap (λ (x : Form). declared ▹ Node x parts ▹ none) (init_form form a.2.0))
 
 no_init : (inits : Trees) (typedef : Bool) → not typedef || is_none inits ≡ true → typedef ≡ true → inits ≡ none
-no_init none typedef h e = refl
-no_init (init ▹ rest) true h e = cc
-no_init (init ▹ rest) false h e = cc
+no_init inits typedef h e = search arith fits 100
 
 entry_alone : (tree : Tree) (rest : Trees) (scope : Scope) → home tree ≡ p.Entry → Allowed tree scope → scope.typedef ≡ true → NoInits rest → NoInits (tree ▹ rest)
 unfolding Allowed AllAllowed Takes shape form_home is_scope obeys
 entry_alone (Leaf word) rest scope h a e n = absurd (no_word word p.Entry refl h)
-entry_alone (At line) rest scope h a e n = let x : p.Line ≡ p.Entry = h in cc
-entry_alone (Node f.Entry parts) rest scope h a e n = search (arith, entry_parts, typedef_kept, no_init)
-entry_alone (Node form parts) rest scope h a e n = let x : form_home form ≡ p.Entry = h in cc
+entry_alone tree rest scope h a e n = search (arith, entry_parts, typedef_kept, no_init) fits 100
 
 entries_behind : (entries : Trees) (scope : Scope) → AllAllowed entries (places (behind_commas p.Entry (count entries))) scope → scope.typedef ≡ true → NoInits entries
 unfolding AllAllowed Takes is_scope
@@ -499,8 +434,7 @@ shaped form parts scope o a = tt
 
 external_params : (tree : Tree) (scope : Scope) → IsExternal tree scope → HasParams tree
 unfolding IsExternal params_of leads_to_name
-external_params (Node f.Function (line ▹ words ▹ Node f.Declared (declarator ▹ none) ▹ body ▹ none)) scope h = alone declarator h.function
-external_params tree scope h = tt
+external_params tree scope h = search (arith, alone) fits 100
 
 -- the trees of tokens are such trees, by one walk; W of each name that is a token
 module _ (W : List ℕ → Type 0) where
@@ -529,13 +463,11 @@ module _ (W : List ℕ → Type 0) where
 
   spelled_fit : (pieces : List Piece) (tokens rest : List Token) → All Reads tokens → Spells pieces tokens rest → AllFit pieces
   unfolding Spells
-  spelled_fit [] tokens rest l h = tt
   spelled_fit (Said word ∷ pieces) (token ∷ tokens) rest l h =
       (word_fits word token (l 0 token (omega arith)) h.0, spelled_fit pieces tokens rest (All-tail Reads token tokens l) h.1)
   spelled_fit (Line line ∷ pieces) (token ∷ tokens) rest l h =
       (subst (λ (k : ℕ). 1 ≤ k) h.0 (l 0 token (omega arith)).0.1, spelled_fit pieces (token ∷ tokens) rest l h.1)
-  spelled_fit (Said word ∷ pieces) [] rest l h = absurd h
-  spelled_fit (Line line ∷ pieces) [] rest l h = absurd h
+  spelled_fit pieces tokens rest l h = search arith fits 100
 
   parts_fit : (one other : List Piece) → AllFit (one ++ other) → AllFit one × AllFit other
   parts_fit [] other h = (tt, h)

@@ -1,10 +1,10 @@
 -- How the context grows while a text is walked, and what answers lead to.
-use Rattle.std.proofs.Common.{◌≡◌, ◌≤◌, ◌+◌, ℕ, List, [], ◌∷◌, ◌++◌, length, slice_get, Some, sum_by, refl, sym, ap, ◌∙◌, arith, append_assoc, append-nil, Bool, true, false, cond, is_some, subst, ⊎_elim, Ok, Err, Option, None, ltb-false, ◌⊎◌, ◌<◌, inl, inr, ◌||◌}
+use Rattle.std.proofs.Common.{◌≡◌, ◌≤◌, ◌+◌, ℕ, List, [], ◌∷◌, ◌++◌, length, slice_get, Some, sum_by, refl, sym, ap, ◌∙◌, arith, append_assoc, append-nil, Bool, true, false, cond, is_some, subst, ⊎_elim, Ok, Err, Option, ltb-false, ◌⊎◌, ◌<◌, inl, inr, ◌||◌}
 use Rattle.std.proofs.lemmas.List.Sums.{sum_by-append}
 use Rattle.core_soundness.proofs.Words.Trees.{Tree, Trees, Leaf, At, Node, none, ◌▹◌}
-use Rattle.core_soundness.proofs.Words.Types.{PlainType, line_of, answered, wanted, string, PlainNamed, Checked, Refusal, refused, then, unless, ScopeList, Table, named_in, innermost, with_name, after_declaration, barred, PlainTyped, is_void, read, has_no_value, TypeKind, Operands}
+use Rattle.core_soundness.proofs.Words.Types.{PlainType, wanted, string, PlainNamed, Checked, Refusal, refused, then, unless, ScopeList, Table, named_in, innermost, with_name, after_declaration, barred, PlainTyped, is_void, TypeKind}
 use Rattle.core_soundness.proofs.Words.Core.{block_size, Atom, Stm, StmKind, Free, Enter, Leave, Jump, Zero}
-use Rattle.core_soundness.proofs.Words.Elaborating.{with_format, asked, Piece, Does, Code, Context, Variable, told, emit, integer_by, pointer_by, With, Here, here, with_labels, anew, Found, valued_from, unused, valued, code_line, cast_operand, calls_realloc, reallocates, any_reallocates, opened, closed, with_literal}
+use Rattle.core_soundness.proofs.Words.Elaborating.{with_format, asked, Piece, Does, Code, Context, Variable, told, emit, integer_by, pointer_by, With, Here, here, with_labels, anew, Found, unused, valued, cast_operand, calls_realloc, reallocates, any_reallocates, opened, closed, with_literal}
 use Rattle.c_tree.specs.Forms as f
 use Rattle.c_tree.specs.Words as w
 use Rattle.c_decls.specs.Expressions as types
@@ -210,19 +210,16 @@ module _ {C : Type 0} (R : C → Type 0) where
   reached_refused d e = never (R d.0) _ d e
 
   pub reached_after : {A B : Type 0} (r : Checked A) {f : A → Checked (C × B)} → ((a : A) → r ≡ Ok a → Reached R (f a)) → Reached R (then r f)
-  reached_after (Ok a) h d e = h a refl d e
-  reached_after (Err x) h d e = never (R d.0) x d e
+  reached_after r h d e = search (arith, never) fits 100
 
   pub reached_then : {A B : Type 0} (S : C → Type 0) {r : Checked (C × A)} {f : C × A → Checked (C × B)} → Reached S r → ((d : C × A) → S d.0 → Reached R (f d)) → Reached R (then r f)
   reached_then S {r} {f} g h = reached_after r {f = f} (λ a e. h a (g a e))
 
   pub reached_unless : {A : Type 0} (test : Bool) (kind : TypeKind) (line : ℕ) {r : Checked (C × A)} → Reached R r → Reached R (unless test kind line r)
-  reached_unless true kind line g d e = never (R d.0) _ d e
-  reached_unless false kind line g d e = g d e
+  reached_unless test kind line g d e = search (arith, never) fits 100
 
   pub reached_barred : {A : Type 0} (reason : Option TypeKind) (line : ℕ) {r : Checked (C × A)} → Reached R r → Reached R (barred reason line r)
-  reached_barred None line g d e = g d e
-  reached_barred (Some kind) line g d e = never (R d.0) _ d e
+  reached_barred reason line g d e = search (arith, never) fits 100
 
 -- the same where the answer is what is known
 abbrev pub Led : {C : Type 0} → (C → Type 0) → Checked C → Type 0
@@ -236,26 +233,21 @@ module _ {C : Type 0} (R : C → Type 0) where
   led_refused d e = never (R d) _ d e
 
   pub led_after : {A : Type 0} (r : Checked A) {f : A → Checked C} → ((a : A) → r ≡ Ok a → Led R (f a)) → Led R (then r f)
-  led_after (Ok a) h d e = h a refl d e
-  led_after (Err x) h d e = never (R d) x d e
+  led_after r h d e = search (arith, never) fits 100
 
   pub led_unless : (test : Bool) (kind : TypeKind) (line : ℕ) {r : Checked C} → (test ≡ false → Led R r) → Led R (unless test kind line r)
-  led_unless true kind line g d e = never (R d) _ d e
-  led_unless false kind line g d e = g refl d e
+  led_unless test kind line g d e = search (arith, never) fits 100
 
   pub led_barred : (reason : Option TypeKind) (line : ℕ) {r : Checked C} → Led R r → Led R (barred reason line r)
-  led_barred None line g d e = g d e
-  led_barred (Some kind) line g d e = never (R d) _ d e
+  led_barred reason line g d e = search (arith, never) fits 100
 
 -- where a value is wanted, an expression is evaluated as where its value is not used
 
 pub behind_test : {A : Type 0} (test : Bool) (kind : TypeKind) (line : ℕ) (r : Checked A) (z : A) → unless test kind line r ≡ Ok z → r ≡ Ok z
-behind_test true kind line r z h = never (r ≡ Ok z) _ z h
-behind_test false kind line r z h = h
+behind_test test kind line r z h = search (arith, never) fits 100
 
 pub valued_unused : (tree : Tree) (answer : With Found) (z : Context × Found) → valued tree answer ≡ Ok z → unused tree answer ≡ Ok z
-valued_unused tree (Ok d) z h = behind_test (has_no_value d.1.typed) Operands (line_of tree) (valued_from tree d.0 d.1) z h
-valued_unused tree (Err refusal) z h = h
+valued_unused tree answer z h = search (arith, behind_test) fits 100
 
 pub cast_unused : (type : PlainType) (tree : Tree) (answer : With Found) (z : Context × Found) → cast_operand type tree answer ≡ Ok z → unused tree answer ≡ Ok z
 cast_unused type tree answer z h = either_way (λ x. x ≡ Ok z → unused tree answer ≡ Ok z) (is_void type) (λ h. h) (λ h. valued_unused tree answer z h) h
@@ -263,12 +255,7 @@ cast_unused type tree answer z h = either_way (λ x. x ≡ Ok z → unused tree 
 -- the same by types alone
 
 pub wanted_unused : (tree : Tree) (x : types.Found) (z : names.Context × PlainTyped) → wanted tree x ≡ Ok z → types.unused tree x ≡ Ok z
-wanted_unused tree (Ok e) z h = by (has_no_value e.1) h
-  where
-    by : (k : Bool) → answered e.0 (unless k Operands (line_of tree) (read (line_of tree) e.0.tags e.1)) ≡ Ok z → answered e.0 (read (line_of tree) e.0.tags e.1) ≡ Ok z
-    by true h = never (answered e.0 (read (line_of tree) e.0.tags e.1) ≡ Ok z) _ z h
-    by false h = h
-wanted_unused tree (Err refusal) z h = h
+wanted_unused tree x z h = search (arith, never) fits 100
 
 pub type_cast_unused : (type : PlainType) (tree : Tree) (x : types.Found) (z : names.Context × PlainTyped) → types.cast_operand type tree x ≡ Ok z → types.unused tree x ≡ Ok z
 type_cast_unused type tree x z h = either_way (λ y0. y0 ≡ Ok z → types.unused tree x ≡ Ok z) (is_void type) (λ h. h) (λ h. wanted_unused tree x z h) h
@@ -522,8 +509,7 @@ both3 : (a b c d e g : Bool) → a ≡ b → c ≡ d → e ≡ g → (a || c || 
 both3 a b c d e g x y z = cc
 
 calls_same : (e : Tree) (s t : ScopeList) → More s t → Safe s → calls_realloc t e ≡ calls_realloc s e
-calls_same (Node f.Name (At line ▹ Leaf (w.Name name) ▹ none)) s t m h = same_frees s t name m h
-calls_same tree s t m h = refl
+calls_same e s t m h = search (arith, same_frees) fits 100
 
 mutual
   unfolding reallocates any_reallocates
@@ -557,13 +543,10 @@ closed_in b c line true s g = record {
 }
 
 more_cond : (b c : Context) (line : ℕ) (r : Bool) → Grows (cond r (emit line Enter (anew b)) (anew b)) c → More b.scopes c.scopes
-more_cond b c line true g = g.names
-more_cond b c line false g = g.names
+more_cond b c line r g = search arith fits 100
 
 pub grows_closed : (e : Tree) (b c : Context) → Safe b.scopes → Grows (opened e b) c → Grows b (closed e c)
-grows_closed e b c s g =
-    let same : reallocates c.scopes e ≡ reallocates b.scopes e = reallocates_same e b.scopes c.scopes (more_cond b c (code_line e) (reallocates b.scopes e) g) s in
-    subst (λ r. Grows b (cond r (emit (code_line e) Leave c) c)) (sym same) (closed_in b c (code_line e) (reallocates b.scopes e) s g)
+grows_closed e b c s g = search (arith, reallocates_same, more_cond, closed_in) fits 100
 
 -- one that is not closed
 pub opened_stays : (e : Tree) (c d : Context) → Safe c.scopes → Grows (opened e c) d → Stays c d

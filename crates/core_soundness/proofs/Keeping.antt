@@ -1,11 +1,11 @@
 -- What expressions declare and leave as it was.
-use Rattle.std.proofs.Common.{◌≡◌, ◌+◌, ℕ, true, false, List, [], ◌∷◌, ◌++◌, reverse, Some, Ok, Err, refl, sym, ap, ◌∙◌, subst, arith, ◌||◌, Bool, Option, None, zero, suc, not, length, ⊎_elim}
+use Rattle.std.proofs.Common.{◌≡◌, ◌+◌, ℕ, true, false, List, [], ◌∷◌, ◌++◌, reverse, Some, Ok, refl, sym, ap, ◌∙◌, subst, arith, ◌||◌, Bool, Option, None, zero, suc, not, length, ⊎_elim}
 use Rattle.std.proofs.lemmas.Bool.{eq-eqb}
 use Rattle.std.specs.Option.{option_or}
 use Rattle.core_soundness.proofs.Words.Trees.{Form, shape, assign_level, Place, Expression, places, is_scope, Tree, Trees, Leaf, At, Node, none, ◌▹◌, count}
 use Rattle.core_soundness.proofs.Words.Types.{TagTable, PlainType, Void, IntType, call, no_function, Found, line_of, answered, wanted, changing, one, two, callee, first_literal, typed, values, typename, layers, suffix_layers, suffix_layer, param_types, in_new_scope, out_of_scope, unused, cast_operand, promoted, PlainNamed, element, choice, assigned, changed, behind_comma, size, cast, converts, unconverted, Checked, then, ScopeList, found, Table, named_in, found_from, Context, Layer, ArrayOf, FunctionOf, special_type, specs_type, array_length, with_layers, binary, PlainTyped, is_function, Operand, Number, operand, is_scalar, is_void, Constant, LeftOut, Operands, Assignment}
 use Rattle.core_soundness.proofs.Words.Core.{Atom, StmKind, Zero, Leave, Return}
-use Rattle.core_soundness.proofs.Words.Elaborating.{Taken, Known, number_of, plain_name, with_number, with_address, left_part, taken, all_taken, asked, Context as TextContext, told, emit, valued, unused as unused_value, Found as FoundCode, atom_in, code_line, convert_integer, tested_value, convert, constant, opened, reallocates, closed, evaluated, maybe_evaluated, condition, leaves_if_zero, maybe_leaves, return_of, return_from, switch_operand, closed_atom, switch_operand_of, leaves, returned, return_value}
+use Rattle.core_soundness.proofs.Words.Elaborating.{Taken, Known, number_of, with_address, left_part, taken, all_taken, asked, Context as TextContext, told, emit, valued, unused as unused_value, Found as FoundCode, atom_in, code_line, convert_integer, tested_value, convert, constant, opened, reallocates, closed, evaluated, maybe_evaluated, condition, leaves_if_zero, maybe_leaves, return_of, return_from, switch_operand, closed_atom, switch_operand_of, leaves, returned, return_value}
 use Rattle.core_soundness.proofs.Words.Facts.{is_register, NoRegister, TakesAddress, Spoken, AllSpoken, Written, AllWritten}
 use Rattle.c_types.specs.Types as ct
 use Rattle.c_tree.specs.Forms as f
@@ -37,12 +37,10 @@ abbrev pub Shows : {A : Type 0} → Type 0 → Checked A → Type 0
 Shows {A} P r = (d : A) → r ≡ Ok d → P
 
 pub shows_first : {A B : Type 0} (P : Type 0) (r : Checked A) (next : A → Checked B) → Shows P r → Shows P (then r next)
-shows_first P (Ok x) next h d e = h x refl
-shows_first P (Err x) next h d e = never P x d e
+shows_first P r next h d e = search (arith, never) fits 100
 
 pub shows_both : {A B : Type 0} (P Q : Type 0) (r : Checked A) (next : A → Checked B) → Shows P r → ((x : A) → r ≡ Ok x → Shows Q (next x)) → Shows (P × Q) (then r next)
-shows_both P Q (Ok x) next g h d e = (g x refl, h x refl d e)
-shows_both P Q (Err x) next g h d e = never (P × Q) x d e
+shows_both P Q r next g h d e = search (arith, never) fits 100
 
 -- operands
 
@@ -101,10 +99,7 @@ callee_calm e c answer h d q = shows_first (Calm e) answer (λ d. then (no_funct
 pub special_still : (line : ℕ) (tree : Tree) (c : Context) → Shows (Still tree) (special_type line tree c)
 unfolding Still AllStill shape
 special_still line (Node f.TypedefName (Leaf (w.Name name) ▹ none)) c d q = (refl, tt, (tt, tt))
-special_still line (Node (f.RecordTag sort) (At at ▹ Leaf (w.Name name) ▹ none)) c d q = (refl, tt, (tt, (tt, tt)))
-special_still line (Node f.EnumTag (At at ▹ Leaf (w.Name name) ▹ none)) c d q = (refl, tt, (tt, (tt, tt)))
-special_still line (Node other (At at ▹ parts)) c d q = never (Still (Node other (At at ▹ parts))) _ d q
-special_still line tree c d q = never (Still tree) _ d q
+special_still line tree c d q = search (arith, never) fits 100
 
 words_still : (rest words : Trees) (line : ℕ) (c : Context) → OneNode rest → Shows (AllStill rest) (specs_type line words rest c)
 unfolding Still AllStill
@@ -216,9 +211,7 @@ mutual
       let both = none_first (functions s.value.1) (functions l.value.1) sum in
       (refl, tt, ((layers_still base c g.1.0 g.0.0 l.value l.is both.1), ((refl, rows_held p.Suffix suffixes, (suffixes_still suffixes l.value.0 g.1.1.0.1 s.value s.is both.0)), tt)))
   layers_still (Node f.Parens (At line ▹ declarator ▹ none)) c g i d q n = (refl, tt, (tt, ((layers_still declarator c g.1.1.0 g.0 d q n), tt)))
-  layers_still (Node f.Nothing none) c g i d q n = (refl, tt, tt)
-  layers_still (Node _ parts) c g i d q n = absurd i
-  layers_still other c g i d q n = tt
+  layers_still tree c g i d q n = search arith fits 100
 
   pub suffixes_still : (suffixes : Trees) (c : Context) → AllFormed suffixes → (d : Context × List Layer) → suffix_layers suffixes c ≡ Ok d → functions d.1 ≡ 0 → AllStill suffixes
   suffixes_still none c g d q n = tt
@@ -259,23 +252,11 @@ first_has : (k : ℕ) (numbers : List ℕ) → Has (k ∷ numbers) k
 first_has k numbers = ap (λ (b : Bool). b || among k numbers) (eq-eqb k k refl)
 
 name_spoken : (o : Option (List ℕ)) (s : ScopeList) (t v : Taken) (numbers : List ℕ) → AreNumbered s t numbers → v.names ≡ t.names → Inside (with_address o v).addressed numbers → NoRegister s o
-name_spoken None s t v numbers h e i = tt
-name_spoken (Some name) s t v numbers h e i = by (is_register (found s name)) refl
-  where
-    by : (b : Bool) → is_register (found s name) ≡ b → is_register (found s name) ≡ false
-    by false r = r
-    by true r =
-        let n = h name r in
-        let number : number_of v.names name ≡ Some n.0 = ap (λ (l : List Known). number_of l name) e ∙ n.1 in
-        let one : Has (with_number (number_of v.names name) v).addressed n.0 = subst (λ (x : Option ℕ). Has (with_number x v).addressed n.0) (sym number) (first_has n.0 v.addressed) in
-        let there : among n.0 numbers ≡ true = i n.0 one in
-        let clash : true ≡ false = sym there ∙ n.2 in
-        cc
+name_spoken o s t v numbers h e i = search (arith, first_has, among) fits 100
 
 address_spoken : (form : Form) (parts : Trees) (s : ScopeList) (t v : Taken) (numbers : List ℕ) → AreNumbered s t numbers → v.names ≡ t.names → Inside (left form parts t v).addressed numbers → TakesAddress s form parts
 unfolding TakesAddress left
-address_spoken (f.Unary u.Address) (line ▹ e ▹ none) s t v numbers h same i = name_spoken (plain_name e) s t v numbers h same i
-address_spoken _ parts s t v numbers h same i = tt
+address_spoken form parts s t v numbers h same i = search (arith, name_spoken) fits 100
 
 mutual
   unfolding taken all_taken Still AllStill Spoken AllSpoken Written AllWritten
@@ -434,23 +415,16 @@ operand_keeps line e c z q =
 -- more tags: no name stands for a register that did not before
 
 or_register : (o x y : Option PlainNamed) → (is_register x ≡ true → is_register y ≡ true) → is_register (option_or o x) ≡ true → is_register (option_or o y) ≡ true
-or_register None x y h e = h e
-or_register (Some v) x y h e = e
+or_register o x y h e = search arith fits 100
 
 tags_fewer : (f g : Table) (a b : List Table) (name : List ℕ) → MoreTags f g → MoreAll a b → is_register (found_from g name b) ≡ true → is_register (found_from f name a) ≡ true
-tags_fewer f g [] [] name mf m e =
-    ⊎_elim
-    (λ (s : named_in name g ≡ named_in name f). sym (ap is_register s) ∙ e)
-    (λ (s : IsNewTag name f g). let clash : false ≡ true = sym (ap is_register s.4) ∙ e in cc)
-    (mf name)
-tags_fewer f g [] (u ∷ us) name mf m e = absurd m
-tags_fewer f g (t ∷ ts) [] name mf m e = absurd m
 tags_fewer f g (t ∷ ts) (u ∷ us) name mf m e =
     ⊎_elim
     (λ (s : named_in name u ≡ named_in name t).
     or_register (named_in name t) (found_from g name us) (found_from f name ts) (tags_fewer f g ts us name mf m.1) (sym (ap (λ (o : Option PlainNamed). is_register (option_or o (found_from g name us))) s) ∙ e))
     (λ (s : IsNewTag name t u). let clash : false ≡ true = sym (ap (λ (o : Option PlainNamed). is_register (option_or o (found_from g name us))) s.4) ∙ e in cc)
     (m.0 name)
+tags_fewer f g a b name mf m e = search arith fits 100
 
 pub more_fewer : (s r : ScopeList) → More s r → Fewer s r
 more_fewer s r m name e = tags_fewer s.file r.file s.inner r.inner name m.file m.inner e
@@ -481,9 +455,7 @@ pub stepped_trans : (t u v : Taken) (a b c : TextContext) → Stepped t a u b �
 stepped_trans t u v a b c x y = record { follows = y.follows; addressed = y.addressed ∙ x.addressed; depth = y.depth ∙ x.depth; outside = λ j name e. x.outside j name (y.outside j name e) }
 
 scope_of : (a b : List Table) → length b ≡ length a → HasScope a → HasScope b
-scope_of [] b e h = absurd h
-scope_of (t ∷ ts) [] e h = absurd (omega (arith, e))
-scope_of (t ∷ ts) (u ∷ us) e h = tt
+scope_of a b e h = search arith fits 100
 
 pub stepped_scope : (t u : Taken) (c d : TextContext) → Stepped t c u d → HasScope c.scopes.inner → HasScope d.scopes.inner
 stepped_scope t u c d s h = scope_of c.scopes.inner d.scopes.inner s.depth h
@@ -508,9 +480,7 @@ operand_in_step line e t c z g h q = calm_step e t c z.0 (operand_calm line e c 
 -- a constant
 
 pub constant_calm : (e : Tree) (c : TextContext) (z : TextContext × Constant) → Formed e → constant e c ≡ Ok z → Calm e
-constant_calm e c z g q =
-    let x = came (wanted e (typed e (asked c))) q in
-    shows_first (Calm e) (typed e (asked c)) _ (typed_calm e (asked c) g) x.value x.is
+constant_calm e c z g q = search (arith, came, shows_first, typed_calm) fits 100
 
 pub constant_in_step : (e : Tree) (t : Taken) (c : TextContext) (z : TextContext × Constant) → Formed e → InStep t c → constant e c ≡ Ok z → InStep (taken e t) z.0
 constant_in_step e t c z g h q = calm_step e t c z.0 (constant_calm e c z g q) (constant_keeps Keeps keeps_tags e c z q) h

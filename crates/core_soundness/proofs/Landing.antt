@@ -9,14 +9,13 @@ use Rattle.c_tree.specs.declared.operator.BinaryOp.TheVariants as bin
 use Rattle.c_tree.specs.declared.operator.UnaryOp.TheVariants as u
 use Rattle.c_decls.specs.Named as n
 use Rattle.c_decls.specs.PlaceRules as places
-use Rattle.c_decls.specs.declared.built_in.BuiltIn.TheVariants as built
 use Rattle.core_soundness.proofs.Agreeing.{came}
 use Rattle.core_soundness.proofs.Growth.{good, ok_same, never, behind_test}
 use Rattle.core_soundness.proofs.Scopes.{more_refl}
 use Rattle.core_soundness.proofs.Sorting.{holds_grew, pieces_grew, Goes, goes_refl, goes_forgotten, Gives, gives_on, gives_integer, Sits, Lands, Comes, comes_lands, HasValue, Converting, converted, tested_value_gives, passed, kept_test, moved_is, beside_is, Makes, before_gives, member_gives, move_gives, IsPointed, IsBetween, LeftOf, binary_makes, goes_trans, goes_emit, goes_here, goes_labels, gives_pointer, Apart, held_as_grew}
 use Rattle.std.proofs.lemmas.Bool.{and_parts}
 use Rattle.core_soundness.proofs.Words.Trees.{Tree, BinaryOp, UnaryOp}
-use Rattle.core_soundness.proofs.Words.Types.{TagTable, PlainMember, members_in, PlainType, IntType, built_ins, constant_of, named, built_in_named, built_in_value, string, PlainNamed, cast, cast_types, null_pointer, element, element_types, dot, arrow, arrow_of, member_among, member_answer, choice, choice_types, chosen_pointer, refused, Table, named_in, found_from, found as declaration, unary, unary_of, unary_on_integer, unary_type, binary, logical, PlainTyped, Operand, Number, PointerTo, Neither, operand, place, value, int, constant, is_scalar, is_null_constant, is_void, same, BuiltIn, Constant, TypeTooLarge, StaticTooLarge, Operands}
+use Rattle.core_soundness.proofs.Words.Types.{TagTable, PlainMember, PlainType, IntType, built_ins, named, built_in_named, built_in_value, string, PlainNamed, cast, cast_types, element, element_types, dot, arrow, arrow_of, member_among, choice, choice_types, chosen_pointer, refused, Table, named_in, found_from, found as declaration, unary, unary_of, unary_on_integer, unary_type, binary, logical, PlainTyped, Operand, Number, PointerTo, Neither, operand, place, value, constant, is_scalar, is_null_constant, is_void, same, BuiltIn, Constant, TypeTooLarge, StaticTooLarge, Operands}
 use Rattle.core_soundness.proofs.Words.Core.{block_size, Integer, Pointer, Sort, Atom, Cmp, Set, Zero, Jump}
 use Rattle.core_soundness.proofs.Words.Elaborating.{Context, literal_object, local_register, Code, emit, here, with_labels, new_label, integer_by, Found, Spot, Local, Memory, Value, Fixed, Unknown, Nowhere, found_as, atom_in, code_line, convert, forget, tested_value, name_answer, literal_answer, address_answer, working, move_pointer, combine, combined, fixed_sum, moved_by, offset_of, constant_found, object_found, built_in_found, name_found, is_inner, with_static, with_literal, literal_found, at_address, with_value, indexed, dotted, target_of, pointed, negated, before_number, apply, applied, tells_equal, is_pointer_ahead, is_pointer_operand, ahead, left_operand, between, cast_fixed, cast_to, set_again, compare_again, and_then, and_ends, and_ended, or_else, or_ends, or_ended, choice_spot, choice_found, chosen_by, choose_first, choose_last, chosen}
 use Rattle.core_soundness.proofs.Words.Facts.{World, world, Holds, HeldAs, Held, StandsAs, Stands, IsObject, is_variable, is_literal, is_local, InnerFits, FileFits, NamesFit, local_sort, type_sort, TablesFit}
@@ -46,14 +45,10 @@ scalar_held w (types.Pointer target) k s h = is_local k refl h
 scalar_held w other k s h = tt
 
 built_in_stands : (w : World) (line : ℕ) (name : BuiltIn) (o : Option Constant) (e : PlainTyped) → built_in_value line name o ≡ Ok e → Stands w (built_in_found e e.is_null)
-built_in_stands w line built.Null o e h = subst (λ (x : PlainTyped). Stands w (built_in_found x x.is_null)) (ok_same _ e h) refl
-built_in_stands w line built.SizeT o e h = never _ _ e h
-built_in_stands w line name (Some c) e h = subst (λ (x : PlainTyped). Stands w (built_in_found x x.is_null)) (ok_same _ e h) refl
-built_in_stands w line name None e h = never _ _ e h
+built_in_stands w line name o e h = search (arith, ok_same, never) fits 100
 
 built_in_at : (w : World) (line : ℕ) (o : Option BuiltIn) (e : PlainTyped) → built_in_named line o ≡ Ok e → Stands w (built_in_found e e.is_null)
-built_in_at w line None e h = never _ _ e h
-built_in_at w line (Some name) e h = built_in_stands w line name (constant_of name) e h
+built_in_at w line o e h = search (arith, never, built_in_stands) fits 100
 
 name_stands : (w : World) (file : Table) (inner : Bool) (line : ℕ) (v : PlainNamed) (e : PlainTyped) → ((inner ≡ true) × InnerFits w v) ⊎ ((inner ≡ false) × FileFits w v) → named line (Some v) ≡ Ok e → Stands w (name_found e inner (Some v))
 name_stands w file inner line (n.Register type k) e (inl f) h = search (arith, ok_same, scalar_held)
@@ -117,9 +112,7 @@ string_lands line bytes c z h =
 
 -- a place that is no scalar is in memory
 pub in_memory : (w : World) (type : PlainType) (spot : Spot) (e : Found) → e.spot ≡ spot → is_scalar type ≡ false → StandsAs w true type spot → Holds w Pointer (atom_in e)
-in_memory w type (Local r) e q s h = let clash : false ≡ true = sym s ∙ h.0 in cc
-in_memory w type (Memory a) e q s h = subst (λ (x : Spot). Holds w Pointer (atom_in (record e { spot = x }))) (sym q) h
-in_memory w type other e q s h = absurd h
+in_memory w type spot e q s h = search arith fits 100
 
 -- a pointer in hand is a place
 at_lands : (c : Context) (type : PlainType) (fixed : Fixed) (d : Context × Atom) → Gives c Pointer d → Lands c (at_address (place type) fixed d)
@@ -154,17 +147,10 @@ indexed_lands line c x y z l h k q =
 
 member_placed : (line : ℕ) (name : List ℕ) (o : Option (List PlainMember)) (typed : PlainTyped) → member_among line name o ≡ Ok typed → IsPlaced typed
 unfolding IsPlaced
-member_placed line name None typed e = never _ _ typed e
-member_placed line name (Some members) typed e = by _ e
-  where
-    by : (o : Option PlainType) → member_answer line o ≡ Ok typed → (type : PlainType) × (place type ≡ typed)
-    by None q = never _ _ typed q
-    by (Some type) q = (type, ok_same (place type) typed q)
+member_placed line name o typed e = search (arith, never, ok_same) fits 100
 
 member_of_placed : (line : ℕ) (name : List ℕ) (tags : TagTable) (type : PlainType) (typed : PlainTyped) → places.member_of line name tags type ≡ Ok typed → IsPlaced typed × (is_scalar type ≡ false)
-member_of_placed line name tags (types.Struct tag) typed e = (member_placed line name (members_in tags tag) typed e, refl)
-member_of_placed line name tags (types.Union tag) typed e = (member_placed line name (members_in tags tag) typed e, refl)
-member_of_placed line name tags other typed e = never _ _ typed e
+member_of_placed line name tags type typed e = search (arith, member_placed, never) fits 100
 
 pub dotted_lands : (line : ℕ) (name : List ℕ) (c : Context) (e : Found) (z : Context × Found) → 1 ≤ line → Stands (world c) e → dotted line name c e ≡ Ok z → Lands c z
 dotted_lands line name c e z l h q =
@@ -189,9 +175,7 @@ abbrev pub InMemory : Found → Type 0
 InMemory e = (r : ℕ) → e.spot ≡ Local r → ⊥
 
 address_held : (w : World) (type : PlainType) (spot : Spot) (e : Found) → e.spot ≡ spot → InMemory e → StandsAs w true type spot → Holds w Pointer (atom_in e)
-address_held w type (Local r) e q n h = absurd (n r q)
-address_held w type (Memory a) e q n h = subst (λ (x : Spot). Holds w Pointer (atom_in (record e { spot = x }))) (sym q) h
-address_held w type other e q n h = absurd h
+address_held w type spot e q n h = search arith fits 100
 
 pub address_lands : (line : ℕ) (c : Context) (e : Found) (z : Context × Found) → InMemory e → Stands (world c) e → address_answer line c e ≡ Ok z → Lands c z
 address_lands line c e z m h q = grind (arith, came, address_held, ok_same, goes_refl, true, false)
@@ -214,14 +198,10 @@ tested_not line tree typed c e z l l2 h s p q k =
     comes_lands c z m
 
 pub number_scalar : (type : PlainType) (ty : IntType) → operand type ≡ Number ty → is_scalar type ≡ true
-number_scalar (types.Int t) ty e = refl
-number_scalar (types.Pointer t) ty e = refl
-number_scalar other ty e = cc
+number_scalar type ty e = search arith fits 100
 
 pub pointer_scalar : (type target : PlainType) → operand type ≡ PointerTo target → is_scalar type ≡ true
-pointer_scalar (types.Int t) ty e = refl
-pointer_scalar (types.Pointer t) ty e = refl
-pointer_scalar other ty e = cc
+pointer_scalar type target e = search arith fits 100
 
 -- `+`, `-` and `~`
 calculated_lands : (line : ℕ) (op : UnaryOp) (typed : PlainTyped) (o : Operand) (c : Context) (e : Found) (z : Context × Found) (s : IntType) → 1 ≤ line → HeldAs (world c) o (atom_in e) → (ty : IntType) → o ≡ Number s → typed.is_place ≡ false → typed.type ≡ types.Int ty
@@ -256,13 +236,10 @@ not_result : (x typed : PlainTyped) → x.is_place ≡ false → x.type ≡ type
 not_result x typed p t e = (ap (λ (y : PlainTyped). y.is_place) (sym e) ∙ p, ap (λ (y : PlainTyped). y.type) (sym e) ∙ t)
 
 not_typed : (line : ℕ) (e typed : PlainTyped) (o : Operand) → unary_of line u.Not e o ≡ Ok typed → (typed.is_place ≡ false) × (typed.type ≡ types.Int i.Int) × (((s : IntType) × (o ≡ Number s)) ⊎ ((target : PlainType) × (o ≡ PointerTo target)))
-not_typed line e typed (Number ty) h = let r = not_result (unary_on_integer u.Not ty e.folded) typed refl refl (ok_same _ typed h) in (r.0, r.1, inl (ty, refl))
-not_typed line e typed (PointerTo target) h = let r = not_result int typed refl refl (ok_same _ typed h) in (r.0, r.1, inr (target, refl))
-not_typed line e typed Neither h = never _ _ typed h
+not_typed line e typed o h = search (arith, not_result, ok_same, never) fits 100
 
 deref_lands : (line : ℕ) (c : Context) (o : Operand) (e : Found) (typed : PlainTyped) (z : Context × Found) → HeldAs (world c) o (atom_in e) → unary_of line u.Deref e.typed o ≡ Ok typed → good (c, found_as typed (Memory (atom_in e)) e.fixed) ≡ Ok z → Lands c z
-deref_lands line c (PointerTo target) e typed z h t k = subst (Lands c) (ap (λ (x : PlainTyped). (c, found_as x (Memory (atom_in e)) e.fixed)) (ok_same (place target) typed t) ∙ ok_same _ z k) (record { goes = goes_refl c; stands = h; apart = tt })
-deref_lands line c other e typed z h t k = never _ _ typed t
+deref_lands line c o e typed z h t k = search (arith, ok_same, goes_refl, never) fits 100
 
 plain_lands : (line : ℕ) (op : UnaryOp) (typed : PlainTyped) (c : Context) (e : Found) (z : Context × Found) → IsPlain op → 1 ≤ line → HasValue (world c) e → unary line op c.tags e.typed ≡ Ok typed → good (before_number line op typed (operand e.typed.type) c e) ≡ Ok z → Lands c z
 plain_lands line op typed c e z p l h t k = let r = plain_number line op e.typed typed (operand e.typed.type) p t in plain_applied line op (operand e.typed.type) typed c e z l h.held r.1 r.0.0 r.0.1 k
@@ -283,8 +260,7 @@ applied_lands line op tree c e z l l2 h q =
 
 -- what comes next, where it is known ahead
 pub is_pointed : (type : PlainType) → is_pointer_operand (operand type) ≡ true → IsPointed (operand type)
-is_pointed (types.Pointer target) e = tt
-is_pointed other e = cc
+is_pointed type e = search arith fits 100
 
 -- a left operand in front of its right one, whose type is known ahead
 pub record LeftGoes (b : Context) (op : BinaryOp) (right : Tree) (d begun : Context × Found) : Type 0 where
@@ -311,16 +287,10 @@ between_lands line op b c x y z i l g h k q =
 -- casts
 
 cast_converts : (line : ℕ) (type : PlainType) (e typed : PlainTyped) (s t : Operand) → operand type ≡ s → cast_types line type e s t ≡ Ok typed → (typed.is_place ≡ false) × (operand typed.type ≡ operand type) × Converting s t
-cast_converts line type e typed (Number ty) (Number source) o h = subst (λ (x : PlainTyped). (x.is_place ≡ false) × (operand x.type ≡ operand type) × Unit {0}) (ok_same _ typed h) (refl, sym o, tt)
-cast_converts line type e typed (PointerTo target) (PointerTo source) o h = subst (λ (x : PlainTyped). (x.is_place ≡ false) × (operand x.type ≡ operand type) × Unit {0}) (ok_same _ typed h) (refl, refl, tt)
-cast_converts line type e typed (PointerTo target) (Number source) o h = subst (λ (x : PlainTyped). (x.is_place ≡ false) × (operand x.type ≡ operand type) × Unit {0}) (ok_same (null_pointer type target) typed (beside_is line e _ typed h)) (refl, refl, tt)
-cast_converts line type e typed rest other o h = never _ _ typed h
+cast_converts line type e typed s t o h = search (arith, ok_same, beside_is, never) fits 100
 
 cast_typed : (line : ℕ) (type : PlainType) (e typed : PlainTyped) → cast line type e ≡ Ok typed → (typed.is_place ≡ false) × (operand typed.type ≡ operand type) × Converting (operand type) (operand e.type)
-cast_typed line types.Void e typed h = subst (λ (x : PlainTyped). (x.is_place ≡ false) × (operand x.type ≡ Neither) × Unit {0}) (ok_same (value types.Void) typed h) (refl, refl, tt)
-cast_typed line (types.Int ty) e typed h = cast_converts line (types.Int ty) e typed (Number ty) (operand e.type) refl h
-cast_typed line (types.Pointer target) e typed h = cast_converts line (types.Pointer target) e typed (PointerTo target) (operand e.type) refl h
-cast_typed line other e typed h = never _ _ typed h
+cast_typed line type e typed h = search (arith, ok_same, cast_converts, never) fits 100
 
 pub cast_lands : (line : ℕ) (type : PlainType) (b c : Context) (e : Found) (z : Context × Found) → 1 ≤ line → Goes b c → HasValue (world c) e → cast_to line type b.code c e ≡ Ok z → Comes b z
 cast_lands line type b c e z l g h q =
@@ -352,9 +322,7 @@ pub record Logical (x y typed : PlainTyped) : Type 0 where
   pub type : typed.type ≡ types.Int i.Int
 
 both_true : (x y : Bool) → not (x && y) ≡ false → (x ≡ true) × (y ≡ true)
-both_true true true e = (refl, refl)
-both_true true false e = cc
-both_true false y e = cc
+both_true x y e = search arith fits 100
 
 pub logical_typed : (line : ℕ) (folded : _) (x y typed : PlainTyped) → logical line folded x y ≡ Ok typed → Logical x y typed
 logical_typed line folded x y typed e = search (arith, both_true, kept_test, passed)
@@ -452,8 +420,7 @@ pointer_chosen line x y typed s t o m e = one (same s t || y.is_null) e
     one false q = two x.is_null q
 
 void_operand : (type : PlainType) → is_void type ≡ true → operand type ≡ Neither
-void_operand types.Void e = refl
-void_operand other e = cc
+void_operand type e = search arith fits 100
 
 void_chosen : (line : ℕ) (x y typed : PlainTyped) (s t : Operand) → cond (is_void x.type && is_void y.type) (good (value x.type)) (refused Operands line) ≡ Ok typed → Sides s t typed
 void_chosen line x y typed s t e = grind (arith, true, void_operand, ok_same, false)
@@ -506,16 +473,13 @@ set_typed line (PointerTo target) t a c l n h k = set_again_goes line Pointer t 
 set_typed line Neither t a c l n h k = subst (λ (x : Atom). Goes c (set_again line x a c)) (sym (n refl)) (goes_refl c)
 
 pub first_null : (line other : ℕ) (before : Code) (type : PlainType) (d : Context × Found) → operand type ≡ Neither → (choose_first line other before type d).1 ≡ atom.Null
-first_null line other before (types.Int ty) d e = cc
-first_null line other before (types.Pointer target) d e = cc
-first_null line other before others d e = refl
+first_null line other before type d e = search arith fits 100
 
 choice_stands : (w : World) (typed : PlainTyped) (a : Atom) → typed.is_place ≡ false → HeldAs w (operand typed.type) a → Stands w (choice_found typed a)
 choice_stands w typed a p h = grind (arith, false)
 
 choice_apart : (type : PlainType) (a : Atom) → Apart (choice_spot type a)
-choice_apart types.Void a = tt
-choice_apart other a = tt
+choice_apart type a = search arith fits 100
 
 -- behind the last side: b is behind the first one, whose temporary is t
 pub chosen_lands : (line end : ℕ) (b : Context) (t : Atom) (test x : Found) (typed : PlainTyped) (d z : Context × Found) → 1 ≤ line → choice line test.typed x.typed d.1.typed ≡ Ok typed → (operand typed.type ≡ Neither → t ≡ atom.Null) → HeldAs (world b) (operand typed.type) t

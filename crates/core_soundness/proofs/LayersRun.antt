@@ -2,9 +2,9 @@
 use Rattle.std.proofs.Common.{◌≡◌, ℕ, Bool, true, false, cond, is_some, nat_lt, List, [], ◌∷◌, length, Option, Some, None, ◌≤◌, refl, ap, ◌∙◌, arith, ◌<◌, not, option_map, sym, subst, length-append, zero, suc, ◌||◌, unwrap_or, Ok}
 use Rattle.std.proofs.lemmas.Bool.{ltb-false}
 use Rattle.core_soundness.proofs.Words.Trees.{Tree, Trees}
-use Rattle.core_soundness.proofs.Words.Types.{no_layout, TagTable, layout_in, PlainType, Int, PlainTypes, Pointer, PlainNamed, Checked, ScopeList, Table, named_in, innermost, with_name, tag_name, after_declaration, is_scalar, DeclaredTwice}
+use Rattle.core_soundness.proofs.Words.Types.{no_layout, TagTable, layout_in, PlainType, Int, PlainTypes, Pointer, PlainNamed, Checked, ScopeList, Table, named_in, innermost, with_name, tag_name, after_declaration, is_scalar}
 use Rattle.core_soundness.proofs.Words.Core.{Sort, sort_of, Reg as Register}
-use Rattle.core_soundness.proofs.Words.Elaborating.{Context, Running, told, entered, Code, asked, local_register, Spot, Memory, left_params, specs, layers, params, constant, with_type, suffix_layers, suffix_layer, counted, with_named, prototype_param, function_param, is_prototype, with_param, is_pointer, is_twice, declared_as, next_is_memory, with_register, with_memory, memory_param, register_param, local_in, with_local}
+use Rattle.core_soundness.proofs.Words.Elaborating.{Context, Running, told, entered, Code, asked, local_register, Spot, Memory, left_params, specs, layers, params, constant, with_type, suffix_layers, suffix_layer, counted, with_named, prototype_param, function_param, is_prototype, with_param, is_pointer, declared_as, next_is_memory, with_register, with_memory, memory_param, register_param, local_in, with_local}
 use Rattle.core_soundness.proofs.Words.Facts.{World, world, local_sort, type_sort, is_local, Held, StandsAs, InnerFits, FileFits, NamesFit, PiecesFit, TablesFit}
 use Rattle.c_types.specs.declared.types.IntType.TheVariants as i
 use Rattle.core_tree.specs.declared.statements.Atom.TheVariants as atom
@@ -51,15 +51,13 @@ pub with_name_outside : (s : ScopeList) (name : List ℕ) (v : PlainNamed) → M
 with_name_outside s name v = grind (arith, all_refl)
 
 file_stays : (file : Table) (inner : List Table) (name : List ℕ) (v : PlainNamed) → 1 ≤ length inner → MoreTags file (scopes.with_name_in file inner name v).file
-file_stays file [] name v deep = absurd (omega (arith, deep))
-file_stays file (t ∷ ts) name v deep = tags_refl file
+file_stays file inner name v deep = search (arith, tags_refl) fits 100
 
 name_aside : (name : List ℕ) (v : PlainNamed) (c : Context) → 1 ≤ length c.scopes.inner → Aside c (record c { scopes = with_name c.scopes name v })
 name_aside name v c deep = record { code = refl; running = refl; variables = refl; literals = refl; calls = refl; walked = refl; file = file_stays c.scopes.file c.scopes.inner name v deep; outside = with_name_outside c.scopes name v; depth = with_name_depth c.scopes name v }
 
 named_aside : (name : Option (List ℕ)) (v : PlainNamed) (c : Context) → 1 ≤ length c.scopes.inner → Aside c (with_named name v c)
-named_aside None v c deep = aside_refl c
-named_aside (Some name) v c deep = name_aside name v c deep
+named_aside name v c deep = search (arith, aside_refl, name_aside) fits 100
 
 after_aside : (name : List ℕ) (v : PlainNamed) (c : Context) → 1 ≤ length c.scopes.inner → Aside c (record c { scopes = after_declaration c.scopes name v })
 after_aside name v c deep = either_way (λ x. Aside c (record c { scopes = x })) (is_some (named_in name (innermost c.scopes))) (aside_refl c) (name_aside name v c deep)
@@ -90,8 +88,7 @@ least true = 2
 least false = 1
 
 least_one : (deep : Bool) → 1 ≤ least deep
-least_one true = omega arith
-least_one false = omega arith
+least_one deep = search arith fits 100
 
 abbrev KeptWithin : Bool → ℕ → Context → Context → Type 0
 KeptWithin deep n c d = least deep ≤ length c.scopes.inner → Aside c d
@@ -195,8 +192,7 @@ memory_param_runs answer name type k c deep f =
     on_runs answer c z _ all (write_goes c.running.line type (Memory (atom.Mem mem)) (atom.Reg (local_register (length c.running.locals))) z f.lined (refl, in_z) (register_held (world z) type (length c.running.locals) sort))
 
 scalar_of : (s other : Bool) → not s || other ≡ false → s ≡ true
-scalar_of true other e = refl
-scalar_of false other e = cc
+scalar_of s other e = search arith fits 100
 
 register_param_runs : (answer : Option Sort) (name : Option (List ℕ)) (type : PlainType) (k : ℕ) (c : Context) → length c.scopes.inner ≡ suc k → is_scalar type ≡ true → Fine c → Runs answer c (register_param name type c)
 register_param_runs answer name type k c deep s f =
@@ -255,23 +251,12 @@ module _ (answer : Option Sort) where
       (scopes_run name v b c i h q p)
 
   pub declared_runs : (line : ℕ) (name : List ℕ) (v : PlainNamed) (b c : Context) → IsNoFunction v → InnerFits (world c) v → FileFits (world c) v → Runs answer b c → Led (Runs answer b) (declared_as line name v c)
-  declared_runs line name v b c i h q p =
-      led_unless (Runs answer b) (is_twice c.scopes name v) DeclaredTwice line (λ e. led_ok (Runs answer b) (after_runs name v b c i h q p))
+  declared_runs line name v b c i h q p = search (arith, led_unless, led_ok, after_runs) fits 100
 
   -- parameter lists
 
   left_params_runs : (c x : Context) → Runs answer (entered c) x → Runs answer c (left_params x)
-  left_params_runs c x p = record {
-    grew = p.grew;
-    fine = record { names = left_fit (FileFits (world x)) (InnerFits (world x)) x.scopes p.fine.names; lined = p.fine.lined };
-    fits = p.fits;
-    answer = p.answer;
-    addressed = p.addressed;
-    outside = tail_more c.scopes.inner (scopes.tail x.scopes.inner) p.outside;
-    depth = tail_depth x.scopes.inner (length c.scopes.inner) p.depth;
-    params = λ flat h. first_fits (InnerFits (world x)) x.scopes.inner p.fine.names.inner;
-    walked = p.walked;
-  }
+  left_params_runs c x p = search (arith, left_fit, tail_more, tail_depth, first_fits) fits 100
 
   -- a prototype's list: nothing is made of its parameters
   prototype_runs : (c x : Context) → 1 ≤ length c.scopes.inner → Fine c → Aside (entered c) x → Runs answer c (left_params x)
@@ -307,8 +292,7 @@ module _ (answer : Option Sort) where
   Flat false c = Unit {0}
 
   flat_on : (deep : Bool) (b c : Context) → length c.scopes.inner ≡ length b.scopes.inner → Flat deep b → Flat deep c
-  flat_on true b c e h = e ∙ h
-  flat_on false b c e h = tt
+  flat_on deep b c e h = search arith fits 100
 
   abbrev Kept : Bool → ℕ → Context → Context → Type 0
   Kept deep n c d = Flat deep c → Fine c → Runs answer c d

@@ -5,7 +5,7 @@ use Rattle.std.specs.Option.{option_or}
 use Rattle.core_soundness.proofs.Words.Trees.{name_of, Tree, Trees, At, Node, none, ◌▹◌, count, Leaf}
 use Rattle.core_soundness.proofs.Words.Types.{no_layout, layout_in, PlainType, Array, Struct, Union, line_of, PlainNamed, unconverted, Checked, refused, then, unless, ScopeList, Table, named_in, innermost, with_name, after_declaration, tag_name, Layer, tag_named, is_function, has_no_size, Assignment, DeclaredTwice, Incomplete, LeftOut, StaticTooLarge}
 use Rattle.core_soundness.proofs.Words.Core.{block_size, Pointer, Sort, Integer, Start, Atom, Off, Copy, Set, Clear}
-use Rattle.core_soundness.proofs.Words.Elaborating.{Context, emit, Variable, asked, Found, Local, Memory, atom_in, code_line, valued, convert, write, size_or_zero, Spot, Storage, storage_of, specs_before, fill_local, entry, Typedef, Outside, specs_alone, zero_of, cleared, fill_memory, fill_register, fill_at, local_object, local_name, function_number, with_function, declared_function, no_initializer, variable_number_of, with_new_variable, with_variable, start_of, start_in, started_variable, started, fill_variable, file_object, file_function, file_value, file_name, name_in, entries, declaration, layers, found, Target, InRegister, InMemory, InStatic, static_scalar, member_place, store_at, fill_scalar, scalar, copy_to, fill_record, is_same_place, whole, fill_text, is_character, text, by_text, by_expression, parts_of, takes_braces, is_scalar_type, all_surplus, initialize, initialize_parts, with_bytes, with_init_layers, surplus, no_start, with_local, is_twice, declared_as, opened, closed, with_literal, with_static}
+use Rattle.core_soundness.proofs.Words.Elaborating.{Context, emit, Variable, asked, Found, Local, Memory, atom_in, code_line, valued, convert, write, size_or_zero, Spot, Storage, storage_of, specs_before, fill_local, entry, Typedef, Outside, specs_alone, zero_of, cleared, fill_memory, fill_register, fill_at, local_name, function_number, with_function, declared_function, no_initializer, variable_number_of, with_new_variable, with_variable, start_of, start_in, started_variable, started, fill_variable, file_object, file_function, file_value, file_name, name_in, entries, declaration, layers, found, Target, InRegister, InMemory, InStatic, static_scalar, member_place, store_at, fill_scalar, copy_to, fill_record, is_same_place, whole, fill_text, is_character, text, by_text, by_expression, parts_of, takes_braces, is_scalar_type, all_surplus, initialize, initialize_parts, with_bytes, with_init_layers, surplus, no_start, with_local, is_twice, declared_as, opened, closed, with_literal, with_static}
 use Rattle.core_soundness.proofs.Words.Facts.{Spoken, AllSpoken, World, world, Holds, StandsAs, Stands, NamesFit, InnerFits, FileFits, Written, AllWritten, TablesFit}
 use Rattle.c_types.specs.Types as types
 use Rattle.core_tree.specs.declared.statements.Atom.TheVariants as atom
@@ -41,22 +41,14 @@ SameTarget (InStatic start) (InRegister line register) = ⊥
 SameTarget (InStatic start) (InMemory line mem) = ⊥
 
 target_refl : (t : Target) → SameTarget t t
-target_refl (InStatic start) = tt
-target_refl other = refl
+target_refl t = search arith fits 100
 
 target_trans : (t u v : Target) → SameTarget t u → SameTarget u v → SameTarget t v
-target_trans (InStatic start) (InStatic other) (InStatic third) x y = tt
-target_trans (InStatic start) (InStatic other) (InRegister line register) x y = y
-target_trans (InStatic start) (InStatic other) (InMemory line mem) x y = y
-target_trans (InStatic start) (InRegister line register) v x y = absurd x
-target_trans (InStatic start) (InMemory line mem) v x y = absurd x
-target_trans other u v x y = subst (λ (k : Target). SameTarget k v) x y
+target_trans t u v x y = search arith fits 100
 
 target_on : (v w : World) (type : PlainType) (t u : Target) → Grew v w → SameTarget t u → TargetFits v type t → TargetFits w type u
 target_on v w type (InRegister line register) u g s h = subst (TargetFits w type) (sym s) (h.0, stands_as_grew v w true type (Local register) g h.1)
-target_on v w type (InMemory line mem) u g s h = subst (TargetFits w type) (sym s) (h.0, omega (arith, h.1, g.mems))
-target_on v w type (InStatic start) (InStatic other) g s h = tt
-target_on v w type (InStatic start) other g s h = absurd s
+target_on v w type t u g s h = search arith fits 100
 
 -- what is filled, and where the walk goes
 pub record Fills (c : Context) (t : Target) (z : Context × Target) : Type 0 where
@@ -93,12 +85,6 @@ fill_scalar_fits e line type offset c d (InStatic start) z v u h q =
     let s = came (static_scalar line type offset start d.1) q in
     subst (Fills c (InStatic start)) (ok_same (d.0, InStatic s.value) z s.last) (record { goes = evaluated_goes c e d v; same = tt })
 
-scalar_fits : (e : Tree) (line : ℕ) (type : PlainType) (offset : ℕ) (t : Target) (c : Context) (z : Context × Target) → Spoken c.scopes e → NamesFit (world c) c.scopes → TargetFits (world c) type t → scalar e line type offset t c ≡ Ok z → Fills c t z
-scalar_fits e line type offset t c z s n h q =
-    let d = came (valued e (found e type (opened e c))) q in
-    let k = unbarred (unconverted type d.value.1.typed) line (fill_scalar e line type offset (opened e c).code d.value t) z d.last in
-    fill_scalar_fits e line type offset c d.value t z (evaluates e type c d.value s n d.is) k.0 h k.1
-
 record_held : (v : World) (type : PlainType) (e : Found) → is_same_place type e.typed ≡ true → Stands v e → Holds v Pointer (atom_in e)
 record_held v type e test h = search (arith, three_parts, in_memory, same_record)
 
@@ -121,8 +107,7 @@ whole_fits e line type offset t c z s n h q =
 
 text_line : (e : Tree) (s : ScopeList) (bytes : List ℕ) → text e ≡ Some bytes → Spoken s e → 1 ≤ code_line e
 unfolding Spoken AllSpoken line_of
-text_line (Node f.Str (At line ▹ Node f.Strings parts ▹ none)) s bytes h k = k.1.0
-text_line e s bytes h k = cc
+text_line e s bytes h k = search arith fits 100
 
 fill_text_fits : (e : Tree) (line : ℕ) (bytes : List ℕ) (type : PlainType) (size offset : ℕ) (t : Target) (c : Context) (z : Context × Target) → 1 ≤ code_line e → TargetFits (world c) type t → fill_text e line bytes size offset t c ≡ Ok z → Fills c t z
 fill_text_fits e line bytes type size offset (InMemory at mem) c z l h q =
@@ -148,7 +133,10 @@ by_expression_fits : (e : Tree) (line : ℕ) (type : PlainType) (offset : ℕ) (
 by_expression_fits e line (Array element size) offset t c z s n h q = by_text_fits e line element size offset (text e) t c z refl s n h q
 by_expression_fits e line (Struct tag) offset t c z s n h q = whole_fits e line (Struct tag) offset t c z s n h q
 by_expression_fits e line (Union tag) offset t c z s n h q = whole_fits e line (Union tag) offset t c z s n h q
-by_expression_fits e line type offset t c z s n h q = scalar_fits e line type offset t c z s n h q
+by_expression_fits e line type offset t c z s n h q =
+    let d = came (valued e (found e type (opened e c))) q in
+    let k = unbarred (unconverted type d.value.1.typed) line (fill_scalar e line type offset (opened e c).code d.value t) z d.last in
+    fill_scalar_fits e line type offset c d.value t z (evaluates e type c d.value s n d.is) k.0 h k.1
 
 -- braces
 
@@ -171,16 +159,10 @@ in_static_parts v start (part ∷ parts) = (tt, in_static_parts v start parts)
 
 parts_fit : (c : Context) (asked : ℕ) (type : PlainType) (offset : ℕ) (t : Target) → TargetFits (world c) type t → AllTargets (world c) (parts_of c asked type offset) t
 unfolding parts_of
-parts_fit c asked type offset (InMemory line mem) h = in_memory_parts (world c) line mem (parts_of c asked type offset) h
-parts_fit c asked type offset (InStatic start) h = in_static_parts (world c) start (parts_of c asked type offset)
-parts_fit c asked (Array element n) offset (InRegister line register) h = let clash : false ≡ true = h.1.0 in cc
-parts_fit c asked (Struct tag) offset (InRegister line register) h = let clash : false ≡ true = h.1.0 in cc
-parts_fit c asked (Union tag) offset (InRegister line register) h = let clash : false ≡ true = h.1.0 in cc
-parts_fit c asked other offset (InRegister line register) h = (h, tt)
+parts_fit c asked type offset t h = search (arith, in_memory_parts, in_static_parts) fits 100
 
 cond_parts : (k : Bool) (c : Context) (t : Target) (one other : Checked (Context × Target)) (z : Context × Target) → (one ≡ Ok z → Fills c t z) → (other ≡ Ok z → Fills c t z) → cond k one other ≡ Ok z → Fills c t z
-cond_parts true c t one other z x y q = x q
-cond_parts false c t one other z x y q = y q
+cond_parts k c t one other z x y q = search arith fits 100
 
 surplus_never : (c : Context) (t : Target) (inits : Trees) (line : ℕ) (z : Context × Target) → then (all_surplus inits c) (λ d. bad (record { kind = Assignment; line = line })) ≡ good z → Fills c t z
 surplus_never c t inits line z q = let d = came (all_surplus inits c) q in never _ _ z d.last
@@ -269,8 +251,10 @@ fill_at_goes line type inits (Memory mem) c z l p g h q = fill_memory_goes line 
 fill_at_goes line type inits other c z l p g h q = absurd h
 
 module _ (answer : Option Sort) where
-  local_object_runs : (line : ℕ) (name : List ℕ) (type : PlainType) (inits : Trees) (k : ℕ) (c z : Context) → 1 ≤ line → LocalSpoken line name type inits c z → Fine c → length c.scopes.inner ≡ suc k → local_object line name type inits c ≡ Ok z → Runs answer c z
-  local_object_runs line name type inits k c z l p g deep q =
+  local_name_runs : (line : ℕ) (storage : Storage) (name : List ℕ) (type : PlainType) (inits : Trees) (k : ℕ) (c z : Context) → 1 ≤ line → LocalSpoken line name type inits c z → Fine c → length c.scopes.inner ≡ suc k → local_name line storage name type inits c ≡ Ok z → Runs answer c z
+  local_name_runs line Typedef name type inits k c z l p g deep q = declared_runs answer line name (n.Typedef type) c c tt tt tt (runs_refl answer c g) z q
+  local_name_runs line Outside name type inits k c z l p g deep q = never _ _ z q
+  local_name_runs line storages.Plain name type inits k c z l p g deep q =
       let x : Context × Spot = with_local name type c in
       let r2 : Checked Context = unless (is_twice c.scopes name (n.Object type 0)) DeclaredTwice line (fill_local line type inits x) in
       let r1 : Checked Context = unless (has_no_size c.tags type) Incomplete line r2 in
@@ -279,11 +263,6 @@ module _ (answer : Option Sort) where
       let e = behind_test (is_twice c.scopes name (n.Object type 0)) DeclaredTwice line (fill_local line type inits x) z b in
       let r = with_local_runs answer name type k c deep g in
       on_runs answer c x.0 z r.runs (fill_at_goes line type inits x.1 x.0 z l (p e) r.runs.fine r.stands e)
-
-  local_name_runs : (line : ℕ) (storage : Storage) (name : List ℕ) (type : PlainType) (inits : Trees) (k : ℕ) (c z : Context) → 1 ≤ line → LocalSpoken line name type inits c z → Fine c → length c.scopes.inner ≡ suc k → local_name line storage name type inits c ≡ Ok z → Runs answer c z
-  local_name_runs line Typedef name type inits k c z l p g deep q = declared_runs answer line name (n.Typedef type) c c tt tt tt (runs_refl answer c g) z q
-  local_name_runs line Outside name type inits k c z l p g deep q = never _ _ z q
-  local_name_runs line storages.Plain name type inits k c z l p g deep q = local_object_runs line name type inits k c z l p g deep q
 
 -- file scope
 
@@ -361,8 +340,7 @@ set_length (y ∷ ys) zero x = refl
 set_length (y ∷ ys) (suc i) x = ap suc (set_length ys i x)
 
 started_length : (index : ℕ) (start : Start) (o : Option Variable) (variables : List Variable) → length (started_variable index start o variables) ≡ length variables
-started_length index start None variables = refl
-started_length index start (Some v) variables = set_length variables index (record v { start = Some start })
+started_length index start o variables = search (arith, set_length) fits 100
 
 started_runs : (answer : Option Sort) (index : ℕ) (d : Context × Target) → Fine d.0 → Runs answer d.0 (started index d)
 started_runs answer index d g =
@@ -406,8 +384,7 @@ AtPlace true c = length c.scopes.inner ≡ 0
 AtPlace false c = (k : ℕ) × (length c.scopes.inner ≡ suc k)
 
 pub place_on : (file : Bool) (c d : Context) → length d.scopes.inner ≡ length c.scopes.inner → AtPlace file c → AtPlace file d
-place_on true c d e h = e ∙ h
-place_on false c d e h = (h.0, e ∙ h.1)
+place_on file c d e h = search arith fits 100
 
 file_name_runs : (answer : Option Sort) (line : ℕ) (storage : Storage) (name : List ℕ) (type : PlainType) (inits : Trees) (c z : Context) → AllWritten inits → Fine c → length c.scopes.inner ≡ 0 → file_name line storage name type inits c ≡ Ok z → Runs answer c z
 file_name_runs answer line Typedef name type inits c z p g flat q = declared_runs answer line name (n.Typedef type) c c tt tt tt (runs_refl answer c g) z q
@@ -436,8 +413,7 @@ entry_runs answer file line storage base declarator inits c z l p g at q =
 
 -- a name that is there, or none
 name_spoken : (line : ℕ) (o : Option (List ℕ)) (type : PlainType) (inits : Trees) (c z : Context) → ((name : List ℕ) → o ≡ Some name → LocalSpoken line name type inits c z) → NameSpoken false line o type inits c z
-name_spoken line None type inits c z p = tt
-name_spoken line (Some name) type inits c z p = p name refl
+name_spoken line o type inits c z p = search arith fits 100
 
 file_entries_run : (names : Trees) (answer : Option Sort) (line : ℕ) (storage : Storage) (base : PlainType) (c z : Context) → 1 ≤ line → AllWritten names → Fine c → length c.scopes.inner ≡ 0 → entries true line storage base names c ≡ Ok z → Runs answer c z
 unfolding entries Written AllWritten

@@ -36,11 +36,9 @@ told_joined (Line line ∷ one) other = told_joined one other
 
 spelled_told : (pieces : List Piece) (tokens rest : List Token) → Spells pieces tokens rest → told pieces ≤ length tokens
 unfolding Spells
-spelled_told [] tokens rest h = omega arith
 spelled_told (Said word ∷ pieces) (token ∷ tokens) rest h = omega (arith, spelled_told pieces tokens rest h.1)
 spelled_told (Line line ∷ pieces) (token ∷ tokens) rest h = spelled_told pieces (token ∷ tokens) rest h.1
-spelled_told (Said word ∷ pieces) [] rest h = absurd h
-spelled_told (Line line ∷ pieces) [] rest h = absurd h
+spelled_told pieces tokens rest h = search arith fits 100
 
 filled_told : (items : List Item) (parts : Trees) (scope : Scope) → AllAllowed parts (places items) scope → said items + 6 * told_all (spell_all parts) ≤ 6 * told (filled items (spell_all parts))
 unfolding AllAllowed spell_all

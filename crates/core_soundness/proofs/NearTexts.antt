@@ -1,12 +1,12 @@
 -- How much declarations, statements and texts make: the lists of a core are short.
-use Rattle.std.proofs.Common.{◌≡◌, ◌≤◌, ◌+◌, ◌*◌, ◌==◌, not, ℕ, zero, suc, pos, Bool, true, false, cond, is_some, nat_lt, length, All, List, [], ◌∷◌, ◌++◌, slice_get, slice_set, Option, Some, None, unwrap_or, Ok, refl, subst, arith, ◌-◌, ℤ, take, drop, Result, Err, length-drop, length-take-le, map, replicate, sum_by, sym, length-append}
+use Rattle.std.proofs.Common.{◌≡◌, ◌≤◌, ◌+◌, ◌*◌, ◌==◌, not, ℕ, zero, suc, pos, Bool, true, false, cond, is_some, nat_lt, length, All, List, [], ◌∷◌, ◌++◌, slice_get, slice_set, Option, Some, None, unwrap_or, Ok, subst, arith, ◌-◌, ℤ, take, drop, Result, Err, length-drop, length-take-le, map, replicate, sum_by, sym, length-append}
 use Rattle.std.proofs.lemmas.List.{length-replicate}
 use Rattle.std.proofs.lemmas.List.Elements.{All-push, All-head, All-tail, All-cons, All-nil, All-weaker, All-append, All-map, All-replicate}
 use Rattle.std.specs.Prelude.{IfSome}
 use Rattle.core_soundness.proofs.Words.Trees.{first_place, behind, IsCut, answer_with, answer_of, HasTokens, PieceKind, LexError, Token, some_commas, shape, Place, name_of, Tree, Trees, Leaf, At, Node, none, ◌▹◌, count}
-use Rattle.core_soundness.proofs.Words.Types.{no_layout, layout_in, TagTable, PlainType, Array, Struct, Union, Void, IntType, line_of, promoted, unconverted, Checked, refused, then, unless, named_in, innermost, tag_name, tag_named, with_layers, is_function, has_no_size, Operand, Number, operand, is_void, is_scalar, Assignment, DeclaredTwice, Incomplete, LeftOut, Operands, ProgramTooLong}
+use Rattle.core_soundness.proofs.Words.Types.{no_layout, layout_in, TagTable, PlainType, Array, Void, IntType, line_of, promoted, unconverted, Checked, refused, then, unless, named_in, innermost, tag_name, tag_named, with_layers, is_function, has_no_size, Operand, Number, operand, is_void, is_scalar, Assignment, DeclaredTwice, Incomplete, LeftOut, Operands, ProgramTooLong}
 use Rattle.core_soundness.proofs.Words.Core.{IsShort, AreShort, Core, Func, Reg as Register, Start, Static, Atom, Off, Enter, Leave, Jump, Return}
-use Rattle.core_soundness.proofs.Words.Elaborating.{addressed_in, Context, With, Variable, asked, emit, anew, left, entered, here, new_label, with_labels, with_pieces, Walked, first_context, Found, Spot, Local, Memory, atom_in, valued, convert, write, size_or_zero, convert_integer, tested_value, unused, Storage, Typedef, Outside, storage_of, specs_alone, specs_before, cleared, fill_memory, fill_register, fill_at, fill_local, local_object, local_name, function_number, with_function, declared_function, no_initializer, variable_number_of, with_new_variable, with_variable, start_of, started_variable, started, fill_variable, file_object, file_function, file_value, file_name, name_in, entry, entries, declaration, layers, specs, walked, elaborated, found, begun, params_of, is_defined, body_begun, last_answer, piece_length, body_ended, body, defined, named_definition, definition, external, externals, Target, InRegister, InMemory, InStatic, static_scalar, member_place, store_at, fill_scalar, scalar, copy_to, fill_record, is_same_place, whole, fill_text, is_character, text, by_text, by_expression, parts_of, takes_braces, is_scalar_type, surplus, all_surplus, initialize, initialize_parts, no_start, with_init_layers, not_whole, is_twice, declared_as, with_local, reallocates, opened, closed, function_of, variable_static, literal_static, temporary, pointer_register, core_of, with_static, with_literal, Around, below, in_loop, in_switch, in_delay, leaves, leave_to, evaluated, maybe_evaluated, condition, leaves_if_zero, maybe_leaves, apart, return_of, return_from, case_of, cased, defaulted, switch_operand_of, switch_operand, no_cases, for_start, statement, items, around_body}
+use Rattle.core_soundness.proofs.Words.Elaborating.{addressed_in, Context, With, Variable, asked, emit, anew, left, entered, here, new_label, with_labels, with_pieces, Walked, first_context, Found, Spot, Local, Memory, atom_in, valued, convert, write, size_or_zero, convert_integer, tested_value, unused, Storage, Typedef, Outside, storage_of, specs_alone, specs_before, cleared, fill_memory, fill_register, fill_at, fill_local, local_object, local_name, function_number, with_function, declared_function, no_initializer, variable_number_of, with_new_variable, with_variable, start_of, started_variable, started, fill_variable, file_object, file_function, file_value, file_name, name_in, entry, entries, declaration, layers, specs, walked, elaborated, found, begun, params_of, is_defined, body_begun, last_answer, piece_length, body_ended, body, named_definition, external, externals, Target, InRegister, InMemory, InStatic, static_scalar, member_place, store_at, fill_scalar, scalar, copy_to, fill_record, is_same_place, whole, fill_text, is_character, text, by_text, by_expression, parts_of, takes_braces, is_scalar_type, surplus, all_surplus, initialize, initialize_parts, no_start, with_init_layers, not_whole, is_twice, declared_as, with_local, reallocates, opened, closed, function_of, variable_static, literal_static, temporary, pointer_register, core_of, with_static, with_literal, Around, below, in_loop, in_switch, in_delay, leaves, leave_to, evaluated, maybe_evaluated, condition, leaves_if_zero, maybe_leaves, apart, return_of, return_from, case_of, cased, defaulted, switch_operand_of, switch_operand, no_cases, for_start, statement, items, around_body}
 use Rattle.core_soundness.proofs.Words.Facts.{AreWithin, HasShortLists}
 use Rattle.c_lexer.specs.declared.piece.Piece.{Piece}
 use Rattle.c_lexer.specs.declared.piece.PieceKind.TheVariants as kind
@@ -104,9 +104,7 @@ by_text_near e line element size offset (Some bytes) target c =
 
 by_expression_near : (e : Tree) (line : ℕ) (type : PlainType) (offset : ℕ) (target : Target) (c : Context) → Reached (Near (weight e + 3) c) (by_expression e line type offset target c)
 by_expression_near e line (Array element size) offset target c = by_text_near e line element size offset (text e) target c
-by_expression_near e line (Struct tag) offset target c = whole_near e line (Struct tag) offset target c
-by_expression_near e line (Union tag) offset target c = whole_near e line (Union tag) offset target c
-by_expression_near e line type offset target c = scalar_near e line type offset target c
+by_expression_near e line type offset target c = search (arith, whole_near, scalar_near) fits 100
 
 some_commas_said : (place : Place) (k : ℕ) → 6 * k ≤ said (some_commas place k) + 6
 some_commas_said place zero = omega arith
@@ -130,12 +128,11 @@ mutual
   initialize_near tree in_scalar type offset target c z q = reached_refused (Near (weight tree + 3) c) z q
 
   parts_near : (inits : Trees) (line : ℕ) (in_scalar : Bool) (parts : List (PlainType × ℕ)) (target : Target) (c : Context) → Reached (Near (weights inits + 3 * count inits) c) (initialize_parts line inits in_scalar parts target c)
-  parts_near none line in_scalar parts target c z q = reached_ok (Near 0 c) (near_refl c) z q
-  parts_near (init ▹ rest) line in_scalar [] target c z q =
-      reached_after (Near (weights (init ▹ rest) + 3 * count (init ▹ rest)) c) (all_surplus (init ▹ rest) c) (λ d q. reached_refused (Near (weights (init ▹ rest) + 3 * count (init ▹ rest)) c)) z q
   parts_near (init ▹ rest) line in_scalar (part ∷ parts) target c z q =
       let d = came (initialize init in_scalar part.0 part.1 target c) q in
       near_on (weight init + 3) (weights rest + 3 * count rest) _ (omega arith) (initialize_near init in_scalar part.0 part.1 target c d.value d.is) (parts_near rest line in_scalar parts d.value.1 d.value.0 z d.last)
+  parts_near inits line in_scalar parts target c z q =
+      search (arith, reached_ok, near_refl, reached_after, weights, reached_refused) fits 100
 
 -- locals; what initializes a name stands behind `=`
 
@@ -217,8 +214,7 @@ set_short (x ∷ vs) zero v h k = All-cons HasShort v vs k (All-tail HasShort x 
 set_short (x ∷ vs) (suc i) v h k = All-cons HasShort x (slice_set vs i v) (All-head HasShort x vs h) (set_short vs i v (All-tail HasShort x vs h) k)
 
 started_short : (index : ℕ) (start : Start) (o : Option Variable) (vs : List Variable) → slice_get vs index ≡ o → All HasShort vs → All HasShort (started_variable index start o vs)
-started_short index start None vs e h = h
-started_short index start (Some v) vs e h = set_short vs index (record v { start = Some start }) h (get_short vs index v e h)
+started_short index start o vs e h = search (arith, set_short, get_short) fits 100
 
 started_near : (index : ℕ) (d : Context × Target) → Near 0 d.0 (started index d)
 started_near index d = search (arith, variables_near, started_short)
@@ -265,8 +261,7 @@ entry_near file line storage base declarator inits c h z q =
 
 starts_within : (inits : Trees) → starting inits ≤ weight (Node f.MaybeInit inits)
 unfolding shape
-starts_within none = omega arith
-starts_within (init ▹ rest) = omega arith
+starts_within inits = search arith fits 100
 
 entries_near : (names : Trees) (file : Bool) (line : ℕ) (storage : Storage) (base : PlainType) (c : Context) → AllShort names → Led (Near (weights names + count names) c) (entries file line storage base names c)
 unfolding entries shape
@@ -364,8 +359,7 @@ case_near : (line : ℕ) (a : Around) (ty : IntType) (place : ℕ) (v : ℤ) (la
 case_near line a ty place v label c = search (arith, led_unless, not, led_ok, near_refl)
 
 cased_near : (line : ℕ) (a : Around) (o : Option IntType) (place : ℕ) (v : ℤ) (label : ℕ) (c : Context) → Led (Near 0 c) (cased line a o place v label c)
-cased_near line a None place v label c = led_refused (Near 0 c)
-cased_near line a (Some ty) place v label c = case_near line a ty place v label c
+cased_near line a o place v label c = search (arith, led_refused, case_near) fits 100
 
 defaulted_near : (line : ℕ) (a : Around) (label : ℕ) (c : Context) → Led (Near 0 c) (defaulted line a label c)
 defaulted_near line a label c = search (arith, not, led_unless, led_ok, near_refl)
@@ -492,14 +486,7 @@ longer j k tokens h w = record { count = omega (arith, h, w.count); bytes = each
 
 -- behind one piece more
 step_within : (kind : PieceKind) (line : ℕ) (bytes : List ℕ) (j k : ℕ) (rest : Answer) (tokens : List Token) → ((ts : List Token) → rest ≡ right ts → AreWithin j ts) → answer_with kind line bytes rest ≡ right tokens → j + 1 ≤ k → length bytes ≤ k → AreWithin k tokens
-step_within kind.Gap line bytes j k rest tokens h e small long = longer j k tokens (omega (arith, small)) (h tokens e)
-step_within (kind.Token sort) line bytes j k (Ok ts) tokens h e small long =
-    let token : Token = record { line = line; kind = sort; bytes = bytes } in
-    let w = h ts refl in
-    subst (AreWithin k) (same (token ∷ ts) tokens e)
-    (record { count = omega (arith, w.count, small); bytes = All-cons (λ (x : Token). length x.bytes ≤ k) token ts long (each_longer j k ts (omega (arith, small)) w.bytes) })
-step_within (kind.Token sort) line bytes j k (Err error) tokens h e small long = never error tokens e
-step_within (kind.Refused sort) line bytes j k rest tokens h e small long = never _ tokens e
+step_within kind line bytes j k rest tokens h e small long = search (arith, longer, same, each_longer, never) fits 100
 
 cut_within : (pieces : List Piece) (place : SourcePlace) (text : List ℕ) (tokens : List Token) → IsCut place text pieces → answer_of place text pieces ≡ right tokens → AreWithin (length text) tokens
 cut_within [] place text tokens cut e = subst (AreWithin (length text)) (same [] tokens e) (record { count = omega arith; bytes = All-nil (λ (token : Token). length token.bytes ≤ length text) })
@@ -555,8 +542,9 @@ body_steady k line name type tree c s small h g = led_refused Steady
 body_begun_small : (k index : ℕ) (type : PlainType) (c : Context) → Small k (share c) → Small k (share (body_begun index type c))
 body_begun_small k index type c s = s
 
-defined_steady : (k line : ℕ) (name : List ℕ) (type : PlainType) (tree : Tree) (c : Context) → Small k (share c) → k + weight tree ≤ 1610612736 → IsShort name → Short tree → Led Steady (defined line name type tree c)
-defined_steady k line name type tree c s small h g =
+named_steady : (k line : ℕ) (name : Option (List ℕ)) (type : PlainType) (tree : Tree) (c : Context) → Small k (share c) → k + weight tree ≤ 1610612736 → IfSome name IsShort → Short tree → Led Steady (named_definition line name type tree c)
+named_steady k line None type tree c s small h g = led_refused Steady
+named_steady k line (Some name) type tree c s small h g =
     let index = function_number name c in
     led_unless Steady (not (is_function type)) LeftOut line
     (λ x. led_after Steady (declared_function line name type c)
@@ -564,22 +552,14 @@ defined_steady k line name type tree c s small h g =
     led_unless Steady (is_defined (slice_get d.functions index)) DeclaredTwice line
     (λ z. body_steady (k + 0) line name type tree (body_begun index type d) (body_begun_small (k + 0) index type d y) (omega (arith, small)) h g)))
 
-named_steady : (k line : ℕ) (name : Option (List ℕ)) (type : PlainType) (tree : Tree) (c : Context) → Small k (share c) → k + weight tree ≤ 1610612736 → IfSome name IsShort → Short tree → Led Steady (named_definition line name type tree c)
-named_steady k line None type tree c s small h g = led_refused Steady
-named_steady k line (Some name) type tree c s small h g = defined_steady k line name type tree c s small h g
-
-definition_steady : (line : ℕ) (words declarator tree : Tree) (c : Context) → Small 0 (share c) → weight words + weight declarator + weight tree ≤ 1610612736 → Short words → Short declarator → Short tree → Led Steady (definition line words declarator tree c)
-definition_steady line words declarator tree c s small u v g z q =
-    let base = came (specs words c) q in
-    let l = came (layers declarator base.value.0) base.last in
-    let t = came (with_layers l.value.0.tags l.value.1 base.value.1) l.last in
-    let far = near_on (weight words) (weight declarator) (weight words + weight declarator) (omega arith) (specs_near words c u base.value base.is) (layers_near declarator base.value.0 v l.value l.is) in
-    named_steady (0 + (weight words + weight declarator)) line (name_of declarator) t.value tree l.value.0 (small_on 0 (weight words + weight declarator) c l.value.0 s far) (omega (arith, small)) (name_short declarator v) g z t.last
-
 external_steady : (tree : Tree) (c : Context) → Steady c → weight tree ≤ 1610612736 → Short tree → Led Steady (external tree c)
 unfolding external shape
 external_steady (Node f.Function (At line ▹ words ▹ Node f.Declared (declarator ▹ none) ▹ tree ▹ none)) c h small g z q =
-    definition_steady line words declarator tree (begun line (addressed_in declarator tree) c) (begun_small line (addressed_in declarator tree) c h) (omega (arith, small)) g.1.0 g.1.1.0.0 g.1.1.1.0 z q
+    let base = came (specs words (begun line (addressed_in declarator tree) c)) q in
+    let l = came (layers declarator base.value.0) base.last in
+    let t = came (with_layers l.value.0.tags l.value.1 base.value.1) l.last in
+    let far = near_on (weight words) (weight declarator) (weight words + weight declarator) (omega arith) (specs_near words (begun line (addressed_in declarator tree) c) g.1.0 base.value base.is) (layers_near declarator base.value.0 g.1.1.0.0 l.value l.is) in
+    named_steady (0 + (weight words + weight declarator)) line (name_of declarator) t.value tree l.value.0 (small_on 0 (weight words + weight declarator) (begun line (addressed_in declarator tree) c) l.value.0 (begun_small line (addressed_in declarator tree) c h) far) (omega (arith, small)) (name_short declarator g.1.1.0.0) g.1.1.1.0 z t.last
 external_steady (Node f.Declaration (At line ▹ words ▹ names ▹ none)) c h small g z q =
     let k = (declaration_near true line words names (begun line [] c) g.1.0 g.1.1.0 z q).clear (begun_small line [] c h).clear in record { variables = k.variables; walked = k.walked }
 external_steady tree c h small g z q = led_refused Steady z q
@@ -593,9 +573,6 @@ externals_steady (tree ▹ rest) c h small g z q =
 
 first_steady : Steady first_context
 first_steady = record { variables = All-nil (λ (v : Variable). IsShort v.name); walked = All-nil Sized }
-
-walked_steady : (unit : Trees) (c : Context) → weights unit ≤ 1610612736 → AllShort unit → walked unit ≡ Ok c → Steady c
-walked_steady unit c small g q = externals_steady unit first_context first_steady small g c (behind_text unit c q).0
 
 -- the core
 
@@ -654,6 +631,6 @@ context_short c h b = record { short_names = statics_short c h; short = λ k fun
 pub core_short : (unit : Trees) (core : Core) (tags : TagTable) → weights unit ≤ 1610612736 → AllShort unit → elaborated unit ≡ Ok (core, tags) → HasShortLists core
 core_short unit core tags few short e =
     let k = core_behind unit core tags e in
-    let h = walked_steady unit k.context few short k.is in
+    let h = externals_steady unit first_context first_steady few short k.context (behind_text unit k.context k.is).0 in
     let sizes = core_sizes unit core tags e in
     subst HasShortLists k.made (context_short k.context h (subst (λ (x : Core). (j : ℕ) (func : Func) → slice_get x.funcs j ≡ Some func → IsShort func.body) (sym k.made) sizes.short_bodies))

@@ -31,8 +31,7 @@ IsCut name cut = (name ≡ cut) ⊎ ((rest : List ℕ) × (name ≡ cut ++ 46 �
 
 cut_more : (b : ℕ) (name cut : List ℕ) → IsCut name cut → IsCut (b ∷ name) (b ∷ cut)
 unfolding IsCut
-cut_more b name cut (inl e) = inl (ap (λ (xs : List ℕ). b ∷ xs) e)
-cut_more b name cut (inr h) = inr (h.0, ap (λ (xs : List ℕ). b ∷ xs) h.1)
+cut_more b name cut h3 = search arith fits 100
 
 name_cut : (name : List ℕ) → IsCut name (plain_name name)
 unfolding IsCut
@@ -64,8 +63,7 @@ own_kept name new s own e = search (arith, plain_suffix, append-nil)
 -- the names of functions that are defined
 
 own_tree : (tree : Tree) → Names IsOwn tree → HasOwnName tree
-own_tree (Node f.Function (line ▹ words ▹ Node f.Declared (declarator ▹ none) ▹ body ▹ none)) h = name_named IsOwn declarator h.1.1.0.0
-own_tree tree h = tt
+own_tree tree h = search (arith, name_named) fits 100
 
 pub own_trees : (unit : Trees) → AllNames IsOwn unit → HaveOwnNames unit
 own_trees none h = tt

@@ -1,10 +1,10 @@
 -- The registers that declarators make.
-use Rattle.std.proofs.Common.{◌≡◌, ◌≤◌, ◌+◌, ℕ, zero, suc, pos, true, false, ◌||◌, map, length, reverse, ◌⊎◌, inl, inr, List, [], ◌∷◌, ◌++◌, Option, Some, None, Ok, refl, sym, ap, ◌∙◌, subst, arith, append-nil, append_assoc}
+use Rattle.std.proofs.Common.{◌≡◌, ◌≤◌, ◌+◌, ℕ, suc, pos, true, false, ◌||◌, map, length, reverse, ◌⊎◌, List, [], ◌∷◌, ◌++◌, Option, Some, None, Ok, refl, sym, ap, ◌∙◌, subst, arith, append-nil, append_assoc}
 use Rattle.std.proofs.lemmas.List.{reverse-append, map-append}
 use Rattle.core_soundness.proofs.Words.Trees.{name_of, Tree, Trees, Leaf, At, Node, none, ◌▹◌}
-use Rattle.core_soundness.proofs.Words.Types.{TagTable, PlainType, PlainTypes, Int, Function, first, line_of, typed, wanted, PlainNamed, after_declaration, Table, Layer, ArrayOf, FunctionOf, special_type, array_length, layered, with_layers, with_param_layers, adjusted, is_record, is_function, is_array}
+use Rattle.core_soundness.proofs.Words.Types.{TagTable, PlainType, PlainTypes, Function, first, line_of, typed, wanted, PlainNamed, after_declaration, Table, Layer, ArrayOf, FunctionOf, special_type, array_length, layered, with_layers, with_param_layers, adjusted, is_record, is_function, is_array}
 use Rattle.core_soundness.proofs.Words.Core.{Sort, sort_of, Atom}
-use Rattle.core_soundness.proofs.Words.Elaborating.{Context, Running, asked, told, entered, Spot, Local, Memory, write, maybe_name, member, param, left_params, specs, words_type, tag_type, members, member_names, layers, suffix_layers, suffix_layer, params, is_pointer, declared_as, with_register, with_named, with_param}
+use Rattle.core_soundness.proofs.Words.Elaborating.{Context, Running, asked, told, entered, Spot, write, maybe_name, member, param, left_params, specs, words_type, tag_type, members, member_names, layers, suffix_layers, suffix_layer, params, is_pointer, declared_as, with_register, with_named, with_param}
 use Rattle.core_soundness.proofs.Words.Facts.{type_sort, param_sorts}
 use Rattle.c_types.specs.Types as types
 use Rattle.c_tree.specs.Forms as f
@@ -61,12 +61,10 @@ sorts_none (PointerTo line ∷ ls) e = sorts_none ls e
 sorts_none (ArrayOf line length ∷ ls) e = sorts_none ls e
 
 pub functions_one : (x : Layer) (ls : List Layer) → functions (x ∷ ls) ≡ functions (x ∷ []) + functions ls
-functions_one (FunctionOf line params) ls = omega arith
-functions_one other ls = omega arith
+functions_one x ls = search arith fits 100
 
 sorts_one : (x : Layer) (ls : List Layer) → function_sorts (x ∷ ls) ≡ function_sorts (x ∷ []) ++ function_sorts ls
-sorts_one (FunctionOf line params) ls = ap (λ (s : List Sort). s ++ function_sorts ls) (sym (append-nil (param_sorts params)))
-sorts_one other ls = refl
+sorts_one x ls = search (arith, append-nil) fits 100
 
 pub functions_reversed : (a : List Layer) → functions (reverse a) ≡ functions a
 functions_reversed [] = refl
@@ -94,8 +92,7 @@ nil_right : (a b t : List Sort) → a ≡ t → b ≡ [] → a ++ b ≡ t
 nil_right a b t x y = ap (λ (s : List Sort). a ++ s) y ∙ append-nil a ∙ x
 
 one_of : (a b : ℕ) → a + b ≡ 1 → ((a ≡ 1) × (b ≡ 0)) ⊎ ((a ≡ 0) × (b ≡ 1))
-one_of zero b e = inr (refl, omega (arith, e))
-one_of (suc a) b e = inl (omega (arith, e), omega (arith, e))
+one_of a b e = search arith fits 100
 
 counts_more : (x : Layer) (ls : List Layer) (ss ts : List Sort) → Counts (x ∷ []) ss → Counts ls ts → Counts (x ∷ ls) (ss ++ ts)
 counts_more x ls ss ts a b = search (arith, nil_both, functions_one, nil_right, sorts_one, sorts_none, append-nil, nil_left, one_of)
@@ -106,13 +103,11 @@ counts_behind ls ms ss ts a b = search (arith, functions_joined, functions_rever
 -- types with layers
 
 pub not_function : (tags : TagTable) (ls : List Layer) (base type : PlainType) → with_layers tags ls base ≡ Ok type → is_function type ≡ false → functions ls ≡ 0
-not_function tags [] base type e h = refl
-not_function tags (FunctionOf line params ∷ []) base type e h = search (arith, came, passed, ok_same, true, false)
-not_function tags (FunctionOf line params ∷ next ∷ ls) base type e h = search (arith, came)
 not_function tags (PointerTo line ∷ ls) base type e h =
     let x = came (layered tags (PointerTo line) base) e in not_function tags ls x.value type x.last h
 not_function tags (ArrayOf line length ∷ ls) base type e h =
     let x = came (layered tags (ArrayOf line length) base) e in not_function tags ls x.value type x.last h
+not_function tags ls base type e h = search (arith, came, passed, ok_same) fits 100
 
 -- the function that layers make
 pub record MakesFunction (ls : List Layer) (answer : PlainType) (ps : PlainTypes) : Type 0 where
@@ -121,30 +116,24 @@ pub record MakesFunction (ls : List Layer) (answer : PlainType) (ps : PlainTypes
   pub plain : (is_array answer || is_function answer || is_record answer) ≡ false
 
 pub makes_function : (tags : TagTable) (ls : List Layer) (base answer : PlainType) (ps : PlainTypes) → with_layers tags ls base ≡ Ok (Function answer ps) → 1 ≤ functions ls → MakesFunction ls answer ps
-makes_function tags [] base answer ps e h = absurd (omega (arith, h))
-makes_function tags (FunctionOf line params ∷ []) base answer ps e h = search (arith, came, passed, false, kept_test, ok_same, append-nil)
-makes_function tags (FunctionOf line params ∷ next ∷ ls) base answer ps e h = search (arith, came)
 makes_function tags (PointerTo line ∷ ls) base answer ps e h =
     let x = came (layered tags (PointerTo line) base) e in
     let m = makes_function tags ls x.value answer ps x.last h in record { single = m.single; sorts = m.sorts; plain = m.plain }
 makes_function tags (ArrayOf line length ∷ ls) base answer ps e h =
     let x = came (layered tags (ArrayOf line length) base) e in
     let m = makes_function tags ls x.value answer ps x.last h in record { single = m.single; sorts = m.sorts; plain = m.plain }
+makes_function tags ls base answer ps e h = search (arith, came, passed, kept_test, ok_same, append-nil) fits 100
 
 -- a parameter has a register
 write_sorts : (line : ℕ) (type : PlainType) (spot : Spot) (a : Atom) (c : Context) → sorts (write line type spot a c) ≡ sorts c
 unfolding write
-write_sorts line (Int ty) (Memory p) a c = refl
-write_sorts line (types.Pointer target) (Memory p) a c = refl
-write_sorts line type (Local r) a c = refl
-write_sorts line type spot a c = refl
+write_sorts line type spot a c = search arith fits 100
 
 one_register : (name : Option (List ℕ)) (type : PlainType) (c : Context) → sorts (with_register name type c) ≡ sorts c ++ type_sort type ∷ []
 one_register name type c = map-append sort_of c.running.locals (record { name = name; pointer = is_pointer type } ∷ [])
 
 named_sorts : (name : Option (List ℕ)) (v : PlainNamed) (c : Context) → sorts (with_named name v c) ≡ sorts c
-named_sorts None v c = refl
-named_sorts (Some name) v c = refl
+named_sorts name v c = search arith fits 100
 
 with_param_sorts : (name : Option (List ℕ)) (type : PlainType) (c : Context) → length c.scopes.inner ≡ 1 → sorts (with_param name type c) ≡ sorts c ++ type_sort type ∷ []
 with_param_sorts name type c deep = grind (arith, own_params, true, write_sorts, named_sorts, one_register, false)

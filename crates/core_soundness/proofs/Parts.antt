@@ -154,8 +154,7 @@ pub fits_below : (l : ℕ) (a : Around) → Fits l a → Fits l (below a)
 fits_below l a h = record { early = h.early; breaks = h.breaks; continues = h.continues }
 
 outside_more : (n : ℕ) (x : Option (ℕ × ℕ)) → IsOutside n x → IsOutside (n + 1) x
-outside_more n None h = tt
-outside_more n (Some x) h = omega arith
+outside_more n x h = search arith fits 100
 
 pub fits_delay : (l : ℕ) (a : Around) → Fits l a → Fits l (in_delay a)
 fits_delay l a h = record { early = h.early; breaks = outside_more a.delays a.breaks h.breaks; continues = outside_more a.delays a.continues h.continues }
@@ -164,8 +163,7 @@ pub fits_loop : (l end next : ℕ) (a : Around) → end < l → next < l → Fit
 fits_loop l end next a x y = record { early = (x, (y, tt)); breaks = omega arith; continues = omega arith }
 
 later_ways : (l : ℕ) (x y : Option (ℕ × ℕ)) → AreEarlier l (ways_of x ++ ways_of y) → AreEarlier l (ways_of y)
-later_ways l None y h = h
-later_ways l (Some x) y h = h.1
+later_ways l x y h = search arith fits 100
 
 pub fits_switch : (l end : ℕ) (block : Bool) (ty : IntType) (a : Around) → end < l → Fits l a → Fits l (in_switch block end ty a)
 fits_switch l end block ty a x h = record { early = (x, later_ways l a.breaks a.continues h.early); breaks = omega arith; continues = h.continues }

@@ -7,9 +7,9 @@ use Rattle.std.proofs.lemmas.Option.{slice_get-map}
 use Rattle.std.specs.List.{IsDistinct}
 use Rattle.std.specs.Prelude.{Contains, nat_eq}
 use Rattle.core_soundness.proofs.Words.Trees.{name_of, Tree, Trees, Leaf, At, Node, none, ◌▹◌}
-use Rattle.core_soundness.proofs.Words.Types.{no_layout, array_layout, number_layout, TagTable, layout_in, PlainType, built_ins, numbered_from, ScopeList, Table, named_in, innermost, with_name, with_name_in, after_declaration, tag_name, with_layers, tag_named, is_function, has_no_size, BuiltIn, DeclaredTwice, Incomplete, LeftOut, StaticTooLarge}
+use Rattle.core_soundness.proofs.Words.Types.{no_layout, array_layout, number_layout, TagTable, layout_in, PlainType, built_ins, numbered_from, ScopeList, Table, named_in, innermost, after_declaration, tag_name, with_layers, tag_named, is_function, has_no_size, BuiltIn, DeclaredTwice, Incomplete, LeftOut, StaticTooLarge}
 use Rattle.core_soundness.proofs.Words.Core.{block_size, IsLayoutOfType, IsTarget, IsStatic, Core, Start, Static}
-use Rattle.core_soundness.proofs.Words.Elaborating.{addressed_in, Context, Variable, asked, first_context, size_or_zero, Storage, Typedef, storage_of, specs_alone, specs_before, function_number, with_function, declared_function, no_initializer, variable_number_of, with_new_variable, with_variable, start_of, start_in, started_variable, fill_variable, file_object, file_value, file_name, name_in, entry, entries, declaration, specs, layers, walked, elaborated, begun, is_defined, body_begun, body_ended, body, defined, named_definition, definition, external, externals, Target, InStatic, initialize, surplus, no_start, with_init_layers, trimmed, is_twice, declared_as, static_by, variable_static, literal_static, core_of, start_by, with_static, around_body, items}
+use Rattle.core_soundness.proofs.Words.Elaborating.{addressed_in, Context, Variable, asked, first_context, size_or_zero, Storage, Typedef, storage_of, specs_alone, specs_before, function_number, with_function, declared_function, no_initializer, variable_number_of, with_new_variable, with_variable, start_of, start_in, started_variable, fill_variable, file_object, file_value, file_name, name_in, entry, entries, declaration, specs, layers, walked, elaborated, begun, is_defined, body_begun, body_ended, body, named_definition, definition, external, externals, Target, InStatic, initialize, no_start, with_init_layers, trimmed, is_twice, declared_as, static_by, variable_static, literal_static, core_of, start_by, with_static, around_body, items}
 use Rattle.core_soundness.proofs.Words.Facts.{HasLayouts}
 use Rattle.c_tree.specs.Forms as f
 use Rattle.c_tree.specs.Words as w
@@ -47,21 +47,7 @@ settled_pointed c d s h = grind (arith, there_on, pointers_stay, same_variables)
 -- an object that is declared
 
 declared_there : (vs : List Variable) (s : ScopeList) (key : List ℕ) (type : PlainType) (index : ℕ) → ObjectsThere vs s.file → ((v : Variable) × (slice_get vs index ≡ Some v)) → ObjectsThere vs (after_declaration s key (n.Object type index)).file
-declared_there vs s key type index h there = by (is_some (named_in key (innermost s)))
-  where
-    number_is : (t : PlainType) (i : ℕ) → n.Object type index ≡ n.Object t i → index ≡ i
-    number_is t i e = cc
-
-    pushed : ObjectsThere vs (s.file ++ (key, n.Object type index) ∷ [])
-    pushed name t i e = search (arith, number_is, push_get)
-
-    new : (inner : List Table) → ObjectsThere vs (with_name_in s.file inner key (n.Object type index)).file
-    new [] = pushed
-    new (t ∷ ts) = h
-
-    by : (t : Bool) → ObjectsThere vs (cond t s (with_name s key (n.Object type index))).file
-    by true = h
-    by false = new s.inner
+declared_there vs s key type index h there = search (arith, is_some, push_get) fits 100
 
 there_more : (vs ws : List Variable) (file : Table) → VariablesStay vs ws → ObjectsThere vs file → ObjectsThere ws file
 there_more vs ws file x h name type i e = let r = h name type i e in let k = x i r.0 r.1 in (k.0, k.1)
@@ -118,24 +104,14 @@ set_stay (u ∷ vs) (suc i) v start e zero x q = (x, q, refl)
 set_stay (u ∷ vs) (suc i) v start e (suc k) x q = set_stay vs i v start e k x q
 
 set_starts : (vs : List Variable) (ls : List (List ℕ)) (index : ℕ) (v : Variable) (start : Start) → slice_get vs index ≡ Some v → StartsIn vs vs ls → PointersIn vs ls start.pointers → (let ws = slice_set vs index (record v { start = Some start }) in StartsIn ws ws ls)
-set_starts vs ls index v start e h p i u s g r =
-    let ws = slice_set vs index (record v { start = Some start }) in
-    pointers_stay vs ws ls ls s.pointers (set_stay vs index v start e) (λ j w y. y)
-    (⊎_elim
-    (λ (k : (i ≡ index) × (u ≡ record v { start = Some start })). subst (λ (x : Start). PointersIn vs ls x.pointers) (started_is u s k.1 r) p)
-    (λ (k : (i ≡ index → ⊥) × (slice_get vs i ≡ Some u)). h i u s k.1 r)
-    (set_get vs index (record v { start = Some start }) i u g))
-  where
-    started_is : (u : Variable) (s : Start) → u ≡ record v { start = Some start } → u.start ≡ Some s → start ≡ s
-    started_is u s k r = some_same start s (sym (ap (λ (y : Variable). y.start) k) ∙ r)
+set_starts vs ls index v start e h p i u s g r = search (arith, slice_set, pointers_stay, set_stay, set_get, some_same) fits 100
 
 start_pointed : (index : ℕ) (c : Context) (start : Start) (o : Option Variable) → slice_get c.variables index ≡ o → Pointed c → PointersIn c.variables c.literals start.pointers → Pointed (record c { variables = started_variable index start o c.variables })
 start_pointed index c start None e h p = record { there = h.there; starts = h.starts }
 start_pointed index c start (Some v) e h p = record { there = there_more c.variables _ c.scopes.file (set_stay c.variables index v start e) h.there; starts = set_starts c.variables c.literals index v start e h.starts p }
 
 target_start : (c : Context) (t : Target) → TargetIn c t → PointersIn c.variables c.literals (start_in t).pointers
-target_start c (InStatic start) h = h
-target_start c other h = absurd h
+target_start c t h = search arith fits 100
 
 fill_pointed : (line index : ℕ) (type : PlainType) (inits : Trees) (c : Context) → Pointed c → Led Pointed (fill_variable line index type inits c)
 fill_pointed line index type none c h = led_ok Pointed h
@@ -167,8 +143,7 @@ function_settled line name type c =
     (λ d q. led_ok (Settled c) (settled_trans c d _ (declared_levels line name (n.Function type index) c c tt (levels_refl c) d q).settled (with_function_settled index name d)))
 
 no_initializer_pointed : (inits : Trees) (c : Context) → Pointed c → Led Pointed (no_initializer inits c)
-no_initializer_pointed none c h = led_ok Pointed h
-no_initializer_pointed (init ▹ rest) c h = led_after Pointed (surplus init c) (λ d q. led_refused Pointed)
+no_initializer_pointed inits c h = search (arith, led_ok, led_after, led_refused) fits 100
 
 value_pointed : (line : ℕ) (name : List ℕ) (type : PlainType) (inits : Trees) (c : Context) → Pointed c → Led Pointed (file_value line name type inits c)
 value_pointed line name type inits c h = search (arith, led_cond, led_after, no_initializer_pointed, settled_pointed, function_settled, object_pointed)
@@ -178,8 +153,7 @@ file_name_pointed line Typedef name type inits c h = λ d q. settled_pointed c d
 file_name_pointed line other name type inits c h = value_pointed line name type inits c h
 
 name_pointed : (line : ℕ) (storage : Storage) (name : Option (List ℕ)) (type : PlainType) (inits : Trees) (c : Context) → Pointed c → Led Pointed (name_in true line storage name type inits c)
-name_pointed line storage None type inits c h = led_ok Pointed h
-name_pointed line storage (Some name) type inits c h = file_name_pointed line storage name type inits c h
+name_pointed line storage name type inits c h = search (arith, led_ok, file_name_pointed) fits 100
 
 entry_pointed : (line : ℕ) (storage : Storage) (base : PlainType) (declarator : Tree) (inits : Trees) (c : Context) → Pointed c → Led Pointed (entry true line storage base declarator inits c)
 entry_pointed line storage base declarator inits c h =
@@ -225,18 +199,15 @@ body_settled line name index type (Node f.Body (Node f.Items parts ▹ At end �
     let k = walk.stays.inside (omega arith) in body_ends line name type end c d (record { variables = k.variables; literals = k.literals; objects = k.objects }))
 body_settled line name index type tree c s p = led_refused (Settled c)
 
-defined_settled : (line : ℕ) (name : List ℕ) (type : PlainType) (tree : Tree) (c : Context) → Safe c.scopes → SafeTable c.params → length c.scopes.inner ≡ 0 → Led (Settled c) (defined line name type tree c)
-defined_settled line name type tree c s p flat =
+named_settled : (line : ℕ) (name : Option (List ℕ)) (type : PlainType) (tree : Tree) (c : Context) → Safe c.scopes → SafeTable c.params → length c.scopes.inner ≡ 0 → Led (Settled c) (named_definition line name type tree c)
+named_settled line None type tree c s p flat = led_refused (Settled c)
+named_settled line (Some name) type tree c s p flat =
     let index = function_number name c in
     led_unless (Settled c) (not (is_function type)) LeftOut line
     (λ x. led_after (Settled c) (declared_function line name type c)
     (λ d q. let k = (introduced line name type c s flat d q).passes.stays in
     led_unless (Settled c) (is_defined (slice_get d.functions index)) DeclaredTwice line
     (λ y z e. settled_trans c d z (function_settled line name type c d q) (body_settled line name index type tree d k.safe (k.params p) z e))))
-
-named_settled : (line : ℕ) (name : Option (List ℕ)) (type : PlainType) (tree : Tree) (c : Context) → Safe c.scopes → SafeTable c.params → length c.scopes.inner ≡ 0 → Led (Settled c) (named_definition line name type tree c)
-named_settled line None type tree c s p flat = led_refused (Settled c)
-named_settled line (Some name) type tree c s p flat = defined_settled line name type tree c s p flat
 
 pub definition_settled : (line : ℕ) (words declarator tree : Tree) (c : Context) → Safe c.scopes → SafeTable c.params → length c.scopes.inner ≡ 0 → Led (Settled c) (definition line words declarator tree c)
 definition_settled line words declarator tree c s p flat =

@@ -1,14 +1,14 @@
 -- Whole types, and numbers, sizes and offsets in range.
-use Rattle.std.proofs.Common.{◌≤◌, ℕ, pos, Bool, true, false, cond, List, [], ◌∷◌, ◌++◌, arith, ◌≡◌, ℤ, is_some, Option, Some, None, unwrap_or, Ok, refl, sym, ap, ◌∙◌, subst, ◌==◌, ◌&&◌, not, is_none, nat_lt, map, fold, zip, option_map, bytes_eq, ◌+◌, ◌*◌, zero, suc, take, append_assoc}
+use Rattle.std.proofs.Common.{◌≤◌, ℕ, pos, Bool, true, false, cond, List, [], ◌∷◌, ◌++◌, arith, ◌≡◌, ℤ, is_some, Option, Some, None, unwrap_or, Ok, refl, sym, ap, ◌∙◌, subst, ◌==◌, not, is_none, map, fold, zip, option_map, bytes_eq, ◌+◌, ◌*◌, zero, suc, take, append_assoc}
 use Rattle.std.proofs.lemmas.Bool.{ltb-false, eqb-true}
 use Rattle.std.proofs.lemmas.Int.{ints, SFits-int_wrap}
 use Rattle.std.specs.Int.{w8, w16, w32, w64}
 use Rattle.std.specs.List.{find}
 use Rattle.std.specs.Option.{option_or}
 use Rattle.core_soundness.proofs.Words.Trees.{Tree, BinaryOp, UnaryOp}
-use Rattle.core_soundness.proofs.Words.Types.{Known, no_layout, Placed, none_placed, offset_after, placed, layout_of, CompletedTag, known, layout_in, TagTable, PlainMember, learn, tag_layout, member_layout, refusal, placed_members, members_in, PlainType, Int, Pointer, Struct, Union, kind_of, Array, Layout, IntType, typed, promoted, common_type, immovable, result_type, moving, sum_types, difference_types, integer_types, binary, is_void, has_no_size, PlainTyped, Operand, Number, PointerTo, Neither, operand, value, int, TypeKind, Operands, Incomplete}
-use Rattle.core_soundness.proofs.Words.Core.{wrapped, IntKind, I8, U8, I16, U16, I32, U32, I64, U64, IsLayoutOfType, IsNumber, Mem, Atom, CmpOp, StmKind, Set, Conv, Load, Loadp, Store, Storep, Test, Un, Bin, Cmp, Add, Sub, Off, Diff, Pcmp}
-use Rattle.core_soundness.proofs.Words.Elaborating.{byte_layout, element_layout, Piece, Does, Here, Context, emit, here, integer_by, pointer_by, Variable, Walked, asked, told, Code, Found, valued, convert, atom_in, write, Spot, unused, size_or_zero, Local, Memory, Value, Empty, read_spot, valued_from, atom_of, holds_all, convert_integer, convert_to, tested, found, elements, struct_parts, parts_of, offset_among, offset_of, working, Working, Calculates, Shifts, Compares, Branches, convert_both, work, on_integers, before_integer, move_pointer, between_pointers, pointer_beside, beside_integer, combine, combined, change, changed_to, member_address, reallocates, opened}
+use Rattle.core_soundness.proofs.Words.Types.{Known, no_layout, Placed, none_placed, offset_after, placed, layout_of, CompletedTag, known, layout_in, TagTable, PlainMember, learn, tag_layout, member_layout, refusal, placed_members, members_in, PlainType, Int, Pointer, kind_of, Array, Layout, IntType, typed, promoted, common_type, immovable, moving, sum_types, difference_types, integer_types, binary, is_void, has_no_size, PlainTyped, Operand, Number, PointerTo, Neither, operand, value, TypeKind, Operands, Incomplete}
+use Rattle.core_soundness.proofs.Words.Core.{wrapped, IntKind, I8, U8, I16, U16, I32, U32, I64, U64, IsLayoutOfType, IsNumber, Mem, Atom, CmpOp, StmKind, Set, Load, Loadp, Test, Un, Bin, Cmp, Add, Sub, Off, Diff, Pcmp}
+use Rattle.core_soundness.proofs.Words.Elaborating.{byte_layout, element_layout, Piece, Does, Here, Context, emit, here, integer_by, pointer_by, Variable, Walked, asked, told, Code, Found, valued, convert, atom_in, write, Spot, unused, size_or_zero, Local, Memory, Value, Empty, read_spot, valued_from, atom_of, convert_integer, convert_to, tested, found, elements, struct_parts, parts_of, offset_among, offset_of, working, Working, Calculates, Shifts, Compares, Branches, convert_both, work, before_integer, move_pointer, between_pointers, pointer_beside, beside_integer, combine, combined, change, changed_to, member_address, reallocates, opened}
 use Rattle.core_soundness.proofs.Words.Facts.{IsStep, AtomIn, KindIn, PiecesIn, IsElement, MemsLaid, VariablesLaid, WalkedLaid, Solid, Whole, AreMade, TableWhole, NamesWhole, MembersWhole}
 use Rattle.hs_base.proofs.Wrapping.{low_bits_lt}
 use Rattle.c_types.proofs.MemberLemmas.{Extends, sized_stays, layout_stays, some_array}
@@ -58,8 +58,7 @@ pub in_pointer : (line : ℕ) (kind : ℕ → StmKind) (c : Context) → In c �
 in_pointer line kind c h k = (pieces_joined c.code.pieces _ h (k _, tt), tt)
 
 pub has_cond : (test : Bool) (x y : Context × Atom) → Has x → Has y → Has (cond test x y)
-has_cond true x y g h = g
-has_cond false x y g h = h
+has_cond test x y g h = search arith fits 100
 
 -- numbers
 
@@ -238,23 +237,19 @@ laid c type h w s = is_layout c.tags.completed type (unwrap_or (layout_in c.tags
 -- sizes of types
 
 size_small : (c : Context) (type : PlainType) (o : Option Layout) → Solid c → Whole (K c) type → layout_in c.tags type ≡ o → unwrap_or (option_map (λ (l : Layout). l.size) o) 0 ≤ 268435456
-size_small c type None h w e = omega arith
-size_small c type (Some l) h w e = (made_sized c.tags.completed type l h.made w e).1
+size_small c type o h w e = search (arith, made_sized) fits 100
 
 pub size_number : (c : Context) (type : PlainType) → Solid c → Whole (K c) type → IsNumber (pos (size_or_zero c type))
 size_number c type h w = small_number (size_or_zero c type) (size_small c type (layout_in c.tags type) h w refl)
 
 size_step : (c : Context) (type : PlainType) (o : Option Layout) → Solid c → Whole (K c) type → layout_in c.tags type ≡ o → is_none (option_map (λ (l : Layout). l.size) o) ≡ false → IsStep (pos (unwrap_or (option_map (λ (l : Layout). l.size) o) 0))
-size_step c type None h w e q = cc
-size_step c type (Some l) h w e q = let r = made_sized c.tags.completed type l h.made w e in small_step l.size r.0 r.1
+size_step c type o h w e q = search (arith, made_sized, small_step) fits 100
 
 pub has_step : (c : Context) (type : PlainType) → Solid c → Whole (K c) type → has_no_size c.tags type ≡ false → IsStep (pos (size_or_zero c type))
 has_step c type h w q = size_step c type (layout_in c.tags type) h w refl q
 
 movable : (void none : Bool) (one other : TypeKind) → cond void (Some one) (cond none (Some other) None) ≡ None → none ≡ false
-movable true none one other e = cc
-movable false true one other e = cc
-movable false false one other e = refl
+movable void none one other e = search arith fits 100
 
 pub moved_step : (c : Context) (type : PlainType) → Solid c → Whole (K c) type → immovable c.tags type ≡ None → IsStep (pos (size_or_zero c type))
 moved_step c type h w e = has_step c type h w (movable (is_void type) (has_no_size c.tags type) Operands Incomplete e)
@@ -264,8 +259,7 @@ byte_element : IsElement byte_layout
 byte_element = (small_step 1 (omega arith) (omega arith), is_layout [] (Int Rattle.c_types.specs.declared.types.IntType.TheVariants.Char) byte_layout tt tt refl)
 
 element_of : (c : Context) (type : PlainType) (o : Option Layout) → Solid c → Whole (K c) type → layout_in c.tags type ≡ o → IsElement (unwrap_or o byte_layout)
-element_of c type None h w e = byte_element
-element_of c type (Some l) h w e = let r = made_sized c.tags.completed type l h.made w e in (small_step l.size r.0 r.1, is_layout c.tags.completed type l h.made w e)
+element_of c type o h w e = search (arith, byte_element, made_sized, small_step, is_layout) fits 100
 
 pub wanted_element : (c : Context) (type : PlainType) → Solid c → Whole (K c) type → IsElement (element_layout c.tags type)
 unfolding element_layout
@@ -347,9 +341,7 @@ among_small name (Some members) h = by (find (λ (m : PlainMember). bytes_eq nam
 
 pub offset_number : (c : Context) (name : List ℕ) (type : PlainType) → Solid c → IsNumber (pos (offset_of c.tags name type))
 unfolding offset_of
-offset_number c name (Struct tag) h = small_number _ (among_small name (members_in c.tags tag) (λ members m e q. member_offset c.tags tag members (λ (m : PlainMember). bytes_eq name m.name) m h.made e q))
-offset_number c name (Union tag) h = small_number _ (among_small name (members_in c.tags tag) (λ members m e q. member_offset c.tags tag members (λ (m : PlainMember). bytes_eq name m.name) m h.made e q))
-offset_number c name other h = zero_number
+offset_number c name type h = search (arith, small_number, among_small, member_offset, bytes_eq, zero_number) fits 100
 
 -- conversions and operators keep the numbers of statements in range
 
@@ -361,9 +353,7 @@ SpotIn (Value a) = AtomIn a
 SpotIn Empty = Unit {0}
 
 pub spot_atom : (spot : Spot) → SpotIn spot → AtomIn (atom_of spot)
-spot_atom (Memory a) h = h
-spot_atom (Value a) h = h
-spot_atom other h = tt
+spot_atom spot h = search arith fits 100
 
 pub read_in : (line : ℕ) (type : PlainType) (spot : Spot) (c : Context) → In c → SpotIn spot → Has (read_spot line type spot c)
 unfolding read_spot
@@ -379,15 +369,10 @@ valued_from_in tree c e z g h q = search (arith, came, ok_same, read_in)
 pub convert_integer_in : (line : ℕ) (ty source : IntType) (a : Atom) (c : Context) → In c → AtomIn a → Has (convert_integer line ty source a c)
 unfolding convert_integer
 convert_integer_in line ty source (atom.Int v) c g h = (g, wrapped_number (kind_of ty) v)
-convert_integer_in line ty source (atom.Reg r) c g h = has_cond (holds_all (kind_of ty) (kind_of source)) (c, atom.Reg r) _ (g, tt) (in_integer line (λ t. Conv (kind_of ty) t (atom.Reg r)) c g (λ t. ((tt, tt), tt)))
-convert_integer_in line ty source atom.Null c g h = has_cond (holds_all (kind_of ty) (kind_of source)) (c, atom.Null) _ (g, tt) (in_integer line (λ t. Conv (kind_of ty) t atom.Null) c g (λ t. ((tt, tt), tt)))
-convert_integer_in line ty source (atom.Static s) c g h = has_cond (holds_all (kind_of ty) (kind_of source)) (c, atom.Static s) _ (g, tt) (in_integer line (λ t. Conv (kind_of ty) t (atom.Static s)) c g (λ t. ((tt, tt), tt)))
-convert_integer_in line ty source (atom.Mem m) c g h = has_cond (holds_all (kind_of ty) (kind_of source)) (c, atom.Mem m) _ (g, tt) (in_integer line (λ t. Conv (kind_of ty) t (atom.Mem m)) c g (λ t. ((tt, tt), tt)))
+convert_integer_in line ty source a c g h = search (arith, has_cond, in_integer) fits 100
 
 convert_to_in : (line : ℕ) (before : Code) (wanted given : Operand) (a : Atom) (c : Context) → PiecesIn before.pieces → In c → AtomIn a → Has (convert_to line before wanted given a c)
-convert_to_in line before (Number ty) (Number source) a c p g h = convert_integer_in line ty source a c g h
-convert_to_in line before (PointerTo target) (Number source) a c p g h = (p, tt)
-convert_to_in line before wanted given a c p g h = (g, h)
+convert_to_in line before wanted given a c p g h = search (arith, convert_integer_in) fits 100
 
 pub convert_in : (line : ℕ) (before : Code) (type : PlainType) (e : PlainTyped) (a : Atom) (c : Context) → PiecesIn before.pieces → In c → AtomIn a → Has (convert line before type e a c)
 convert_in line before type e a c p g h = convert_to_in line before (operand type) (operand e.type) a c p g h
@@ -399,10 +384,7 @@ tested_in line type a c g h = (g, h)
 
 pub write_in : (line : ℕ) (type : PlainType) (spot : Spot) (a : Atom) (c : Context) → In c → SpotIn spot → AtomIn a → In (write line type spot a c)
 unfolding write
-write_in line type (Local r) a c g s h = in_emit line (Set r a) c g ((h, tt), tt)
-write_in line (Int ty) (Memory p) a c g s h = in_emit line (Store (kind_of ty) p a) c g ((s, (h, tt)), tt)
-write_in line (Pointer target) (Memory p) a c g s h = in_emit line (Storep p a) c g ((s, (h, tt)), tt)
-write_in line type spot a c g s h = g
+write_in line type spot a c g s h = search (arith, in_emit) fits 100
 
 -- operators
 
@@ -472,11 +454,7 @@ Steps how (PointerTo target) (PointerTo other) c = Needs how (Step c target)
 Steps how s t c = Unit {0}
 
 combine_in : (line : ℕ) (op : BinaryOp) (before : Code) (s t : Operand) (x y : Atom) (c : Context) → PiecesIn before.pieces → In c → AtomIn x → AtomIn y → Steps (working op) s t c → Has (combine line op before s t x y c)
-combine_in line op before (Number s) (Number t) x y c f g h k q = work_in line (working op) s x t y c g h k
-combine_in line op before (PointerTo target) (Number t) x y c f g h k q = first_in line op (working op) before target x y c f g h k q
-combine_in line op before (Number s) (PointerTo target) x y c f g h k q = last_in line op (working op) target x y c g h k q
-combine_in line op before (PointerTo target) (PointerTo other) x y c f g h k q = between_in line (working op) target x y c g h k q
-combine_in line op before other rest x y c f g h k q = (g, h)
+combine_in line op before s t x y c f g h k q = search (arith, work_in, first_in, last_in, between_in) fits 100
 
 pub combined_in : (line : ℕ) (op : BinaryOp) (before : Code) (x y : Found) (c : Context) → PiecesIn before.pieces → In c → SpotIn x.spot → SpotIn y.spot → Steps (working op) (operand x.typed.type) (operand y.typed.type) c → Has (combined line op before x y c)
 combined_in line op before x y c f g h k q = combine_in line op before (operand x.typed.type) (operand y.typed.type) (atom_in x) (atom_in y) c f g (spot_atom x.spot h) (spot_atom y.spot k) q
@@ -488,15 +466,13 @@ Pointed c (PointerTo target) = Whole (K c) target
 Pointed c Neither = Unit {0}
 
 pub pointed_of : (c : Context) (type : PlainType) → Whole (K c) type → Pointed c (operand type)
-pointed_of c (Pointer target) h = h
-pointed_of c other h = tt
+pointed_of c type h = search arith fits 100
 
 pub moving_step : (line : ℕ) (c : Context) (target : PlainType) (x t : PlainTyped) → Solid c → Whole (K c) target → moving line c.tags target x ≡ Ok t → Step c target
 moving_step line c target x t h w q = moved_step c target h w (unbarred (immovable c.tags target) line (good x) t q).0
 
 needs_all : (how : Working) (S : Type 0) → S → Needs how S
-needs_all (Compares op) S x = tt
-needs_all other S x = x
+needs_all how S x = search arith fits 100
 
 compared_steps : (how : Working) (test : CmpOp) (s t : Operand) (c : Context) → how ≡ Compares test → Steps how s t c
 compared_steps how test s t c e = grind arith
@@ -509,14 +485,10 @@ sum_steps how line c x y z other rest h p q e = tt
 
 difference_steps : (how : Working) (line : ℕ) (c : Context) (x y z : PlainTyped) (s t : Operand) → Solid c → Pointed c s → Pointed c t → difference_types line c.tags x y s t ≡ Ok z → Steps how s t c
 difference_steps how line c x y z (PointerTo target) (Number t) h p q e = needs_all how _ (moving_step line c target (value x.type) z h p e)
-difference_steps how line c x y z (PointerTo target) (PointerTo other) h p q e = needs_all how _ (moving_step line c target int z h p (behind_test _ _ line _ z e))
-difference_steps how line c x y z (Number s) (PointerTo target) h p q e = never _ _ z e
-difference_steps how line c x y z other rest h p q e = tt
+difference_steps how line c x y z s t h p q e = search (arith, needs_all, moving_step, behind_test, never) fits 100
 
 integer_steps : (how : Working) (op : BinaryOp) (line : ℕ) (c : Context) (x y z : PlainTyped) (s t : Operand) → integer_types op line x y s t ≡ Ok z → Steps how s t c
-integer_steps how op line c x y z (Number s) (PointerTo other) e = never _ _ z e
-integer_steps how op line c x y z (PointerTo target) t e = never _ _ z e
-integer_steps how op line c x y z rest other e = tt
+integer_steps how op line c x y z s t e = search (arith, never) fits 100
 
 -- `&&` and `||` are not among these
 abbrev pub IsBetween : BinaryOp → Type 0
@@ -539,12 +511,7 @@ binary_steps b.NotEqual line c x y z i h p q e = compared_steps (working b.NotEq
 binary_steps op line c x y z i h p q e = integer_steps (working op) op line c x y z (operand x.type) (operand y.type) e
 
 change_in : (line : ℕ) (op : BinaryOp) (s t : Operand) (old y : Atom) (c : Context) → In c → AtomIn old → AtomIn y → Steps Branches s t c → Has (change line op s t old y c)
-change_in line op (Number s) (Number t) old y c g h k q =
-    let d = on_integers line op s old t y c in
-    let r = work_in line (working op) s old t y c g h k in
-    convert_integer_in line s (result_type op s t) d.1 d.0 r.0 r.1
-change_in line op (PointerTo target) (Number t) old y c g h k q = move_in line op target old y c g h k q
-change_in line op others other old y c g h k q = (g, h)
+change_in line op s t old y c g h k q = search (arith, work_in, convert_integer_in, move_in) fits 100
 
 pub changed_in : (line : ℕ) (op : BinaryOp) (type : PlainType) (old : Atom) (e : PlainTyped) (y : Atom) (c : Context) → In c → AtomIn old → AtomIn y → Steps Branches (operand type) (operand e.type) c → Has (changed_to line op type old e y c)
 changed_in line op type old e y c g h k q = change_in line op (operand type) (operand e.type) old y c g h k q
@@ -657,20 +624,14 @@ struct_in c tag offset l h e s = by (find (λ (d : CompletedTag). d.tag == tag) 
         rows_parts (K c) all.end offset done.members all.members d.members (placed_rows (K c) done.is_union done.members) (let near = d.inside in omega (arith, near, s))
 
 first_within : (k : Known) (ps : List (PlainType × ℕ)) → PartsIn k ps → PartsIn k (take 1 ps)
-first_within k [] h = tt
-first_within k (p ∷ ps) h = (h.0, tt)
+first_within k ps h = search arith fits 100
 
 array_in : (c : Context) (asked n offset : ℕ) (element : PlainType) (l : Layout) → Whole (K c) element → layout_of (K c) element ≡ Some l → offset + n * l.size ≤ 268435456 → PartsIn (K c) (elements asked n offset (size_or_zero c element) element)
 array_in c asked n offset element l w e h = search (arith, option_map, elements_in)
 
 pub parts_in : (c : Context) (asked : ℕ) (type : PlainType) (offset : ℕ) → Solid c → Whole (K c) type → Within (K c) type offset → PartsIn (K c) (parts_of c asked type offset)
 unfolding parts_of
-parts_in c asked (Array element n) offset h w v =
-    let r = some_array (layout_of (K c) element) n v.0 v.1 in
-    array_in c asked n offset element r.0 w.0 r.1 (subst (λ (x : Layout). offset + x.size ≤ 268435456) (sym r.2) v.2)
-parts_in c asked (Struct tag) offset h w v = struct_in c tag offset v.0 h v.1 v.2
-parts_in c asked (Union tag) offset h w v = first_within (K c) (struct_parts offset (members_in c.tags tag)) (struct_in c tag offset v.0 h v.1 v.2)
-parts_in c asked other offset h w v = ((w, v), tt)
+parts_in c asked type offset h w v = search (arith, some_array, array_in, struct_in, first_within) fits 100
 
 -- at the start of an object
 pub starts_within : (c : Context) (type : PlainType) (l : Layout) → Solid c → Whole (K c) type → layout_of (K c) type ≡ Some l → Within (K c) type 0

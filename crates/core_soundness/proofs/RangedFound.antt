@@ -1,9 +1,9 @@
 -- Expressions keep the numbers of statements in range.
-use Rattle.std.proofs.Common.{◌≡◌, ◌<◌, ◌+◌, ◌&&◌, ◌^◌, not, ℕ, pos, zero, suc, Bool, true, false, length, drop, List, [], ◌∷◌, ◌++◌, slice_get, Option, Some, None, unwrap_or, Ok, refl, sym, subst, arith, option_map, ℤ}
+use Rattle.std.proofs.Common.{◌≡◌, ◌<◌, ◌+◌, ◌&&◌, ◌^◌, not, ℕ, pos, zero, suc, Bool, true, false, length, drop, List, [], ◌∷◌, Option, Some, None, unwrap_or, Ok, refl, sym, subst, arith, option_map, ℤ}
 use Rattle.std.proofs.lemmas.Int.{ints}
 use Rattle.std.specs.Prelude.{slice_index_or}
 use Rattle.core_soundness.proofs.Words.Trees.{number_value, Tree, Trees, Leaf, At, Node, none, ◌▹◌, AssignOp, BinaryOp, UnaryOp}
-use Rattle.core_soundness.proofs.Words.Types.{TagTable, CompletedTag, known, PlainType, PlainTypes, Void, Int, Pointer, built_ins, constant_of, named, built_in_named, built_in_value, Callee, Takes, NoFunction, called, line_of, typed, int_constant, char_constant, joined, typename, PlainNamed, element, element_types, choice, assigned, changed, changed_types, moves, size, Checked, then, found as declaration, unary, binary, moving, address, PlainTyped, Operand, Number, PointerTo, operand, place, value, constant, is_null_constant, is_record, BuiltIn, Constant, Operands, StaticTooLarge}
+use Rattle.core_soundness.proofs.Words.Types.{TagTable, CompletedTag, known, PlainType, PlainTypes, Void, Int, Pointer, constant_of, named, built_in_named, built_in_value, Callee, NoFunction, called, line_of, typed, int_constant, char_constant, joined, typename, PlainNamed, element, element_types, choice, assigned, changed, changed_types, moves, size, Checked, then, found as declaration, unary, binary, moving, address, PlainTyped, Operand, Number, PointerTo, operand, place, value, constant, is_null_constant, is_record, BuiltIn, Constant, Operands, StaticTooLarge}
 use Rattle.core_soundness.proofs.Words.Core.{I8, IsNumber, Atom, StmKind, Set, Cmp, Zero, Jump, Copy, Call, Malloc, Calloc, Realloc, Free, Lib, Printf, Enter, Leave}
 use Rattle.core_soundness.proofs.Words.Elaborating.{record_assigned, scalar_assigned, old_value, changed_answer, changed_by, one_found, stepped, Argument, atoms_of, atom_at, argument_from, lib_name, result_by, with_format, call_built_in, call_of_built_in, call_named, element_layout, first_type, rest_types, Code, Context, emit, here, new_label, with_labels, integer_by, asked, told, Walked, Found, Spot, Value, found_as, atom_in, valued_from, convert, tested_value, code_line, write, size_or_zero, valued_as, valued, unused, name_answer, literal_answer, unevaluated, changing, comma_answer, callee, callee_name, parameters, format_argument, is_printf, call_answer, found, arguments, cast_operand, working, Branches, operator_of, changed_to, opened, closed, set_again, compare_again, constant_found, object_found, built_in_found, name_found, is_inner, with_static, with_literal, indexed, dotted, pointed, negated, before_number, apply, applied, tells_equal, is_pointer_ahead, ahead, left_operand, between, cast_to, and_then, and_ends, and_ended, or_else, or_ended, chosen_by, choose_first, choice_spot, chosen, choose, type_ahead}
 use Rattle.core_soundness.proofs.Words.Facts.{AtomIn, AtomsIn, PiecesIn, Solid, Whole, NamedWhole, AllWhole, AreMade, Written, AllWritten}
@@ -41,49 +41,19 @@ E z = In z.0 × SpotIn z.1.spot
 -- names and constants
 
 built_number : (name : BuiltIn) (c : Constant) → constant_of name ≡ Some c → IsNumber c.value
-built_number built.Eof c e = subst (λ (x : Constant). IsNumber x.value) (some_same _ c e) (omega (arith, ints), omega (arith, ints))
-built_number built.ExitSuccess c e = subst (λ (x : Constant). IsNumber x.value) (some_same _ c e) (omega (arith, ints), omega (arith, ints))
-built_number built.ExitFailure c e = subst (λ (x : Constant). IsNumber x.value) (some_same _ c e) (omega (arith, ints), omega (arith, ints))
-built_number built.CharBit c e = subst (λ (x : Constant). IsNumber x.value) (some_same _ c e) (omega (arith, ints), omega (arith, ints))
-built_number built.ScharMin c e = subst (λ (x : Constant). IsNumber x.value) (some_same _ c e) (omega (arith, ints), omega (arith, ints))
-built_number built.ScharMax c e = subst (λ (x : Constant). IsNumber x.value) (some_same _ c e) (omega (arith, ints), omega (arith, ints))
-built_number built.UcharMax c e = subst (λ (x : Constant). IsNumber x.value) (some_same _ c e) (omega (arith, ints), omega (arith, ints))
-built_number built.CharMin c e = subst (λ (x : Constant). IsNumber x.value) (some_same _ c e) (omega (arith, ints), omega (arith, ints))
-built_number built.CharMax c e = subst (λ (x : Constant). IsNumber x.value) (some_same _ c e) (omega (arith, ints), omega (arith, ints))
-built_number built.ShrtMin c e = subst (λ (x : Constant). IsNumber x.value) (some_same _ c e) (omega (arith, ints), omega (arith, ints))
-built_number built.ShrtMax c e = subst (λ (x : Constant). IsNumber x.value) (some_same _ c e) (omega (arith, ints), omega (arith, ints))
-built_number built.UshrtMax c e = subst (λ (x : Constant). IsNumber x.value) (some_same _ c e) (omega (arith, ints), omega (arith, ints))
-built_number built.IntMin c e = subst (λ (x : Constant). IsNumber x.value) (some_same _ c e) (omega (arith, ints), omega (arith, ints))
-built_number built.IntMax c e = subst (λ (x : Constant). IsNumber x.value) (some_same _ c e) (omega (arith, ints), omega (arith, ints))
-built_number built.UintMax c e = subst (λ (x : Constant). IsNumber x.value) (some_same _ c e) (omega (arith, ints), omega (arith, ints))
-built_number built.LongMin c e = subst (λ (x : Constant). IsNumber x.value) (some_same _ c e) (omega (arith, ints), omega (arith, ints))
-built_number built.LongMax c e = subst (λ (x : Constant). IsNumber x.value) (some_same _ c e) (omega (arith, ints), omega (arith, ints))
-built_number built.UlongMax c e = subst (λ (x : Constant). IsNumber x.value) (some_same _ c e) (omega (arith, ints), omega (arith, ints))
-built_number built.LlongMin c e = subst (λ (x : Constant). IsNumber x.value) (some_same _ c e) (omega (arith, ints), omega (arith, ints))
-built_number built.LlongMax c e = subst (λ (x : Constant). IsNumber x.value) (some_same _ c e) (omega (arith, ints), omega (arith, ints))
-built_number built.UllongMax c e = subst (λ (x : Constant). IsNumber x.value) (some_same _ c e) (omega (arith, ints), omega (arith, ints))
-built_number name c e = cc
+built_number name c e = search (arith, some_same, ints) fits 100
 
 value_in : (line : ℕ) (name : BuiltIn) (o : Option Constant) (e : PlainTyped) → constant_of name ≡ o → built_in_value line name o ≡ Ok e → SpotIn (built_in_found e e.is_null).spot
-value_in line built.Null o e q h = subst (λ (x : PlainTyped). SpotIn (built_in_found x x.is_null).spot) (ok_same _ e h) tt
-value_in line built.SizeT o e q h = never _ _ e h
-value_in line name (Some c) e q h = subst (λ (x : PlainTyped). SpotIn (built_in_found x x.is_null).spot) (ok_same _ e h) (built_number name c q)
-value_in line name None e q h = never _ _ e h
+value_in line name o e q h = search (arith, ok_same, never, built_number) fits 100
 
 built_in_in : (line : ℕ) (o : Option BuiltIn) (e : PlainTyped) → built_in_named line o ≡ Ok e → SpotIn (built_in_found e e.is_null).spot
-built_in_in line None e h = never _ _ e h
-built_in_in line (Some name) e h = value_in line name (constant_of name) e refl h
+built_in_in line o e h = search (arith, never, value_in) fits 100
 
 object_in : (typed : PlainTyped) (inner : Bool) (i : ℕ) → SpotIn (object_found typed inner i).spot
-object_in typed true i = tt
-object_in typed false i = tt
+object_in typed inner i = search arith fits 100
 
 name_in : (c : Context) (line : ℕ) (inner : Bool) (v : PlainNamed) (e : PlainTyped) → NamedWhole (K c) v → named line (Some v) ≡ Ok e → SpotIn (name_found e inner (Some v)).spot
-name_in c line inner (n.Register type k) e w h = tt
-name_in c line inner (n.Object type k) e w h = object_in e inner k
-name_in c line inner (n.BuiltIn k) e w h = built_in_in line (slice_get built_ins k) e h
-name_in c line inner (n.Constant type x) e w h = subst (λ (y : PlainTyped). SpotIn (constant_found y).spot) (ok_same _ e h) w
-name_in c line inner other e w h = never _ _ e h
+name_in c line inner v e w h = search (arith, object_in, built_in_in, ok_same, never) fits 100
 
 pub named_in_range : (line : ℕ) (name : List ℕ) (c : Context) (z : Context × Found) → Solid c → In c → name_answer line name (declaration c.scopes name) c ≡ Ok z → E z
 named_in_range line name c z h g q = by (declaration c.scopes name) refl q
@@ -119,9 +89,7 @@ string_in line bytes c g = search (arith, led_after, led_ok, literal_in)
 element_steps : (line : ℕ) (c : Context) (s t : Operand) (z : PlainTyped) → Solid c → Pointed c s → Pointed c t → element_types line c.tags s t ≡ Ok z → Steps (working b.Add) s t c
 unfolding working
 element_steps line c (PointerTo target) (Number ty) z h p q e = moving_step line c target (place target) z h p e
-element_steps line c (Number ty) (PointerTo target) z h p q e = moving_step line c target (place target) z h q e
-element_steps line c (PointerTo target) (PointerTo other) z h p q e = never _ _ z e
-element_steps line c other rest z h p q e = tt
+element_steps line c s t z h p q e = search (arith, moving_step, never) fits 100
 
 pub indexed_in : (line : ℕ) (c : Context) (x y : Found) → Solid c → In c → SpotIn x.spot → SpotIn y.spot → Whole (K c) x.typed.type → Whole (K c) y.typed.type → Led E (indexed line c x y)
 indexed_in line c x y h g p q v w =
@@ -146,8 +114,7 @@ negated_in line tree t c e g s =
     in_integer line (λ r. Cmp cmp.Eq r d.1 (atom.Int (pos 0))) d.0 r.0 (λ i. ((r.1, (zero_number, tt)), tt))
 
 number_in : (line : ℕ) (op : UnaryOp) (t : PlainTyped) (o : Operand) (c : Context) (e : Found) → In c → SpotIn e.spot → E (before_number line op t o c e)
-number_in line op t (Number ty) c e g s = before_in line op ty (atom_in e) c g (spot_atom e.spot s)
-number_in line op t other c e g s = (g, s)
+number_in line op t o c e g s = search (arith, before_in, spot_atom) fits 100
 
 apply_in : (line : ℕ) (op : UnaryOp) (tree : Tree) (t : PlainTyped) (c : Context) (e : Found) → In c → SpotIn e.spot → E (apply line op tree t c e)
 apply_in line u.Deref tree t c e g s = (g, spot_atom e.spot s)
@@ -171,12 +138,10 @@ pub cast_in : (line : ℕ) (type : PlainType) (before : Code) (c : Context) (e :
 cast_in line type before c e f g s = search (arith, led_after, led_ok, convert_in, spot_atom)
 
 set_again_in : (line : ℕ) (t x : Atom) (c : Context) → In c → AtomIn x → In (set_again line t x c)
-set_again_in line (atom.Reg r) x c g h = in_emit line (Set r x) c g ((h, tt), tt)
-set_again_in line other x c g h = g
+set_again_in line t x c g h = search (arith, in_emit) fits 100
 
 compare_again_in : (line : ℕ) (t x : Atom) (c : Context) → In c → AtomIn x → In (compare_again line t x c)
-compare_again_in line (atom.Reg r) x c g h = in_emit line (Cmp cmp.Ne r x (atom.Int (pos 0))) c g ((h, (zero_number, tt)), tt)
-compare_again_in line other x c g h = g
+compare_again_in line t x c g h = search (arith, in_emit, zero_number) fits 100
 
 pub and_then_in : (line : ℕ) (tree : Tree) (d : Context × Found) → E d → In (and_then line tree d)
 and_then_in line tree d h = search (arith, tested_value_in, in_emit)
@@ -225,8 +190,7 @@ first_in line other before type d f h =
     (in_here other (emit line (Jump (other + 1)) v.0) (in_emit line (Jump (other + 1)) v.0 r.0 (tt, tt)), r.1)
 
 choice_spot_in : (type : PlainType) (x : Atom) → AtomIn x → SpotIn (choice_spot type x)
-choice_spot_in Void x h = tt
-choice_spot_in other x h = h
+choice_spot_in type x h = search arith fits 100
 
 pub chosen_in : (line end : ℕ) (before : Code) (t : Atom) (test x : Found) (d : Context × Found) → PiecesIn before.pieces → AtomIn t → E d → Led E (chosen line end before t test x d)
 chosen_in line end before t test x d f p h =
@@ -294,16 +258,13 @@ at_in (x ∷ xs) zero h = h.0
 at_in (x ∷ xs) (suc m) h = at_in xs m h.1
 
 behind_first : (xs : List Atom) → AtomsIn xs → AtomsIn (drop 1 xs)
-behind_first [] h = tt
-behind_first (x ∷ xs) h = h.1
+behind_first xs h = search arith fits 100
 
 abbrev pub R : Context × Spot → Type 0
 R z = In z.0 × SpotIn z.1
 
 result_in : (line : ℕ) (type : PlainType) (kind : Option ℕ → StmKind) (c : Context) → In c → ((r : Option ℕ) → Rattle.core_soundness.specs.Ranges.KindIn (kind r)) → R (result_by line type kind c)
-result_in line (Int ty) kind c g h = in_integer line (λ r. kind (Some r)) c g (λ r. h (Some r))
-result_in line (Pointer target) kind c g h = in_pointer line (λ r. kind (Some r)) c g (λ r. h (Some r))
-result_in line type kind c g h = (in_emit line (kind None) c g (h None), tt)
+result_in line type kind c g h = search (arith, in_integer, in_pointer, in_emit) fits 100
 
 free_in : (line : ℕ) (x : Atom) (c : Context) → In c → AtomIn x → In (emit line Leave (emit line (Free x) (emit line Enter c)))
 free_in line x c g h = search (arith, in_emit)
@@ -319,17 +280,13 @@ built_in line built.Printf answer wanted format args c s w g h =
 built_in line name answer wanted format args c s w g h = result_in line answer (λ r. Lib (lib_name name) r (atoms_of args)) c g (λ r. (h, tt))
 
 of_built_in : (line : ℕ) (o : Option BuiltIn) (answer wanted : PlainType) (format : Option (List ℕ)) (args : List Argument) (c : Context) → Solid c → Whole (K c) wanted → In c → AtomsIn (atoms_of args) → R (call_of_built_in line o answer wanted format args c)
-of_built_in line None answer wanted format args c s w g h = (g, tt)
-of_built_in line (Some name) answer wanted format args c s w g h = built_in line name answer wanted format args c s w g h
+of_built_in line o answer wanted format args c s w g h = search (arith, built_in) fits 100
 
 pub call_in : (line : ℕ) (o : Option PlainNamed) (answer wanted : PlainType) (format : Option (List ℕ)) (args : List Argument) (c : Context) → Solid c → Whole (K c) wanted → In c → AtomsIn (atoms_of args) → R (call_named line o answer wanted format args c)
-call_in line (Some (n.Function type index)) answer wanted format args c s w g h = result_in line answer (λ r. Call index r (atoms_of args)) (record c { calls = c.calls ++ (index, line) ∷ [] }) g (λ r. (h, tt))
-call_in line (Some (n.BuiltIn i)) answer wanted format args c s w g h = of_built_in line (slice_get built_ins i) answer wanted format args c s w g h
-call_in line other answer wanted format args c s w g h = (g, tt)
+call_in line o answer wanted format args c s w g h = search (arith, result_in, of_built_in) fits 100
 
 pub argument_in : (line : ℕ) (params : PlainTypes) (before : Code) (c : Context) (e : Found) → PiecesIn before.pieces → In c → SpotIn e.spot → In (argument_from line params before c e).0 × AtomIn (argument_from line params before c e).1.1
-argument_in line ct.none before c e f g s = (g, spot_atom e.spot s)
-argument_in line (ct.first type rest) before c e f g s = convert_in line before type e.typed (atom_in e) c f g (spot_atom e.spot s)
+argument_in line params before c e f g s = search (arith, spot_atom, convert_in) fits 100
 
 -- the walk over expressions keeps the numbers of statements in range
 
@@ -398,8 +355,7 @@ record Called (c : Context) (d : Context × Callee) : Type 0 where
   params : AllWhole (K d.0) (parameters d.1)
 
 params_whole : (c : Context) (h : Solid c) (function : Callee) → CW c.tags.completed h.made function → AllWhole (K c) (parameters function)
-params_whole c h (Takes answer params) k = k.1
-params_whole c h other k = tt
+params_whole c h function k = search arith fits 100
 
 name_called : (line : ℕ) (name : List ℕ) (c : Context) (d : Context × Callee) → Solid c → In c → then (called line c.tags (declaration c.scopes name)) (λ function. good (c, function)) ≡ Ok d → Called c d
 name_called line name c d h g q =
@@ -433,12 +389,10 @@ argument_solid line ct.none c d g h = widens_refl d.0 h
 argument_solid line (ct.first type rest) c d g h = converted_widens line c type d g h
 
 first_whole : (c : Context) (params : PlainTypes) → AllWhole (K c) params → Whole (K c) (first_type params)
-first_whole c ct.none h = tt
-first_whole c (ct.first type rest) h = h.0
+first_whole c params h = search arith fits 100
 
 rest_whole : (c : Context) (params : PlainTypes) → AllWhole (K c) params → AllWhole (K c) (rest_types params)
-rest_whole c ct.none h = tt
-rest_whole c (ct.first type rest) h = h.1
+rest_whole c params h = search arith fits 100
 
 record Arguments_in (c : Context) (z : Context × List Argument) : Type 0 where
   rises : Widens c z.0

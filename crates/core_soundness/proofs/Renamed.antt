@@ -1,5 +1,5 @@
 -- What stays where names of a tree get a suffix: all that does not look at the bytes of names.
-use Rattle.std.proofs.Common.{◌≡◌, ◌≤◌, ◌+◌, ℕ, Bool, true, false, List, [], Option, Some, None, is_some, ◌||◌, if◌then◌else◌, suc, refl, sym, ap, ◌∙◌, subst, arith, inl, inr, ◌⊎◌}
+use Rattle.std.proofs.Common.{◌≡◌, ◌≤◌, ◌+◌, ℕ, Bool, true, List, [], Option, None, is_some, ◌||◌, if◌then◌else◌, suc, refl, sym, ap, ◌∙◌, subst, arith, inl, inr, ◌⊎◌}
 use Rattle.std.proofs.lemmas.List.{append-nil}
 use Rattle.std.proofs.Math.Path.{transport, transport⁻¹}
 use Rattle.core_soundness.proofs.Words.Trees.{Form, shape, IsRenamed, IsSuffixed, Renames, RenamesAll, RenamesSome, first_name, word_name, word_is_typedef, has_typedef, leads_to_name, name_of, name_among, first_list, params_of, params_among, suffix_params, Tree, Trees, Leaf, At, Node, none, ◌▹◌, count, Word}
@@ -34,10 +34,8 @@ mutual
   unfolding Renames RenamesAll
 
   same_blank : (tree new : Tree) → Renames tree new → blank tree ≡ blank new
-  same_blank (Leaf word) (Leaf new) h = ap (λ (x : Word). Leaf x) (same_word word new h)
-  same_blank (At line) (At new) h = ap (λ (k : ℕ). At k) (sym h)
   same_blank (Node form parts) (Node new news) h = λ i. Node (sym h.0 i) (same_blanks parts news h.1 i)
-  same_blank tree new h = absurd h
+  same_blank tree new h = search (arith, same_word) fits 100
 
   same_blanks : (trees news : Trees) → RenamesAll trees news → blanks trees ≡ blanks news
   same_blanks none none h = refl
@@ -66,16 +64,13 @@ weight_kept tree new h = sym (weight_blank new) ∙ ap weight (sym (same_blank t
 -- whether a declarator has a name, and a parameter list next to it
 
 some_if : {A : Type 0} (t : Bool) (one other : Option A) → is_some one ≡ is_some other → is_some (if t then one else None) ≡ is_some (if t then other else None)
-some_if true one other h = h
-some_if false one other h = refl
+some_if t one other h = search arith fits 100
 
 some_name : (one other : Option (List ℕ)) → is_some (first_name one other) ≡ is_some one || is_some other
-some_name None other = refl
-some_name (Some name) other = refl
+some_name one other = search arith fits 100
 
 some_list : (one other : Option Trees) → is_some (first_list one other) ≡ is_some one || is_some other
-some_list None other = refl
-some_list (Some list) other = refl
+some_list one other = search arith fits 100
 
 name_word : (word : Word) → is_some (word_name (blank_word word)) ≡ is_some (word_name word)
 unfolding blank_word
@@ -97,9 +92,7 @@ mutual
 
 suffix_blank : (trees : Trees) → is_some (suffix_params (blanks trees)) ≡ is_some (suffix_params trees)
 unfolding suffix_params
-suffix_blank (Node f.Suffixes (Node f.FunctionSuffix (line ▹ params ▹ none) ▹ rest) ▹ none) = refl
-suffix_blank (Node f.Suffixes (Node f.VoidSuffix parts ▹ rest) ▹ none) = refl
-suffix_blank trees = refl
+suffix_blank trees = search arith fits 100
 
 mutual
   unfolding params_of params_among
@@ -117,9 +110,7 @@ mutual
       some_list (params_of (blank (Node form parts))) (params_among (blanks rest)) ∙ (λ i. params_blank (Node form parts) i || list_blank rest i) ∙ sym (some_list (params_of (Node form parts)) (params_among rest))
 
 list_is : (tree : Tree) → IsList (blank tree) ≡ IsList tree
-list_is (Node f.FunctionSuffix parts) = refl
-list_is (Node f.VoidSuffix parts) = refl
-list_is tree = refl
+list_is tree = search arith fits 100
 
 lists_are : (trees : Trees) → HasLists (blanks trees) ≡ HasLists trees
 lists_are none = refl
@@ -141,13 +132,7 @@ held_blank word = refl
 
 parts_blank : (form : Form) (parts : Trees) → HasParts form (blanks parts) ≡ HasParts form parts
 unfolding HasParts
-parts_blank f.Members none = refl
-parts_blank f.Members (tree ▹ rest) = refl
-parts_blank f.MemberNames none = refl
-parts_blank f.MemberNames (declarator ▹ rest) = λ i. name_blank declarator i ≡ true
-parts_blank f.Inits none = refl
-parts_blank f.Inits (tree ▹ rest) = refl
-parts_blank form parts = refl
+parts_blank form parts = search (arith, name_blank) fits 100
 
 mutual
   unfolding Written AllWritten
@@ -175,18 +160,10 @@ one_node_blank (Node form parts ▹ rest) = no_nodes_blank rest
 one_node_blank none = refl
 
 at_most_blank : (trees : Trees) → AtMostOne (blanks trees) ≡ AtMostOne trees
-at_most_blank none = refl
-at_most_blank (tree ▹ none) = refl
-at_most_blank (tree ▹ more ▹ rest) = refl
+at_most_blank trees = search arith fits 100
 
 layer_blank : (tree : Tree) → IsLayer (blank tree) ≡ IsLayer tree
-layer_blank (Leaf word) = refl
-layer_blank (At line) = refl
-layer_blank (Node (f.Pointer consts) (At line ▹ declarator ▹ none)) = refl
-layer_blank (Node f.Direct (base ▹ Node f.Suffixes suffixes ▹ none)) = refl
-layer_blank (Node f.Parens (At line ▹ declarator ▹ none)) = refl
-layer_blank (Node f.Nothing none) = refl
-layer_blank tree = refl
+layer_blank tree = search arith fits 100
 
 layers_blank : (trees : Trees) → AreLayers (blanks trees) ≡ AreLayers trees
 layers_blank none = refl
@@ -194,10 +171,7 @@ layers_blank (tree ▹ rest) = λ i. layer_blank tree i × layers_blank rest i
 
 suffix_is : (tree : Tree) → IsSuffix (blank tree) ≡ IsSuffix tree
 suffix_is (Node f.ArraySuffix (At line ▹ Node f.MaybeLength none ▹ none)) = refl
-suffix_is (Node f.ArraySuffix (At line ▹ Node f.MaybeLength (e ▹ none) ▹ none)) = refl
-suffix_is (Node f.FunctionSuffix (At line ▹ Node f.Params params ▹ none)) = refl
-suffix_is (Node f.VoidSuffix parts) = no_nodes_blank parts
-suffix_is tree = refl
+suffix_is tree = search (arith, no_nodes_blank) fits 100
 
 suffixes_are : (trees : Trees) → AreSuffixes (blanks trees) ≡ AreSuffixes trees
 suffixes_are none = refl
@@ -216,8 +190,7 @@ has_typedef_blank (At line ▹ rest) = has_typedef_blank rest
 has_typedef_blank (Node form parts ▹ rest) = has_typedef_blank rest
 
 typedefs_blank : (tree : Tree) → of_typedefs (blank tree) ≡ of_typedefs tree
-typedefs_blank (Node f.Specs parts) = has_typedef_blank parts
-typedefs_blank tree = refl
+typedefs_blank tree = search (arith, has_typedef_blank) fits 100
 
 inits_blank : (trees : Trees) → NoInits (blanks trees) ≡ NoInits trees
 inits_blank (Node f.Entry (declared ▹ Node f.MaybeInit none ▹ none) ▹ rest) = inits_blank rest
@@ -282,10 +255,8 @@ module _ (V W : List ℕ → Type 0) (kept : (name new : List ℕ) → IsSuffixe
     unfolding Renames RenamesAll
 
     names_kept : (tree new : Tree) → Renames tree new → Names V tree → Names W new
-    names_kept (Leaf word) (Leaf new) h v = word_kept word new h v
-    names_kept (At line) (At new) h v = tt
     names_kept (Node form parts) (Node new news) h v = all_names_kept parts news h.1 v
-    names_kept tree new h v = absurd h
+    names_kept tree new h v = search (arith, word_kept) fits 100
 
     all_names_kept : (trees news : Trees) → RenamesAll trees news → AllNames V trees → AllNames W news
     all_names_kept none none h v = tt
@@ -294,35 +265,28 @@ module _ (V W : List ℕ → Type 0) (kept : (name new : List ℕ) → IsSuffixe
 
   pub some_names : (trees news : Trees) → RenamesSome trees news → AllNames V trees → AllNames W news
   unfolding RenamesSome
-  some_names none none h v = tt
-  some_names none (new ▹ news) h v = absurd h
-  some_names (tree ▹ rest) none h v = tt
   some_names (tree ▹ rest) (new ▹ news) (inl h) v = (names_kept tree new h.0 v.0, some_names rest news h.1 v.1)
   some_names (tree ▹ rest) (new ▹ news) (inr h) v = some_names rest (new ▹ news) h v.1
+  some_names trees news h v = search arith fits 100
 
 -- some of the trees
 
 pub some_grammatical : (trees news : Trees) → RenamesSome trees news → Each Grammatical trees → Each Grammatical news
 unfolding RenamesSome
-some_grammatical none none h p = tt
-some_grammatical none (new ▹ news) h p = absurd h
-some_grammatical (tree ▹ rest) none h p = tt
 some_grammatical (tree ▹ rest) (new ▹ news) (inl h) p = (grammatical_kept tree new h.0 p.0, some_grammatical rest news h.1 p.1)
 some_grammatical (tree ▹ rest) (new ▹ news) (inr h) p = some_grammatical rest (new ▹ news) h p.1
+some_grammatical trees news h p = search arith fits 100
 
 pub some_weighed : (trees news : Trees) → RenamesSome trees news → weights news ≤ weights trees
 unfolding RenamesSome
-some_weighed none none h = omega arith
-some_weighed none (new ▹ news) h = absurd h
-some_weighed (tree ▹ rest) none h = omega arith
 some_weighed (tree ▹ rest) (new ▹ news) (inl h) = omega (arith, weight_kept tree new h.0, some_weighed rest news h.1)
 some_weighed (tree ▹ rest) (new ▹ news) (inr h) = omega (arith, some_weighed rest (new ▹ news) h)
+some_weighed trees news h = search arith fits 100
 
 -- trees that keep their names
 
 same_renamed : (word : Word) → IsRenamed word word
-same_renamed (w.Name name) = (name, refl, record { suffix = []; is = sym (append-nil name); dotted = tt; short = omega arith; main = λ e. refl })
-same_renamed word = refl
+same_renamed word = search (arith, append-nil) fits 100
 
 mutual
   unfolding Renames RenamesAll

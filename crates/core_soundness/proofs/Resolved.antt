@@ -7,10 +7,10 @@ use Rattle.std.proofs.lemmas.List.Folds.{length-prefix_len}
 use Rattle.std.proofs.lemmas.Nat.{div-mul-add, mod-mul-add}
 use Rattle.std.specs.Char.{is_ascii_digit}
 use Rattle.std.specs.Cmp.Lexicographic.{pointwise}
-use Rattle.std.specs.List.{flat_map, find, prefix_len, take_while, starts_with}
+use Rattle.std.specs.List.{find, prefix_len, take_while, starts_with}
 use Rattle.std.specs.Str.Parse.{digits_value}
 use Rattle.core_soundness.proofs.Words.Types.{behind_flags, digits_at, behind_digits, behind_length, is_item, is_format_of, is_format}
-use Rattle.core_soundness.proofs.Words.Core.{IntKind, I32, plain_byte, GoesOnPlain, ReadsPieces, IsFormat, is_flag, StartsOutside, ReadsItem, length_bytes, is_one_of, kind_of, length_at, item_at, join, pieces_from, pieces_of, Piece, Plain, Item, Sort, Integer, Pointer, sort_of, register_sort, atom_sort, TakesAll, GivesResult, TakesCall, TakesFormat, IsTyped, HasRegister, piece_takes, lib_takes, lib_gives, answer_sort, Core, Func, Reg as Register, Atom, Stm, StmKind, Set, Conv, Un, Bin, Cmp, Add, Sub, Off, Diff, Pcmp, Test, Load, Loadp, Store, Storep, Copy, Clear, Zero, Case, Call, Malloc, Calloc, Realloc, Free, Lib, Printf, Return}
+use Rattle.core_soundness.proofs.Words.Core.{IntKind, I32, plain_byte, GoesOnPlain, ReadsPieces, IsFormat, is_flag, StartsOutside, ReadsItem, length_bytes, is_one_of, kind_of, length_at, item_at, join, pieces_from, pieces_of, Piece, Plain, Item, Sort, Pointer, sort_of, register_sort, atom_sort, TakesAll, GivesResult, TakesCall, TakesFormat, IsTyped, HasRegister, answer_sort, Core, Func, Reg as Register, Atom, Stm, StmKind, Set, Return}
 use Rattle.core_soundness.proofs.Words.Elaborating.{Piece as CodePiece, Does, Here, Context, Walked, local_register, integer_temporary, pointer_temporary, file_variable, literal_object, Numbers, atom_by, atoms_by, numbered, body_of, register_by, static_by, numbers_of, temporary, pointer_register, function_of, variable_static, literal_static, core_of}
 use Rattle.core_soundness.proofs.Words.Facts.{World, walked_world, IsRegister, is_local, is_integer, is_pointer_temporary, IsObject, is_variable, is_literal, Holds, HoldAll, Receives, IsCall, IsPrinted, Fits, FitsAnswer, FitsIn, PiecesFit}
 use Rattle.c_print.proofs.Convs.{conv_is_letter}
@@ -32,20 +32,16 @@ outside_front : (test : ℕ → Bool) (bytes : List ℕ) → StartsOutside test 
 outside_front test bytes = subst (λ (k : ℕ). StartsOutside test (drop k bytes)) (sym (length-prefix_len test bytes)) (rest_starts_outside test bytes)
 
 no_leading : (k : ℕ) (bytes : List ℕ) → StartsOutside is_flag bytes → get_or (take k bytes) 0 0 ≡ 48 → ⊥
-no_leading zero bytes h e = let clash : 0 ≡ 48 = e in omega (arith, clash)
-no_leading (suc k) [] h e = let clash : 0 ≡ 48 = e in omega (arith, clash)
-no_leading (suc k) (b ∷ bytes) h e = let clash : false ≡ true = sym h ∙ ap is_flag e in cc
+no_leading k bytes h e = search arith fits 100
 
 -- the length at the front
 same_bytes : (a b : List ℕ) → pointwise nat_eq a b ≡ true → a ≡ b
-same_bytes [] [] e = refl
-same_bytes [] (y ∷ b) e = cc
-same_bytes (x ∷ a) [] e = cc
 same_bytes (x ∷ a) (y ∷ b) e = both x y a b (nat_eq x y) refl (λ q. same_bytes a b q) e
   where
     both : (x y : ℕ) (a b : List ℕ) (t : Bool) → nat_eq x y ≡ t → (pointwise nat_eq a b ≡ true → a ≡ b) → t && pointwise nat_eq a b ≡ true → x ∷ a ≡ y ∷ b
     both x y a b true q again h = λ i. eqb-true x y q i ∷ again h i
     both x y a b false q again h = cc
+same_bytes a b e = search arith fits 100
 
 begins : (needle bytes : List ℕ) → starts_with nat_eq bytes needle ≡ true → bytes ≡ needle ++ drop (length needle) bytes
 begins needle bytes e = sym (take-append-drop (length needle) bytes) ∙ ap (λ (front : List ℕ). front ++ drop (length needle) bytes) (sym (same_bytes needle (take (length needle) bytes) e))
@@ -63,19 +59,13 @@ found_begins spell absent bytes (l ∷ ls) e = by (starts_with nat_eq bytes (spe
 
 -- an item
 some_kind : (o : Option IntKind) → is_some o ≡ true → o ≡ Some (unwrap_or o I32)
-some_kind None e = cc
-some_kind (Some kind) e = refl
+some_kind o e = search arith fits 100
 
 letter_first : (bytes : List ℕ) → 88 ≤ slice_index bytes 0 → bytes ≡ slice_index bytes 0 ∷ drop 1 bytes
-letter_first [] h = absurd (none h)
-  where
-    none : 88 ≤ 0 → ⊥
-    none q = omega (arith, q)
-letter_first (b ∷ bytes) h = refl
+letter_first bytes h = search arith fits 100
 
 not_true : (k : Bool) → not k ≡ true → k ≡ false
-not_true true e = cc
-not_true false e = refl
+not_true k e = search arith fits 100
 
 abbrev conversion_of : List ℕ → ℕ
 conversion_of bytes = slice_index (behind_length bytes) 0
@@ -129,30 +119,8 @@ none_none k d below = absurd (omega (arith, below))
 
 -- one plain byte in front of pieces
 plain_first : (b : ℕ) (bytes rest : List ℕ) (pieces : List Piece) → bytes ≡ plain_byte b ++ rest → b ≢ 0 → ReadsPieces rest pieces [] → ReadsPieces bytes (join (Plain (b ∷ [])) pieces) []
-plain_first b bytes rest [] e h r = (
-  [],
-  (
-    some_bytes b [],
-    record {
-      written = e ∙ ap (λ (x : List ℕ). plain_byte b ++ x) r ∙ append-nil (plain_byte b) ∙ sym (append-nil (flat_map plain_byte (b ∷ [])) ∙ flat_map-cons plain_byte b [] ∙ append-nil (plain_byte b));
-      no_zero = first_none b [] h none_none;
-      longest = no_more;
-    },
-  ),
-  refl,
-)
-plain_first b bytes rest (Plain more ∷ pieces) e h r = (
-  r.0,
-  (
-    some_bytes b more,
-    record {
-      written = e ∙ ap (λ (x : List ℕ). plain_byte b ++ x) r.1.1.written ∙ sym (append_assoc (plain_byte b) (flat_map plain_byte more) r.0) ∙ ap (λ (x : List ℕ). x ++ r.0) (sym (flat_map-cons plain_byte b more));
-      no_zero = first_none b more h r.1.1.no_zero;
-      longest = r.1.1.longest;
-    },
-  ),
-  r.2,
-)
+plain_first b bytes rest [] e h r = search (arith, some_bytes, append-nil, flat_map-cons, first_none, none_none, no_more) fits 100
+plain_first b bytes rest (Plain more ∷ pieces) e h r = search (arith, some_bytes, append_assoc, flat_map-cons, first_none) fits 100
 plain_first b bytes rest (Item left zeros width conv kind ∷ pieces) e h r = (
   rest,
   (
@@ -170,13 +138,9 @@ plain_spelled : (b : ℕ) (rest : List ℕ) → (b == 37) ≡ false → b ∷ re
 plain_spelled b rest e = ap (λ (t : Bool). cond t (37 ∷ 37 ∷ []) (b ∷ []) ++ rest) (sym e)
 
 second_is : (rest : List ℕ) → (slice_index rest 0 == 37) ≡ true → rest ≡ 37 ∷ drop 1 rest
-second_is [] e = cc
-second_is (c ∷ rest) e = ap (λ (x : ℕ). x ∷ rest) (eqb-true c 37 e)
+second_is rest e = search (arith, eqb-true) fits 100
 
 reads_format : (n : ℕ) (bytes : List ℕ) → is_format_of n bytes ≡ true → ReadsPieces bytes (pieces_from n bytes) []
-reads_format zero [] e = refl
-reads_format (suc n) [] e = refl
-reads_format zero (b ∷ rest) e = cc
 reads_format (suc n) (b ∷ rest) e =
     by (b == 0) (b == 37) (slice_index rest 0 == 37) (is_item rest) refl refl refl refl (λ q. reads_format n rest q) (λ q. reads_format n (drop 1 rest) q) (λ q. reads_format n (drop 1 (behind_length rest)) q) e
   where
@@ -192,6 +156,7 @@ reads_format (suc n) (b ∷ rest) e =
     by false true false g z q x i one two other h =
         let parts = and_parts g (is_format_of n (drop 1 (behind_length rest))) h in
         (drop 1 (behind_length rest), (rest, ap (λ (k : ℕ). k ∷ rest) (eqb-true b 37 q), item_reads rest (i ∙ parts.0)), other parts.1)
+reads_format n bytes e = search arith fits 100
 
 pub format_is : (bytes : List ℕ) → is_format bytes ≡ true → IsFormat bytes (pieces_of bytes)
 unfolding pieces_of
@@ -245,8 +210,7 @@ length_same zero x = refl
 length_same (suc n) x = ap suc (length_same n x)
 
 some_left : (xs ys : List Register) (k : ℕ) (sort : Sort) (o : Option Register) → slice_get xs k ≡ o → option_map sort_of o ≡ Some sort → option_map sort_of (slice_get (xs ++ ys) k) ≡ Some sort
-some_left xs ys k sort None e h = cc
-some_left xs ys k sort (Some reg) e h = ap (λ (o : Option Register). option_map sort_of o) (get_left xs ys k reg e) ∙ h
+some_left xs ys k sort o e h = search (arith, option_map, get_left) fits 100
 
 pub variable_number : (count k : ℕ) → static_by count (file_variable k) ≡ k
 variable_number count k = grind (arith, eq-eqb)
@@ -310,12 +274,10 @@ module _ (c : Context) (w : Walked) where
   atom_resolves sort other h = ap (λ (s : Sort). Some s) (sym h)
 
   pub all_resolve : (sorts : List Sort) (atoms : List Atom) → HoldAll here sorts atoms → TakesAll core func sorts (atoms_by num atoms)
-  all_resolve [] [] h = refl
-  all_resolve [] (a ∷ atoms) h = absurd h
-  all_resolve (sort ∷ sorts) [] h = absurd h
   all_resolve (sort ∷ sorts) (a ∷ atoms) h =
       ap (λ (o : Option Sort). o ∷ map (atom_sort core func) (atoms_by num atoms)) (atom_resolves sort a h.0)
       ∙ ap (λ (os : List (Option Sort)). Some sort ∷ os) (all_resolve sorts atoms h.1)
+  all_resolve sorts atoms h = search arith fits 100
 
   pub result_resolves : (result : Option Sort) (r : Option ℕ) → Receives here result r → GivesResult func result (option_map num.register r)
   result_resolves None None h = tt
@@ -326,50 +288,19 @@ module _ (c : Context) (w : Walked) where
   -- what is called is there
   module _ (calls : (f : ℕ) (r : Option ℕ) (args : List Atom) → IsCall here f r args → HasRegister func (option_map num.register r) × TakesCall core func (atoms_by num args) (slice_get core.funcs (num.function f))) where
     printed_resolves : (args : List Atom) (o : Option (List ℕ)) → IsPrinted here args o → TakesFormat core func (atoms_by num args) o
-    printed_resolves args None h = absurd h
-    printed_resolves args (Some bytes) h = (format_is bytes h.0, all_resolve (flat_map piece_takes (pieces_of bytes)) args h.1)
+    printed_resolves args o h = search (arith, format_is, all_resolve) fits 100
 
     kind_resolves : (kind : StmKind) → Fits here kind → IsTyped core func (numbered num kind)
     unfolding numbered
     kind_resolves (Set r a) h = (h.0, register_resolves h.0 r h.1, atom_resolves h.0 a h.2)
-    kind_resolves (Conv k r a) h = (register_resolves Integer r h.0, atom_resolves Integer a h.1)
-    kind_resolves (Un op k r a) h = (register_resolves Integer r h.0, atom_resolves Integer a h.1)
-    kind_resolves (Bin op k r a b) h = (register_resolves Integer r h.0, atom_resolves Integer a h.1, atom_resolves Integer b h.2)
-    kind_resolves (Cmp op r a b) h = (register_resolves Integer r h.0, atom_resolves Integer a h.1, atom_resolves Integer b h.2)
-    kind_resolves (Add r p a s) h = (register_resolves Pointer r h.0, atom_resolves Pointer p h.1, atom_resolves Integer a h.2)
-    kind_resolves (Sub r p a s) h = (register_resolves Pointer r h.0, atom_resolves Pointer p h.1, atom_resolves Integer a h.2)
-    kind_resolves (Off r p k) h = (register_resolves Pointer r h.0, atom_resolves Pointer p h.1)
-    kind_resolves (Diff r p q s) h = (register_resolves Integer r h.0, atom_resolves Pointer p h.1, atom_resolves Pointer q h.2)
-    kind_resolves (Pcmp op r p q) h = (register_resolves Integer r h.0, atom_resolves Pointer p h.1, atom_resolves Pointer q h.2)
-    kind_resolves (Test r p) h = (register_resolves Integer r h.0, atom_resolves Pointer p h.1)
-    kind_resolves (Load k r p) h = (register_resolves Integer r h.0, atom_resolves Pointer p h.1)
-    kind_resolves (Loadp r p) h = (register_resolves Pointer r h.0, atom_resolves Pointer p h.1)
-    kind_resolves (Store k p a) h = (atom_resolves Pointer p h.0, atom_resolves Integer a h.1)
-    kind_resolves (Storep p q) h = (atom_resolves Pointer p h.0, atom_resolves Pointer q h.1)
-    kind_resolves (Copy p q k) h = (atom_resolves Pointer p h.0, atom_resolves Pointer q h.1)
-    kind_resolves (Clear p k) h = atom_resolves Pointer p h
-    kind_resolves (Zero a l) h = atom_resolves Integer a h
-    kind_resolves (Case a v l) h = atom_resolves Integer a h
-    kind_resolves (Call f r args) h = calls f r args h
-    kind_resolves (Malloc r k t) h = (register_resolves Pointer r h.0, atom_resolves Integer k h.1)
-    kind_resolves (Calloc r m k t) h = (register_resolves Pointer r h.0, atom_resolves Integer m h.1, atom_resolves Integer k h.2)
-    kind_resolves (Realloc r p k t) h = (register_resolves Pointer r h.0, atom_resolves Pointer p h.1, atom_resolves Integer k h.2)
-    kind_resolves (Free p) h = atom_resolves Pointer p h
-    kind_resolves (Lib name r args) h = (result_resolves (lib_gives name) r h.0, all_resolve (lib_takes name) args h.1)
-    kind_resolves (Printf r k args) h = (register_resolves Integer r h.0, printed_resolves args (slice_get w.running.formats k) h.1)
-    kind_resolves (Return a) h = absurd h
-    kind_resolves other h = tt
+    kind_resolves kind h = search (arith, register_resolves, atom_resolves, result_resolves, all_resolve, printed_resolves) fits 100
 
     answer_typed : (answer : Option Sort) (a : Option Atom) → FitsAnswer here answer a → IsTyped core func (numbered num (Return a))
     unfolding numbered
-    answer_typed None None h = tt
-    answer_typed None (Some a) h = absurd h
-    answer_typed (Some sort) None h = absurd h
-    answer_typed (Some sort) (Some a) h = (sort, atom_resolves sort a h)
+    answer_typed answer a h = search (arith, atom_resolves) fits 100
 
     in_resolves : (answer : Option Sort) (kind : StmKind) → FitsIn answer here kind → IsTyped core func (numbered num kind)
-    in_resolves answer (Return a) h = answer_typed answer a h
-    in_resolves answer kind h = kind_resolves kind h
+    in_resolves answer kind h = search (arith, answer_typed, kind_resolves) fits 100
 
     pub statements_resolve : (answer : Option Sort) (pieces : List CodePiece) (point : ℕ) (stm : Stm) → PiecesFit answer here pieces → slice_get (body_of num pieces) point ≡ Some stm → (1 ≤ stm.line) × IsTyped core func stm.kind
     statements_resolve answer [] point stm h e = cc
@@ -380,18 +311,11 @@ module _ (c : Context) (w : Walked) where
   -- returns
 
   answer_resolves : (answer : Option Sort) (a : Option Atom) → FitsAnswer here answer a → answer_sort core func (option_map (atom_by num) a) ≡ answer
-  answer_resolves None None h = refl
-  answer_resolves None (Some a) h = absurd h
-  answer_resolves (Some sort) None h = absurd h
-  answer_resolves (Some sort) (Some a) h = atom_resolves sort a h
+  answer_resolves answer a h = search (arith, atom_resolves) fits 100
 
   return_resolves : (answer : Option Sort) (kind : StmKind) (a : Option Atom) → FitsIn answer here kind → numbered num kind ≡ Return a → answer_sort core func a ≡ answer
   unfolding numbered
-  return_resolves answer (Return b) a h e = subst (λ (x : Option Atom). answer_sort core func x ≡ answer) (returned_is _ a e) (answer_resolves answer b h)
-    where
-      returned_is : (x y : Option Atom) → Return x ≡ Return y → x ≡ y
-      returned_is x y q = cc
-  return_resolves answer kind a h e = cc
+  return_resolves answer kind a h e = search (arith, answer_resolves) fits 100
 
   pub returns_resolve : (answer : Option Sort) (pieces : List CodePiece) (point : ℕ) (stm : Stm) (a : Option Atom) → PiecesFit answer here pieces → slice_get (body_of num pieces) point ≡ Some stm → stm.kind ≡ Return a → answer_sort core func a ≡ answer
   returns_resolve answer [] point stm a h e q = cc

@@ -1,5 +1,5 @@
 -- What scopes declare: names, who owns what they stand for, short names, and what stands outside.
-use Rattle.std.proofs.Common.{◌≡◌, ◌⊎◌, ℕ, Bool, true, false, cond, List, [], ◌∷◌, ◌++◌, Option, Some, None, refl, sym, ap, ◌∙◌, subst, inl, inr, ⊎_elim, bytes_eq, ◌≤◌, ◌<◌, ◌+◌, zero, suc, nat_eq, length, slice_get, slice_set, arith, eqb-true, length-append, if◌then◌else◌, unwrap_or}
+use Rattle.std.proofs.Common.{◌≡◌, ◌⊎◌, ℕ, Bool, true, false, cond, List, [], ◌∷◌, ◌++◌, Option, Some, None, refl, sym, ap, ◌∙◌, subst, inl, ⊎_elim, bytes_eq, ◌≤◌, ◌<◌, ◌+◌, zero, suc, nat_eq, length, slice_get, slice_set, arith, eqb-true, length-append, if◌then◌else◌, unwrap_or}
 use Rattle.std.proofs.lemmas.Bool.{eqb-false}
 use Rattle.std.proofs.lemmas.Slice.Eq.{bytes_eq-Decides}
 use Rattle.std.specs.Option.{option_or}
@@ -68,12 +68,8 @@ pub tags_trans : (a b c : Table) → MoreTags a b → MoreTags b c → MoreTags 
 tags_trans a b c x y name = search arith
 
 pub all_trans : (a b c : List Table) → MoreAll a b → MoreAll b c → MoreAll a c
-all_trans [] [] [] x y = tt
-all_trans [] [] (u ∷ us) x y = absurd y
-all_trans [] (t ∷ ts) c x y = absurd x
-all_trans (s ∷ ss) [] c x y = absurd x
-all_trans (s ∷ ss) (t ∷ ts) [] x y = absurd y
 all_trans (s ∷ ss) (t ∷ ts) (u ∷ us) x y = (tags_trans s t u x.0 y.0, all_trans ss ts us x.1 y.1)
+all_trans a b c x y = search arith fits 100
 
 pub more_trans : (a b c : ScopeList) → More a b → More b c → More a c
 more_trans a b c x y = record { file = tags_trans a.file b.file c.file x.file y.file; inner = all_trans a.inner b.inner c.inner x.inner y.inner }
@@ -85,10 +81,7 @@ no_scope [] e = refl
 no_scope (t ∷ ts) e = absurd (omega (arith, e))
 
 pub tail_more : (xs ys : List Table) → MoreAll xs ys → MoreAll (scopes.tail xs) (scopes.tail ys)
-tail_more [] [] m = tt
-tail_more [] (y ∷ ys) m = absurd m
-tail_more (x ∷ xs) [] m = absurd m
-tail_more (x ∷ xs) (y ∷ ys) m = m.1
+tail_more xs ys m = search arith fits 100
 
 pub left_more : (s t : ScopeList) → More s t → More (scopes.left s) (scopes.left t)
 left_more s t m = record { file = m.file; inner = tail_more s.inner t.inner m.inner }
@@ -97,18 +90,15 @@ tags_safe : (a b : Table) → MoreTags a b → SafeTable a → SafeTable b
 tags_safe a b m s x = search arith
 
 all_safe : (a b : List Table) → MoreAll a b → SafeAll a → SafeAll b
-all_safe [] [] m s = tt
-all_safe [] (t ∷ ts) m s = absurd m
-all_safe (s ∷ ss) [] m h = absurd m
 all_safe (s ∷ ss) (t ∷ ts) m h = (tags_safe s t m.0 h.0, all_safe ss ts m.1 h.1)
+all_safe a b m s = search arith fits 100
 
 pub more_safe : (a b : ScopeList) → More a b → Safe a → Safe b
 more_safe a b m s = record { file = tags_safe a.file b.file m.file s.file; inner = all_safe a.inner b.inner m.inner s.inner }
 
 -- what is found under the name of a tag is no `realloc`
 or_safe : (a b : Option PlainNamed) → frees a ≡ false → frees b ≡ false → frees (option_or a b) ≡ false
-or_safe None b x y = y
-or_safe (Some n) b x y = x
+or_safe a b x y = search arith fits 100
 
 tag_found : (file : Table) (inner : List Table) (x : List ℕ) → SafeTable file → SafeAll inner → frees (found_from file (tag_name x) inner) ≡ false
 tag_found file [] x s h = s x
@@ -116,13 +106,9 @@ tag_found file (t ∷ ts) x s h = or_safe (named_in (tag_name x) t) (found_from 
 
 -- the same names stand for `realloc`
 or_same : (a b c : Option PlainNamed) → frees b ≡ frees c → frees (option_or a b) ≡ frees (option_or a c)
-or_same None b c e = e
-or_same (Some n) b c e = refl
+or_same a b c e = search arith fits 100
 
 found_same : (f g : Table) (a b : List Table) (name : List ℕ) → MoreTags f g → MoreAll a b → SafeTable f → SafeAll a → frees (found_from g name b) ≡ frees (found_from f name a)
-found_same f g [] [] name mf m sf s = search arith
-found_same f g [] (t ∷ ts) name mf m sf s = absurd m
-found_same f g (t ∷ ts) [] name mf m sf s = absurd m
 found_same f g (t ∷ ts) (u ∷ us) name mf m sf s =
     let rest = found_same f g ts us name mf m.1 sf s.1 in
     ⊎_elim
@@ -132,6 +118,7 @@ found_same f g (t ∷ ts) (u ∷ us) name mf m sf s =
     ap (λ o. frees (option_or o (found_from g name us))) e.4
     ∙ sym (ap (λ o. frees (option_or o (found_from f name ts))) e.3 ∙ ap (λ n. frees (found_from f n ts)) e.2 ∙ tag_found f ts e.0 sf s.1))
     (m.0 name)
+found_same f g a b name mf m sf s = search arith fits 100
 
 pub same_frees : (a b : ScopeList) (name : List ℕ) → More a b → Safe a → frees (found b name) ≡ frees (found a name)
 same_frees a b name m s = found_same a.file b.file a.inner b.inner name m.file m.inner s.file s.inner
@@ -142,9 +129,7 @@ HasScope [] = ⊥
 HasScope (scope ∷ outer) = Unit {0}
 
 pub scope_more : (ss ts : List Table) → MoreAll ss ts → HasScope ss → HasScope ts
-scope_more [] ts m h = absurd h
-scope_more (s ∷ ss) [] m h = absurd m
-scope_more (s ∷ ss) (t ∷ ts) m h = tt
+scope_more ss ts m h = search arith fits 100
 
 -- a name more
 
@@ -176,12 +161,10 @@ pub entered_safe : (s : ScopeList) → Safe s → Safe (scopes.entered s)
 entered_safe s h = record { file = h.file; inner = (λ x. refl, h.inner) }
 
 tail_safe : (inner : List Table) → SafeAll inner → SafeAll (scopes.tail inner)
-tail_safe [] h = tt
-tail_safe (t ∷ ts) h = h.1
+tail_safe inner h = search arith fits 100
 
 pub first_safe : (file : Table) (inner : List Table) → SafeTable file → SafeAll inner → SafeTable (scopes.first_or file inner)
-first_safe file [] s h = s
-first_safe file (t ∷ ts) s h = h.0
+first_safe file inner s h = search arith fits 100
 
 pub left_safe : (s : ScopeList) → Safe s → Safe (scopes.left s)
 left_safe s h = record { file = h.file; inner = tail_safe s.inner h.inner }
@@ -200,10 +183,8 @@ get_last [] y = refl
 get_last (x ∷ xs) y = get_last xs y
 
 pub get_push : {X : Type 0} (xs : List X) (y : X) (i : ℕ) (x : X) → slice_get (xs ++ y ∷ []) i ≡ Some x → (slice_get xs i ≡ Some x) ⊎ ((i ≡ length xs) × (x ≡ y))
-get_push [] y zero x e = inr (refl, sym (some_same y x e))
-get_push [] y (suc i) x e = cc
-get_push (z ∷ xs) y zero x e = inl e
 get_push (z ∷ xs) y (suc i) x e = search (arith, (get_push xs y i x e))
+get_push xs y i x e = search (arith, some_same) fits 100
 
 pub get_below : {X : Type 0} (xs : List X) (i : ℕ) (x : X) → slice_get xs i ≡ Some x → i < length xs
 get_below [] i x e = cc
@@ -216,18 +197,12 @@ set_same (y ∷ xs) zero old x e = refl
 set_same (y ∷ xs) (suc i) old x e = set_same xs i old x e
 
 pub set_get : {X : Type 0} (xs : List X) (i : ℕ) (y : X) (j : ℕ) (x : X) → slice_get (slice_set xs i y) j ≡ Some x → ((j ≡ i) × (x ≡ y)) ⊎ ((j ≡ i → ⊥) × (slice_get xs j ≡ Some x))
-set_get [] i y j x e = cc
-set_get (z ∷ xs) zero y zero x e = inl (refl, sym (some_same y x e))
-set_get (z ∷ xs) zero y (suc j) x e = inr (λ h. omega arith, e)
-set_get (z ∷ xs) (suc i) y zero x e = inr (λ h. omega arith, e)
 set_get (z ∷ xs) (suc i) y (suc j) x e = search (arith, (set_get xs i y j x e))
+set_get xs i y j x e = search (arith, some_same) fits 100
 
 pub set_other : {X : Type 0} (xs : List X) (i : ℕ) (y : X) (j : ℕ) (x : X) → (j ≡ i → ⊥) → slice_get xs j ≡ Some x → slice_get (slice_set xs i y) j ≡ Some x
-set_other [] i y j x n e = cc
-set_other (z ∷ xs) zero y zero x n e = absurd (n refl)
-set_other (z ∷ xs) zero y (suc j) x n e = e
-set_other (z ∷ xs) (suc i) y zero x n e = e
 set_other (z ∷ xs) (suc i) y (suc j) x n e = set_other xs i y j x (λ h. n (ap suc h)) e
+set_other xs i y j x n e = search arith fits 100
 
 -- file scopes that keep their names, and have no other functions
 
@@ -242,21 +217,17 @@ pub keeps_trans : (f g h : Table) → FileKeeps f g → FileKeeps g h → FileKe
 keeps_trans f g h x y = record { kept = λ name v e. y.kept name v (x.kept name v e); same = λ name type i e. x.same name type i (y.same name type i e) }
 
 pub tag_kept : (f g : Table) (name : List ℕ) (v : PlainNamed) → (named_in name g ≡ named_in name f) ⊎ IsNewTag name f g → named_in name f ≡ Some v → named_in name g ≡ Some v
-tag_kept f g name v (inl e) h = e ∙ h
-tag_kept f g name v (inr new) h = let clash : None ≡ Some v = sym new.3 ∙ h in cc
+tag_kept f g name v h4 h = search arith fits 100
 
 tag_same : (f g : Table) (name : List ℕ) (type : PlainType) (i : ℕ) → (named_in name g ≡ named_in name f) ⊎ IsNewTag name f g → named_in name g ≡ Some (Function type i) → named_in name f ≡ Some (Function type i)
-tag_same f g name type i (inl e) h = sym e ∙ h
-tag_same f g name type i (inr new) h = let clash : Some (Tag new.1) ≡ Some (Function type i) = sym new.4 ∙ h in cc
+tag_same f g name type i h5 h = search arith fits 100
 
 pub more_keeps : (a b : ScopeList) → More a b → FileKeeps a.file b.file
 more_keeps a b m = search (arith, tag_kept, tag_same)
 
 all_length : (a b : List Table) → MoreAll a b → length b ≡ length a
-all_length [] [] m = refl
-all_length [] (t ∷ ts) m = absurd m
-all_length (s ∷ ss) [] m = absurd m
 all_length (s ∷ ss) (t ∷ ts) m = ap suc (all_length ss ts m.1)
+all_length a b m = search arith fits 100
 
 pub more_depth : (a b : ScopeList) → More a b → length b.inner ≡ length a.inner
 more_depth a b m = all_length a.inner b.inner m.inner
@@ -291,12 +262,10 @@ module _ (P : PlainNamed → Type 0) where
   none_fits name v e = cc
 
   pub first_fits : (inner : List Table) → TablesFit P inner → TableFits P (first_or [] inner)
-  first_fits [] h = none_fits
-  first_fits (t ∷ ts) h = h.0
+  first_fits inner h = search (arith, none_fits) fits 100
 
   tail_fits : (ts : List Table) → TablesFit P ts → TablesFit P (scopes.tail ts)
-  tail_fits [] h = tt
-  tail_fits (t ∷ ts) h = h.1
+  tail_fits ts h = search arith fits 100
 
   pub innermost_fits : (s : ScopeList) → ScopesFit P P s → TableFits P (innermost s)
   innermost_fits s h = grind arith
@@ -516,16 +485,13 @@ module _ (fs : List Declared) (file : Table) (ws : List Walked) (w : Walked) (in
 
 module _ (W : List ℕ → Type 0) where
   word_named : (word : Word) → WordNames W word → IfSome (word_name word) W
-  word_named (w.Name bytes) h = h
-  word_named word h = tt
+  word_named word h = search arith fits 100
 
   if_named : (t : Bool) (o : Option (List ℕ)) → IfSome o W → IfSome (if t then o else None) W
-  if_named true o h = h
-  if_named false o h = tt
+  if_named t o h = search arith fits 100
 
   either_named : (o other : Option (List ℕ)) → IfSome o W → IfSome other W → IfSome (first_name o other) W
-  either_named None other h k = k
-  either_named (Some name) other h k = h
+  either_named o other h k = search arith fits 100
 
   mutual
     unfolding name_of name_among
@@ -550,20 +516,17 @@ pub name_short : (tree : Tree) → Short tree → IfSome (name_of tree) IsShort
 name_short tree h = name_named IsShort tree h
 
 pub some_short : (o : Option (List ℕ)) → IfSome o IsShort → IsShort (unwrap_or o [])
-some_short None h = omega arith
-some_short (Some bytes) h = h
+some_short o h = search arith fits 100
 
 -- names of which nothing is said
 abbrev pub Any : List ℕ → Type 0
 Any bytes = Unit {0}
 
 pub any_name : (name : Option (List ℕ)) → IfSome name Any
-any_name None = tt
-any_name (Some name) = tt
+any_name name = search arith fits 100
 
 any_word : (word : Word) → WordNames Any word
-any_word (w.Name bytes) = tt
-any_word word = tt
+any_word word = search arith fits 100
 
 mutual
   pub any_names : (tree : Tree) → Names Any tree

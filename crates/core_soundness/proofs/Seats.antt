@@ -4,7 +4,7 @@ use Rattle.std.proofs.lemmas.Bool.{eqb-true, eq-eqb, leb-true, and_parts, cases_
 use Rattle.std.proofs.lemmas.List.{reverse-append, reverse-reverse, length-reverse, length-replicate}
 use Rattle.std.specs.List.{flat_map, range_with_len, list_any, list_all, IsDistinct, AllByRecursion, find}
 use Rattle.std.specs.Prelude.{nat_le, nat_eq}
-use Rattle.core_soundness.proofs.Words.Types.{Placed, none_placed, offset_after, placed, moved, array_layout, members_layout, has_slot, keeps_union_rule, AreSlots, IsSound, Known, layout_of, CompletedTag, PlainMember, known, learn, tag_layout, member_layout, placed_members, PlainType, Void, Int, Pointer, Array, Struct, Union, Function, Layout, TagError, PointerInUnion}
+use Rattle.core_soundness.proofs.Words.Types.{Placed, none_placed, offset_after, placed, moved, array_layout, members_layout, has_slot, keeps_union_rule, AreSlots, IsSound, Known, layout_of, CompletedTag, PlainMember, known, learn, tag_layout, member_layout, placed_members, PlainType, Array, Struct, Layout, TagError, PointerInUnion}
 use Rattle.core_soundness.proofs.Words.Core.{Start}
 use Rattle.core_soundness.proofs.Words.Elaborating.{Context, size_or_zero, bytes_of, with_bytes, with_pointer, without_zeros, trimmed, elements, struct_parts, parts_of}
 use Rattle.core_soundness.proofs.Words.Facts.{Solid, AreMade, MembersWhole}
@@ -13,7 +13,7 @@ use Rattle.c_types.proofs.Places.{stays_known}
 use Rattle.c_types.proofs.Sound.{rounded_le, layout_sound, member_sound, known_sound}
 use Rattle.c_types.specs.Layouts.{place}
 use Rattle.core_soundness.proofs.Ranged.{members_same, learnt, rest_placed, fold_rest}
-use Rattle.core_soundness.proofs.WholeTypes.{nothing, members_stay, learn_extends, placed_far}
+use Rattle.core_soundness.proofs.WholeTypes.{members_stay, learn_extends, placed_far}
 use Rattle.core_soundness.proofs.Choices.{either_way, some_same}
 
 -- where a type lies in a whole: its slots are those of the whole there, and no other slot of the whole touches it
@@ -450,19 +450,7 @@ filled_more slots low high start e h = record { inside = omega (arith, h.inside,
 -- bytes of a place without slots
 pub filled_bytes : (room : ℕ) (slots : List ℕ) (low offset : ℕ) (l : Layout) (start : Start) (bytes : List ℕ) → Filled slots low start → low ≤ offset → Seat room slots offset l → ((s : ℕ) → Has l.slots s → ⊥) → length bytes ≤ l.size → Filled slots (offset + l.size) (with_bytes start offset bytes)
 filled_bytes room slots low offset l start bytes h e seat none fits =
-    let near : length start.bytes ≤ offset = omega (arith, h.inside, e) in
-    record {
-      inside = omega (arith, padded_length start.bytes bytes offset near, fits);
-      zeros = λ s k there small. ⊎_elim
-          (λ (x : s + 4 ≤ offset). padded_before start.bytes bytes offset (s + k) near (omega (arith, x, small)) ∙ h.zeros s k there small)
-          (λ x. ⊎_elim
-          (λ (y : offset + l.size ≤ s). padded_behind start.bytes bytes offset (s + k) near (omega (arith, y, fits)))
-          (λ (y : Moved offset l.slots s). absurd (none y.slot y.there))
-          x)
-          (seat.down s there);
-      pointers = below_more slots low (offset + l.size) start.pointers (omega (arith, e)) h.pointers;
-      distinct = h.distinct;
-    }
+    search (arith, padded_length, padded_before, padded_behind, below_more) fits 100
 
 -- a pointer
 
@@ -555,9 +543,7 @@ record TagIs (k : Known) (done : CompletedTag) (l : Layout) : Type 0 where
   rule : done.is_union ≡ true → keeps_union_rule (map (member_layout k) done.members) ≡ true
 
 kept_rule : (u r : Bool) (rest : Option TagError) → cond (u && not r) (Some PointerInUnion) rest ≡ None → u ≡ true → r ≡ true
-kept_rule true true rest e q = refl
-kept_rule true false rest e q = cc
-kept_rule false r rest e q = cc
+kept_rule u r rest e q = search arith fits 100
 
 tag_at : (j : Known) (tags : List CompletedTag) (tag : ℕ) (done : CompletedTag) (l : Layout) → AreMade j tags → find (λ (d : CompletedTag). d.tag == tag) tags ≡ Some done → fold learn j tags tag ≡ Some l → TagIs (fold learn j tags) done l
 tag_at j [] tag done l m e h = cc
@@ -586,8 +572,7 @@ each_sound ts [] = tt
 each_sound ts (m ∷ ms) = (member_sound (known ts) (known_sound ts) m, each_sound ts ms)
 
 there : (o : Option Layout) (d : Layout) → is_some o ≡ true → o ≡ Some (unwrap_or o d)
-there None d e = cc
-there (Some l) d e = refl
+there o d e = search arith fits 100
 
 abbrev member_of : (List ℕ × PlainType) × (ℕ × Layout) → PlainMember
 member_of x = record { name = x.0.0; type = x.0.1; offset = x.1.0 }
@@ -598,18 +583,7 @@ module _ (ts : List CompletedTag) (room : ℕ) (slots : List ℕ) where
   rows_seated base w seat [] p low high whole proper h = omega (arith, h)
   rows_seated base w seat (m ∷ ms) p low high whole proper h =
       let l = member_layout (known ts) m in
-      let o = Rattle.c_types.specs.Layouts.offset_after false p l in
-      let rest = rows_seated base w seat ms (Rattle.c_types.specs.Layouts.place false p l) (o + l.size) high whole.1 proper.1 h.2 in
-      let next : base + (o + l.size) ≡ base + o + l.size = omega arith in (
-        omega (arith, h.0),
-        (
-          l,
-          there (layout_of (known ts) m.1) Rattle.c_types.specs.Layouts.no_layout whole.0.1,
-          seat_within room slots base o w l seat h.1,
-          proper.0,
-          subst (λ (x : ℕ). PartsSeated ts room slots x (base + high) (map (λ (y : PlainMember). (y.type, base + y.offset)) (map member_of (zip ms (rest_placed false (Rattle.c_types.specs.Layouts.place false p l) (map (member_layout (known ts)) ms)))))) next rest,
-        ),
-      )
+      search (arith, seat_within, rest_placed, rows_seated base w seat ms (Rattle.c_types.specs.Layouts.place false p l)) fits 100
 
   -- a struct's members
   body_seated : (base : ℕ) (done : CompletedTag) (l : Layout) → TagIs (known ts) done l → done.is_union ≡ false → MembersProper ts done.members → Seat room slots base l → PartsSeated ts room slots base (base + l.size) (struct_parts base (Some (placed_members (known ts) done)))
@@ -626,8 +600,7 @@ module _ (ts : List CompletedTag) (room : ℕ) (slots : List ℕ) where
       subst (λ (ps : List (ℕ × Layout)). PartsSeated ts room slots base (base + l.size) (map (λ (m : PlainMember). (m.type, base + m.offset)) (map member_of (zip done.members ps)))) (sym listed) parts3
 
   take_seated : (low high : ℕ) (ps : List (PlainType × ℕ)) → PartsSeated ts room slots low high ps → PartsSeated ts room slots low high (take 1 ps)
-  take_seated low high [] h = h
-  take_seated low high (p ∷ ps) h = (h.0, (h.1.0, h.1.1, h.1.2, h.1.3, parts_end ts room slots (p.1 + h.1.0.size) high ps h.1.4))
+  take_seated low high ps h = search (arith, parts_end) fits 100
 
   -- a union's first member
   first_seated : (base : ℕ) (u : Bool) (tag : ℕ) (ms : List (List ℕ × PlainType)) (l : Layout) → u ≡ true → (let done : CompletedTag = record { tag = tag; is_union = u; members = ms } in TagIs (known ts) done l → MembersProper ts ms → Seat room slots base l → PartsSeated ts room slots base (base + l.size) (take 1 (struct_parts base (Some (placed_members (known ts) done)))))
@@ -656,21 +629,5 @@ module _ (ts : List CompletedTag) (room : ℕ) (slots : List ℕ) where
 
 pub parts_seated : (c : Context) (room : ℕ) (slots : List ℕ) (asked : ℕ) (type : PlainType) (base : ℕ) (l : Layout) → Solid c → (let ts = c.tags.completed in AllProper ts → Proper ts type → layout_of (known ts) type ≡ Some l → Seat room slots base l → PartsSeated ts room slots base (base + l.size) (parts_of c asked type base))
 unfolding parts_of
-parts_seated c room slots asked (Array element n) base l h all proper e seat =
-    let r = some_array (layout_of (known c.tags.completed) element) n l e in
-    subst (λ (x : Layout). PartsSeated c.tags.completed room slots base (base + x.size) (elements asked n base (size_or_zero c element) element)) r.2
-    (array_seated c.tags.completed room slots c asked n base element r.0 refl r.1 proper (subst (λ (x : Layout). Seat room slots base x) (sym r.2) seat))
-parts_seated c room slots asked (Struct tag) base l h all proper e seat = by (find (λ (d : CompletedTag). d.tag == tag) c.tags.completed) refl
-  where
-    by : (o : Option CompletedTag) → find (λ (d : CompletedTag). d.tag == tag) c.tags.completed ≡ o → PartsSeated c.tags.completed room slots base (base + l.size) (struct_parts base (option_map (placed_members (known c.tags.completed)) o))
-    by None q = omega arith
-    by (Some done) q = body_seated c.tags.completed room slots base done l (tag_at nothing c.tags.completed tag done l h.made q e) (proper done q) (all tag done q) seat
-parts_seated c room slots asked (Union tag) base l h all proper e seat = by (find (λ (d : CompletedTag). d.tag == tag) c.tags.completed) refl
-  where
-    by : (o : Option CompletedTag) → find (λ (d : CompletedTag). d.tag == tag) c.tags.completed ≡ o → PartsSeated c.tags.completed room slots base (base + l.size) (take 1 (struct_parts base (option_map (placed_members (known c.tags.completed)) o)))
-    by None q = omega arith
-    by (Some done) q = union_seated c.tags.completed room slots base done l (tag_at nothing c.tags.completed tag done l h.made q e) (all tag done q) seat
-parts_seated c room slots asked Void base l h all proper e seat = cc
-parts_seated c room slots asked (Int ty) base l h all proper e seat = (omega arith, (l, e, seat, tt, omega arith))
-parts_seated c room slots asked (Pointer target) base l h all proper e seat = (omega arith, (l, e, seat, tt, omega arith))
-parts_seated c room slots asked (Function answer params) base l h all proper e seat = cc
+parts_seated c room slots asked type base l h all proper e seat =
+    search (arith, some_array, array_seated, option_map, body_seated, tag_at, union_seated) fits 100

@@ -79,8 +79,7 @@ record Named (c : Context) (o : Option PlainNamed) (d : Context × Callee) : Typ
   of : CallOf (world d.0) o d.1
 
 call_grew : (u v : World) (o : Option PlainNamed) (function : Callee) → Grew u v → CallOf u o function → CallOf v o function
-call_grew u v (Some (n.Function type index)) function g h = (h.0, (h.1.0, g.file h.1.0 type index h.1.1))
-call_grew u v other function g h = h
+call_grew u v o function g h = search arith fits 100
 
 at_file : (c : Context) (name : List ℕ) (type : PlainType) (index : ℕ) → NamesFit (world c) c.scopes → declaration c.scopes name ≡ Some (n.Function type index) → named_in name c.scopes.file ≡ Some (n.Function type index)
 at_file c name type index h e =
@@ -149,8 +148,7 @@ more_arguments line NoFunction params c d more z l p o k e =
     subst (Held_all c NoFunction params) e (record { goes = goes_trans c v.0 more.0 r.goes m.goes; held = ((arguments_grew (world v.0) (world more.0) params (v.1 ∷ []) m.goes.grew (r.held, tt)).0, m.held) })
 
 has_params : (function : Callee) → HasParams function (parameters function)
-has_params Prints = refl
-has_params other = tt
+has_params function = search arith fits 100
 
 in_memory_by : (c : Context) (e : Tree) (d : Context × Found) → NoRegister c.scopes (plain_name e) → Rests c e d → InMemory d.1
 in_memory_by c e d s r k q = grind (arith, false, true)

@@ -1,12 +1,11 @@
 -- Initializers and declarations keep whole types, and what they make has the layouts of types (C99 6.7, 6.7.8, 6.9.2).
 use Rattle.std.proofs.Common.{◌≡◌, ◌≤◌, ◌+◌, not, ℕ, zero, suc, pos, Bool, true, false, is_some, nat_lt, min, length, List, [], ◌∷◌, slice_get, slice_set, Option, Some, None, unwrap_or, Ok, refl, subst, arith}
 use Rattle.core_soundness.proofs.Words.Trees.{name_of, Tree, Trees, Leaf, At, Node, none, ◌▹◌, count}
-use Rattle.core_soundness.proofs.Words.Types.{Known, no_layout, TagTable, known, layout_in, PlainType, Array, Struct, Union, line_of, string, Checked, refused, then, unless, named_in, innermost, tag_name, after_declaration, Layer, ArrayOf, layered_before, tag_named, is_function, has_no_size, Assignment, DeclaredTwice, Incomplete, LeftOut, StaticTooLarge}
+use Rattle.core_soundness.proofs.Words.Types.{Known, no_layout, TagTable, known, layout_in, PlainType, Array, line_of, string, Checked, refused, then, unless, named_in, innermost, tag_name, after_declaration, Layer, ArrayOf, layered_before, tag_named, is_function, has_no_size, Assignment, DeclaredTwice, Incomplete, LeftOut, StaticTooLarge}
 use Rattle.core_soundness.proofs.Words.Core.{block_size, IsLayoutOfType, IsNumber, Start, Atom, Set, Clear, Off, Copy}
-use Rattle.core_soundness.proofs.Words.Elaborating.{Context, Variable, asked, emit, Found, Spot, Local, Memory, atom_in, valued, convert, write, size_or_zero, Storage, Typedef, Outside, storage_of, specs_alone, specs_before, zero_of, cleared, fill_memory, fill_register, fill_at, fill_local, local_object, local_name, function_number, with_function, declared_function, no_initializer, variable_number_of, with_new_variable, with_variable, start_of, started_variable, started, fill_variable, file_object, file_function, file_value, file_name, name_in, entry, entries, declaration, layers, found, Target, InRegister, InMemory, InStatic, static_scalar, member_place, store_at, fill_scalar, scalar, copy_to, fill_record, is_same_place, whole, fill_text, is_character, text, by_text, by_expression, parts_of, takes_braces, is_scalar_type, surplus, all_surplus, initialize, initialize_parts, no_start, text_length, given_length, with_init_layers, not_whole, is_twice, declared_as, next_is_memory, with_memory, with_register, local_in, counted_local, with_local, opened, with_static, with_literal}
+use Rattle.core_soundness.proofs.Words.Elaborating.{Context, Variable, asked, emit, Found, Spot, Local, Memory, atom_in, valued, convert, write, size_or_zero, Storage, Typedef, Outside, storage_of, specs_alone, specs_before, zero_of, cleared, fill_memory, fill_register, fill_at, fill_local, local_object, local_name, function_number, with_function, declared_function, no_initializer, variable_number_of, with_new_variable, with_variable, start_of, started_variable, started, fill_variable, file_object, file_function, file_value, file_name, name_in, entry, entries, declaration, layers, found, Target, InRegister, InMemory, InStatic, static_scalar, member_place, store_at, fill_scalar, scalar, copy_to, fill_record, is_same_place, whole, fill_text, is_character, text, by_text, by_expression, parts_of, takes_braces, is_scalar_type, all_surplus, initialize, initialize_parts, no_start, text_length, given_length, with_init_layers, not_whole, is_twice, declared_as, next_is_memory, with_memory, with_register, local_in, counted_local, with_local, opened, with_static, with_literal}
 use Rattle.core_soundness.proofs.Words.Facts.{AtomIn, VariablesLaid, Solid, Whole, HasParts, Written, AllWritten}
 use Rattle.c_types.proofs.MemberLemmas.{Extends}
-use Rattle.c_types.specs.Types as types
 use Rattle.core_tree.specs.declared.statements.Atom.TheVariants as atom
 use Rattle.c_tree.specs.Forms as f
 use Rattle.c_tree.specs.Words as w
@@ -116,9 +115,7 @@ by_text_rises e line element size offset (Some bytes) target c h w t m =
 
 by_expression_rises : (e : Tree) (line : ℕ) (type : PlainType) (offset : ℕ) (target : Target) (c : Context) → Solid c → Written e → Whole (K c) type → IsNumber (pos offset) → Led (R1 c) (by_expression e line type offset target c)
 by_expression_rises e line (Array element size) offset target c h w t m = by_text_rises e line element size offset (text e) target c h w t m
-by_expression_rises e line (Struct tag) offset target c h w t m = whole_rises e line (Struct tag) offset target c h w t m
-by_expression_rises e line (Union tag) offset target c h w t m = whole_rises e line (Union tag) offset target c h w t m
-by_expression_rises e line type offset target c h w t m = scalar_rises e line type offset target c h w t m
+by_expression_rises e line type offset target c h w t m = search (arith, whole_rises, scalar_rises) fits 100
 
 mutual
   unfolding initialize initialize_parts Written AllWritten
@@ -150,15 +147,10 @@ fill_memory_rises line type (init ▹ rest) (atom.Mem mem) c h w t v m =
     let x = cleared line type (atom.Mem mem) c in
     let a = clears line type (atom.Mem mem) c h t m in
     led_after (Rises c) (initialize init false type 0 (InMemory line mem) x) (λ d q. led_ok (Rises c) (rises_trans c x d.0 a (initialize_rises init false type 0 (InMemory line mem) x a.solid w.0 t v d q)))
-fill_memory_rises line type none mem c h w t v m = led_ok (Rises c) (clears line type mem c h t m)
-fill_memory_rises line type (init ▹ rest) (atom.Reg r) c h w t v m = led_ok (Rises c) (clears line type (atom.Reg r) c h t m)
-fill_memory_rises line type (init ▹ rest) (atom.Int x) c h w t v m = led_ok (Rises c) (clears line type (atom.Int x) c h t m)
-fill_memory_rises line type (init ▹ rest) atom.Null c h w t v m = led_ok (Rises c) (clears line type atom.Null c h t m)
-fill_memory_rises line type (init ▹ rest) (atom.Static x) c h w t v m = led_ok (Rises c) (clears line type (atom.Static x) c h t m)
+fill_memory_rises line type inits mem c h w t v m = search (arith, led_ok, clears) fits 100
 
 zero_in : (type : PlainType) → AtomIn (zero_of type)
-zero_in (types.Pointer target) = tt
-zero_in other = zero_number
+zero_in type = search (arith, zero_number) fits 100
 
 fill_register_rises : (line : ℕ) (type : PlainType) (inits : Trees) (register : ℕ) (c : Context) → Solid c → AllWritten inits → Whole (K c) type → Within (K c) type 0 → Led (Rises c) (fill_register line type inits register c)
 unfolding AllWritten
@@ -243,8 +235,7 @@ declared_function_rises line name type c h w =
     (λ d q. let r = declared_rises line name (n.Function type index) c h w (λ ks. tt) d q in led_ok (Rises c) (rises_trans c d _ r (function_rises index name d r.solid)))
 
 no_initializer_rises : (inits : Trees) (c : Context) → Solid c → Led (Rises c) (no_initializer inits c)
-no_initializer_rises none c h = led_ok (Rises c) (rises_refl c h)
-no_initializer_rises (init ▹ rest) c h = led_after (Rises c) (surplus init c) (λ d q. led_refused (Rises c))
+no_initializer_rises inits c h = search (arith, led_ok, rises_refl, led_after, led_refused) fits 100
 
 -- a type that is whole, and has a layout
 record Ready (c : Context) (type : PlainType) (d : Context) : Type 0 where
@@ -283,8 +274,7 @@ set_laid (x ∷ vs) zero v h k = (k, h.1)
 set_laid (x ∷ vs) (suc i) v h k = (h.0, set_laid vs i v h.1 k)
 
 started_laid : (index : ℕ) (start : Start) (o : Option Variable) (vs : List Variable) → slice_get vs index ≡ o → VariablesLaid vs → VariablesLaid (started_variable index start o vs)
-started_laid index start None vs e h = h
-started_laid index start (Some v) vs e h = set_laid vs index (record v { start = Some start }) h (get_laid vs index v e h)
+started_laid index start o vs e h = search (arith, set_laid, get_laid) fits 100
 
 started_rises : (index : ℕ) (d : Context × Target) → Solid d.0 → Rises d.0 (started index d)
 started_rises index d h = search (arith, with_code, started_laid, extends_refl, kinds_refl)
@@ -328,19 +318,15 @@ name_in_rises past false line storage (Some name) type inits c r v w s = local_n
 -- the length that an initializer gives
 
 text_some : (element : PlainType) (o : Option (List ℕ)) → 1 ≤ text_length element o
-text_some element None = omega arith
-text_some element (Some bytes) = either_way (λ x. 1 ≤ x) (is_character element) (omega arith) (omega arith)
+text_some element o = search (arith, either_way) fits 100
 
 inits_some : (inits : Trees) → HasParts f.Inits inits → 1 ≤ count inits
 unfolding HasParts
-inits_some none h = absurd h
-inits_some (init ▹ rest) h = omega arith
+inits_some inits h = search arith fits 100
 
 given_some : (k : Known) (line : ℕ) (element : PlainType) (inits : Trees) → AllWritten inits → LayerWhole k (ArrayOf line (given_length element inits))
 unfolding Written AllWritten
-given_some k line element (Node f.InitExpr (At at ▹ e ▹ none) ▹ none) w = text_some element (text e)
-given_some k line element (Node (f.InitList trailing) (At at ▹ Node f.Inits inits ▹ none) ▹ none) w = inits_some inits w.0.1.1.0.0
-given_some k line element inits w = tt
+given_some k line element inits w = search (arith, text_some, inits_some) fits 100
 
 pub init_layers_whole : (tags : TagTable) (ls : List Layer) (inits : Trees) (type : PlainType) → AllWritten inits → Whole (known tags.completed) type → LayersWhole (known tags.completed) ls → Led (Whole (known tags.completed)) (with_init_layers tags ls inits type)
 init_layers_whole tags [] inits type w h g = led_ok (Whole (known tags.completed)) h

@@ -3,7 +3,7 @@ use Rattle.std.proofs.Common.{◌≡◌, ℕ, ℤ, pos, Bool, true, false, ◌||
 use Rattle.std.proofs.lemmas.List.Elements.{All-cons}
 use Rattle.std.specs.Option.{option_map_or}
 use Rattle.core_soundness.proofs.Words.Trees.{name_of, Tree, Trees, Leaf, At, Node, none, ◌▹◌, RecordSort}
-use Rattle.core_soundness.proofs.Words.Types.{Known, layout_of, TagTable, CompletedTag, refusal, layout_in, PlainType, PlainTypes, Void, Int, Pointer, Array, Struct, Union, Layout, TagError, TagInfo, line_of, typed, wanted, constant_from, PlainNamed, Checked, unless, named_in, innermost, with_name, tag_name, Layer, record_type, special_type, array_length, with_layers, with_param_layers, adjusted, is_void, is_record, is_array, is_function, has_no_size, DeclaredTwice, Incomplete, LeftOut}
+use Rattle.core_soundness.proofs.Words.Types.{Known, layout_of, TagTable, CompletedTag, refusal, layout_in, PlainType, PlainTypes, Pointer, Struct, Union, Layout, TagError, TagInfo, line_of, typed, wanted, constant_from, PlainNamed, Checked, unless, named_in, innermost, with_name, tag_name, Layer, special_type, array_length, with_layers, with_param_layers, adjusted, is_void, is_record, is_array, is_function, has_no_size, DeclaredTwice, Incomplete, LeftOut}
 use Rattle.core_soundness.proofs.Words.Core.{HasLayout}
 use Rattle.core_soundness.proofs.Words.Elaborating.{Context, asked, entered, local_register, Memory, constant, with_type, maybe_name, newly_named, begun_as, completed_by, complete, ended, with_member, member, enumerator, enum_named, is_declared, param, left_params, specs, words_type, tag_type, members, member_names, enumerators, layers, suffix_layers, suffix_layer, params, is_twice, declared_as, next_is_memory, with_register, with_memory, counted, with_named, memory_param, register_param, function_param, prototype_param, is_prototype, with_param}
 use Rattle.core_soundness.proofs.Words.Facts.{Solid, Whole, AllWhole, MembersWhole, NamedWhole, HasParts, Written, AllWritten}
@@ -82,8 +82,7 @@ typedef_rises past c r line name type w s =
 -- parameters
 
 maybe_named : (name : Option (List ℕ)) (v : PlainNamed) (c : Context) → Solid c → NamedWhole (K c) v → (Sorts c → SortedName c.tags.made v) → Rises c (with_named name v c)
-maybe_named None v c h w s = rises_refl c h
-maybe_named (Some name) v c h w s = named_rises c name v h w s
+maybe_named name v c h w s = search (arith, rises_refl, named_rises) fits 100
 
 pub memory_rises : (name : List ℕ) (type : PlainType) (c : Context) → Solid c → Whole (K c) type → is_some (layout_in c.tags type) ≡ true → Rises c (with_memory name type c)
 memory_rises name type c h w s = search (arith, with_code, mems_push, laid, extends_refl, kinds_refl)
@@ -116,20 +115,14 @@ param_made name type c h w s = counted_rises c _ (by (is_prototype c.scopes))
 
 -- a parameter has a layout: it is an integer or a pointer
 param_sized : (k : Known) (type : PlainType) → is_void type ≡ false → is_record type || is_function type ≡ false → is_array type ≡ false → is_some (layout_of k type) ≡ true
-param_sized k (Int ty) a b e = refl
-param_sized k (Pointer target) a b e = refl
-param_sized k other a b e = cc
+param_sized k type a b e = search arith fits 100
 
 adjusted_flat : (type : PlainType) → is_array (adjusted type) ≡ false
-adjusted_flat Void = refl
-adjusted_flat other = refl
+adjusted_flat type = search arith fits 100
 
 -- a parameter is no struct, union or array
 param_sorted : (type : PlainType) (made : List TagInfo) → is_record type || is_function type ≡ false → is_array type ≡ false → SortedType made type
-param_sorted (Array element m) made b e = cc
-param_sorted (Struct tag) made b e = cc
-param_sorted (Union tag) made b e = cc
-param_sorted other made b e = tt
+param_sorted type made b e = search arith fits 100
 
 param_rises : (line : ℕ) (name : Option (List ℕ)) (type : PlainType) (c : Context) → Solid c → Whole (K c) type → is_array type ≡ false → Led (T c) (param line name type c)
 param_rises line name type c h w flat =
@@ -155,11 +148,7 @@ constant_rises e c h =
     led_after (R1 c) (constant_from (line_of e) x.1.type x.1.folded) (λ k z. led_ok (R1 c) (told_rises c x.0 h g.0 (wanted_leads (asked c) e (typed e (asked c)) (typed_leads e (asked c)) x q))))
 
 newly_rises : (sort : RecordSort) (name : List ℕ) (c : Context) → Solid c → Rises c (newly_named sort name c).0
-newly_rises sort name c h = with_code c _ (record {
-  solid = record { made = h.made; names = named_fits (NamedWhole (K c)) (NamedWhole (K c)) c.scopes (tag_name name) (n.Tag (record_type sort (length c.tags.made))) tt tt h.names; list = h.list; memory = h.memory; result = h.result; statics = h.statics; functions = h.functions };
-  more = extends_refl (K c);
-  kinds = leads_kinds c (newly_named sort name c).0 (new_tag_leads sort name (asked c)) refl refl;
-}) (λ k. k) (λ k. k) (λ k. k)
+newly_rises sort name c h = search (arith, with_code, named_fits, extends_refl, leads_kinds, new_tag_leads) fits 100
 
 begun_as_rises : (sort : RecordSort) (name : List ℕ) (o : Option PlainNamed) (c : Context) → Solid c → Rises c (begun_as sort name o c).0
 begun_as_rises sort name (Some (n.Tag type)) c h = rises_refl c h
@@ -183,8 +172,7 @@ members_all k [] h = λ j x q. absurd (omega (arith, q))
 members_all k (m ∷ ms) h = All-cons (λ (x : List ℕ × PlainType). HasLayout k x.1) m ms (h.0.1, whole_fits m.1 k h.0.0) (members_all k ms h.1)
 
 not_known : (o : Option Layout) → is_some o ≡ false → o ≡ None
-not_known None e = refl
-not_known (Some l) e = cc
+not_known o e = search arith fits 100
 
 complete_rises : (line number : ℕ) (type : PlainType) (b c : Context) (list : d.Members) → Rises b c → MembersWhole (K c) list → (list ≡ [] → ⊥) → ((k : Known) → Whole k type) → (Sorts b → MembersSorted c.tags.made list) → (Sorts b → SortedType c.tags.made type) → (Sorts b → (i : TagInfo) × (slice_get c.tags.made number ≡ Some i)) → Led (T b) (complete line number type c list)
 complete_rises line number type b c list r m some w sm st at =
@@ -235,16 +223,14 @@ pub has_size : (tags : TagTable) (type : PlainType) → has_no_size tags type �
 has_size tags type e = grind (arith, is_none, option_map, false, true)
 
 with_member_rises : (line : ℕ) (name : Option (List ℕ)) (type : PlainType) (k : Known) (list : d.Members) → MembersWhole k list → Whole k type → is_some (layout_of k type) ≡ true → Led (MembersWhole k) (with_member line name type list)
-with_member_rises line None type k list m w s = led_ok (MembersWhole k) m
-with_member_rises line (Some name) type k list m w s = led_unless (MembersWhole k) (d.has_member name list) DeclaredTwice line (λ t. led_ok (MembersWhole k) (members_push k list (name, type) m w s))
+with_member_rises line name type k list m w s = search (arith, led_ok, led_unless, members_push) fits 100
 
 members_sorted_push : (made : List TagInfo) (ms : d.Members) (m : List ℕ × PlainType) → MembersSorted made ms → SortedType made m.1 → MembersSorted made (ms ++ m ∷ [])
 members_sorted_push made [] m h s = (s, tt)
 members_sorted_push made (x ∷ ms) m h s = (h.0, members_sorted_push made ms m h.1 s)
 
 with_member_sorted : (line : ℕ) (name : Option (List ℕ)) (type : PlainType) (made : List TagInfo) (list : d.Members) → MembersSorted made list → SortedType made type → Led (MembersSorted made) (with_member line name type list)
-with_member_sorted line None type made list m s = led_ok (MembersSorted made) m
-with_member_sorted line (Some name) type made list m s = led_unless (MembersSorted made) (d.has_member name list) DeclaredTwice line (λ t. led_ok (MembersSorted made) (members_sorted_push made list (name, type) m s))
+with_member_sorted line name type made list m s = search (arith, led_ok, led_unless, members_sorted_push) fits 100
 
 member_rises : (past : Context) (line : ℕ) (name : Option (List ℕ)) (type : PlainType) (list : d.Members) (c : Context) → Solid c → Whole (K c) type → MembersWhole (K c) list → (Sorts past → SortedType c.tags.made type) → (Sorts past → MembersSorted c.tags.made list) → Led (M past c) (member line name type list c)
 member_rises past line name type list c h w m st sm = search (arith, led_unless, led_after, led_ok, rises_refl, with_member_rises, has_size, with_member_sorted)
@@ -259,12 +245,10 @@ abbrev Keeps : d.Members → d.Members → Type 0
 Keeps list more = more ≡ [] → list ≡ []
 
 with_member_keeps : (line : ℕ) (name : Option (List ℕ)) (type : PlainType) (list more : d.Members) → with_member line name type list ≡ Ok more → Keeps list more
-with_member_keeps line None type list more q e = ok_same list more q ∙ e
-with_member_keeps line (Some name) type list more q e = search (arith, append_some, ok_same, behind_test)
+with_member_keeps line name type list more q e = search (arith, ok_same, append_some, behind_test) fits 100
 
 with_member_some : (line : ℕ) (name : Option (List ℕ)) (type : PlainType) (list more : d.Members) → is_some name ≡ true → with_member line name type list ≡ Ok more → more ≡ [] → ⊥
-with_member_some line None type list more s q e = cc
-with_member_some line (Some name) type list more s q e = search (arith, append_some, ok_same, behind_test)
+with_member_some line name type list more s q e = search (arith, append_some, ok_same, behind_test) fits 100
 
 member_is : (line : ℕ) (name : Option (List ℕ)) (type : PlainType) (list : d.Members) (c : Context) (m : Context × d.Members) → member line name type list c ≡ Ok m → with_member line name type list ≡ Ok m.1
 member_is line name type list c m q = search (arith, behind_test, came, ok_same)
@@ -308,8 +292,7 @@ enumerator_rises : (line : ℕ) (name : List ℕ) (value : ℤ) (c : Context) �
 enumerator_rises line name value c h = search (arith, led_after, led_ok, declared_rises, wrapped_number)
 
 enum_rises : (line : ℕ) (name : Option (List ℕ)) (c : Context) → Solid c → Led (T c) (enum_named line name c)
-enum_rises line None c h = led_ok (T c) (rises_refl c h, tt, λ ks. tt)
-enum_rises line (Some name) c h = search (arith, led_unless, led_ok, named_rises)
+enum_rises line name c h = search (arith, led_ok, rises_refl, led_unless, named_rises) fits 100
 
 -- scopes of parameters
 
@@ -317,18 +300,7 @@ pub entered_solid : (c : Context) → Solid c → Solid (entered c)
 entered_solid c h = record { made = h.made; names = entered_fit (NamedWhole (K c)) (NamedWhole (K c)) c.scopes h.names; list = h.list; memory = h.memory; result = h.result; statics = h.statics; functions = h.functions }
 
 left_params_rises : (c x : Context) → Rises (entered c) x → Rises c (left_params x)
-left_params_rises c x p = record {
-  solid = record { made = p.solid.made; names = left_fit (NamedWhole (K x)) (NamedWhole (K x)) x.scopes p.solid.names; list = first_fits (NamedWhole (K x)) x.scopes.inner p.solid.names.inner; memory = p.solid.memory; result = p.solid.result; statics = p.solid.statics; functions = p.solid.functions };
-  more = p.more;
-  kinds = record {
-    made = p.kinds.made;
-    sorts = λ ks. let k = p.kinds.sorts (record { names = entered_fit (SortedName c.tags.made) (SortedName c.tags.made) c.scopes ks.names; list = ks.list; bodies = ks.bodies }) in
-        record { names = left_fit (SortedName x.tags.made) (SortedName x.tags.made) x.scopes k.names; list = first_fits (SortedName x.tags.made) x.scopes.inner k.names.inner; bodies = k.bodies };
-  };
-  code = p.code;
-  cases = p.cases;
-  walked = p.walked;
-}
+left_params_rises c x p = search (arith, left_fit, first_fits, entered_fit) fits 100
 
 no_params : (c : Context) → Solid c → Rises c (record c { params = [] })
 no_params c h = record { solid = record { made = h.made; names = h.names; list = λ name v e. cc; memory = h.memory; result = h.result; statics = h.statics; functions = h.functions }; more = extends_refl (K c); kinds = record { made = λ i u e. e; sorts = λ ks. record { names = ks.names; list = none_fits (SortedName c.tags.made); bodies = ks.bodies } }; code = λ k. k; cases = λ k. k; walked = λ k. k }

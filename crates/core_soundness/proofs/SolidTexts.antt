@@ -6,7 +6,7 @@ use Rattle.std.specs.List.{flat_map}
 use Rattle.core_soundness.proofs.Words.Trees.{name_of, Tree, Trees, At, Node, none, ◌▹◌}
 use Rattle.core_soundness.proofs.Words.Types.{Known, array_layout, number_layout, TagTable, PlainType, Void, Function, IntType, built_ins, numbered_from, line_of, promoted, unconverted, Checked, then, named_in, with_layers, Operand, Number, is_void, is_scalar, is_function, BuiltIn, Operands, Assignment, LeftOut, DeclaredTwice}
 use Rattle.core_soundness.proofs.Words.Core.{block_size, IsLayoutOfType, IsNumber, EachFunc, EachStatement, atom_numbers, element_layouts, HasNumbers, given, operands, Core, Func, Mem, Static, Atom, Stm, StmKind, Enter, Leave, Return, Jump, Zero, Loop, Case, Add, Sub, Off, Diff, Copy, Clear, Malloc, Calloc, Realloc}
-use Rattle.core_soundness.proofs.Words.Elaborating.{addressed_in, Here, Code, left, Context, Variable, Walked, scoped, entered, emit, here, new_label, with_labels, with_pieces, first_context, Piece, Does, Found, atom_in, valued, convert, convert_integer, tested_value, code_line, unused, function_number, declared_function, specs, layers, constant, walked, elaborated, found, begun, answer_of, is_defined, body_begun, last_answer, body_ended, body, defined, named_definition, definition, external, externals, opened, closed, function_of, variable_static, literal_static, core_of, Numbers, atom_by, numbered, body_of, numbers_of, Around, around_body, below, in_loop, in_switch, in_delay, leaves, leave_to, evaluated, maybe_evaluated, condition, leaves_if_zero, maybe_leaves, apart, behind, return_of, return_from, case_of, cased, defaulted, switch_operand_of, switch_operand, no_cases, looped, for_start, statement, items, dispatch, does, cases_of}
+use Rattle.core_soundness.proofs.Words.Elaborating.{addressed_in, Here, Code, left, Context, Variable, Walked, scoped, entered, emit, here, new_label, with_labels, with_pieces, first_context, Piece, Does, Found, atom_in, valued, convert, convert_integer, tested_value, code_line, unused, function_number, declared_function, specs, layers, constant, walked, elaborated, found, begun, answer_of, is_defined, body_begun, last_answer, body_ended, body, named_definition, definition, external, externals, opened, closed, function_of, variable_static, literal_static, core_of, Numbers, atom_by, numbered, body_of, numbers_of, Around, around_body, below, in_loop, in_switch, in_delay, leaves, leave_to, evaluated, maybe_evaluated, condition, leaves_if_zero, maybe_leaves, apart, behind, return_from, case_of, cased, defaulted, switch_operand_of, switch_operand, no_cases, looped, for_start, statement, items, dispatch, does, cases_of}
 use Rattle.core_soundness.proofs.Words.Facts.{HasLayouts, HasRanges, KindIn, AtomIn, AtomsIn, PiecesIn, IsStep, MemsLaid, VariablesLaid, WalkedLaid, Solid, NamedWhole, Whole, TableWhole, Written, AllWritten, AreWritten}
 use Rattle.c_types.specs.Types as types
 use Rattle.c_types.specs.declared.types.IntType.TheVariants as i
@@ -111,26 +111,23 @@ unfolding AllWritten
 maybe_leaves_rises line label none c h w = led_ok (Rises c) (rises_refl c h)
 maybe_leaves_rises line label (e ▹ rest) c h w = if_zero_rises line label e c h w.0
 
-return_of_rises : (line delays : ℕ) (e : Tree) (type : PlainType) (c : Context) → Solid c → Written e → Whole (K c) type → Led (Rises c) (return_of line delays e type c)
-return_of_rises line delays e type c h w t =
-    let begin = opened e c in
-    led_after (Rises c) (valued e (found e type begin))
-    (λ d q. let v = scalar_value e line type c d h w t q in
-    let x = convert line begin.code type d.1.typed (atom_in d.1) d.0 in
-    let k = rises_trans c x.0 (closed e x.0) v.rises (closed_rises e x.0 v.rises.solid) in
-    let f = leaves line delays (closed e x.0) in
-    let z = rises_trans c (closed e x.0) f k (leaves_rise delays line (closed e x.0) k.solid) in
-    led_unless (Rises c) (is_void type) Assignment line
-    (λ b. led_barred (Rises c) (unconverted type d.1.typed) line
-    (led_ok (Rises c) (coded_rises c f (emit line (Return (Some x.1)) f).code z (λ g. in_emit line (Return (Some x.1)) f (z.code g) ((v.fits g, tt), tt))))))
-
 return_rises : (line delays : ℕ) (es : Trees) (c : Context) → Solid c → AllWritten es → Led (Rises c) (return_from line delays es c)
 unfolding AllWritten
 return_rises line delays none c h w =
     let r = leaves_rise delays line c h in
     led_unless (Rises c) (not (is_void c.running.answer)) Assignment line
     (λ x. led_ok (Rises c) (record { solid = r.solid; more = r.more; kinds = r.kinds; code = λ g. in_emit line (Return None) (leaves line delays c) (r.code g) (tt, tt); cases = r.cases; walked = r.walked }))
-return_rises line delays (e ▹ rest) c h w = return_of_rises line delays e c.running.answer c h w.0 h.result
+return_rises line delays (e ▹ rest) c h w =
+    let begin = opened e c in
+    led_after (Rises c) (valued e (found e c.running.answer begin))
+    (λ d q. let v = scalar_value e line c.running.answer c d h w.0 h.result q in
+    let x = convert line begin.code c.running.answer d.1.typed (atom_in d.1) d.0 in
+    let k = rises_trans c x.0 (closed e x.0) v.rises (closed_rises e x.0 v.rises.solid) in
+    let f = leaves line delays (closed e x.0) in
+    let z = rises_trans c (closed e x.0) f k (leaves_rise delays line (closed e x.0) k.solid) in
+    led_unless (Rises c) (is_void c.running.answer) Assignment line
+    (λ b. led_barred (Rises c) (unconverted c.running.answer d.1.typed) line
+    (led_ok (Rises c) (coded_rises c f (emit line (Return (Some x.1)) f).code z (λ g. in_emit line (Return (Some x.1)) f (z.code g) ((v.fits g, tt), tt))))))
 
 -- switches
 
@@ -150,8 +147,7 @@ case_rises : (line : ℕ) (a : Around) (ty : IntType) (place : ℕ) (v : ℤ) (l
 case_rises line a ty place v label c h = search (arith, led_unless, not, led_ok, extends_refl, kinds_refl, cases_put, wrapped_number)
 
 cased_rises : (line : ℕ) (a : Around) (o : Option IntType) (place : ℕ) (v : ℤ) (label : ℕ) (c : Context) → Solid c → Led (Rises c) (cased line a o place v label c)
-cased_rises line a None place v label c h = led_refused (Rises c)
-cased_rises line a (Some ty) place v label c h = case_rises line a ty place v label c h
+cased_rises line a o place v label c h = search (arith, led_refused, case_rises) fits 100
 
 defaulted_rises : (line : ℕ) (a : Around) (label : ℕ) (c : Context) → Solid c → Led (Rises c) (defaulted line a label c)
 defaulted_rises line a label c h = search (arith, not, led_unless, led_ok, extends_refl, kinds_refl)
@@ -288,20 +284,13 @@ pub begun_rises : (line : ℕ) (addressed : List ℕ) (c : Context) → Solid c 
 begun_rises line addressed c h = search (arith, with_code, extends_refl, kinds_refl)
 
 answer_whole : (k : Known) (type : PlainType) → Whole k type → Whole k (answer_of type)
-answer_whole k (Function answer params) h = h.0
-answer_whole k other h = tt
+answer_whole k type h = search arith fits 100
 
 body_begun_rises : (index : ℕ) (type : PlainType) (c : Context) → Solid c → Whole (K c) type → Rises c (body_begun index type c)
-body_begun_rises index type c h w = with_code c _ (record {
-  solid = record { made = h.made; names = record { file = h.names.file; inner = (h.list, tt) }; list = λ name v e. cc; memory = h.memory; result = answer_whole (K c) type w; statics = h.statics; functions = h.functions };
-  more = extends_refl (K c);
-  kinds = record { made = λ i u e. e; sorts = λ ks. record { names = record { file = ks.names.file; inner = (ks.list, tt) }; list = none_fits (SortedName c.tags.made); bodies = ks.bodies } };
-}) (λ g. g) (λ g. g) (λ g. g)
+body_begun_rises index type c h w = search (arith, with_code, answer_whole, extends_refl, none_fits) fits 100
 
 last_in : (type : PlainType) → AtomsIn (given (last_answer type))
-last_in Void = tt
-last_in (types.Pointer target) = (tt, tt)
-last_in other = (zero_number, tt)
+last_in type = search (arith, zero_number) fits 100
 
 walked_in : (xs : List Walked) (x : Walked) → WalkedIn xs → PiecesIn x.code.pieces → WalkedIn (xs ++ x ∷ [])
 walked_in [] x h k = (k, tt)
@@ -316,8 +305,9 @@ body_rises line name type (Node f.Body (Node f.Items parts ▹ At end ▹ none))
     led_after (Rises c) (items parts around_body c) (λ d q. let r = items_rise parts around_body c h w.1.0.1 d q in on_led c d _ r (body_ended_rises line name type end d r.solid (r.code g)))
 body_rises line name type tree c h g w = led_refused (Rises c)
 
-defined_rises : (line : ℕ) (name : List ℕ) (type : PlainType) (tree : Tree) (c : Context) → Solid c → In c → Whole (K c) type → Written tree → Led (Rises c) (defined line name type tree c)
-defined_rises line name type tree c h g v w =
+named_rises : (line : ℕ) (name : Option (List ℕ)) (type : PlainType) (tree : Tree) (c : Context) → Solid c → In c → Whole (K c) type → Written tree → Led (Rises c) (named_definition line name type tree c)
+named_rises line None type tree c h g v w = led_refused (Rises c)
+named_rises line (Some name) type tree c h g v w =
     let index = function_number name c in
     led_unless (Rises c) (not (is_function type)) LeftOut line
     (λ x. led_after (Rises c) (declared_function line name type c)
@@ -325,10 +315,6 @@ defined_rises line name type tree c h g v w =
     let y = body_begun index type d in
     let ry = rises_trans c d y r (body_begun_rises index type d r.solid (whole_stays type (K c) (K d) r.more v)) in
     led_unless (Rises c) (is_defined (slice_get d.functions index)) DeclaredTwice line (λ z. on_led c y _ ry (body_rises line name type tree y ry.solid (ry.code g) w))))
-
-named_rises : (line : ℕ) (name : Option (List ℕ)) (type : PlainType) (tree : Tree) (c : Context) → Solid c → In c → Whole (K c) type → Written tree → Led (Rises c) (named_definition line name type tree c)
-named_rises line None type tree c h g v w = led_refused (Rises c)
-named_rises line (Some name) type tree c h g v w = defined_rises line name type tree c h g v w
 
 definition_rises : (line : ℕ) (words declarator tree : Tree) (c : Context) → Solid c → In c → Written words → Written declarator → Written tree → Led (Rises c) (definition line words declarator tree c)
 definition_rises line words declarator tree c h g u v w =
@@ -466,10 +452,7 @@ kind_numbers n kind h = record { numbers = numbers_all n (operands kind) [] h.0 
 
 kind_elements : (n : Numbers) (kind : StmKind) → KindIn kind → All IsLayoutOfType (element_layouts (numbered n kind))
 unfolding numbered
-kind_elements n (Malloc r k t) h = one_all IsLayoutOfType t h.1.1
-kind_elements n (Calloc r m k t) h = one_all IsLayoutOfType t h.1.1
-kind_elements n (Realloc r p k t) h = one_all IsLayoutOfType t h.1.1
-kind_elements n kind h = All-nil IsLayoutOfType
+kind_elements n kind h = search (arith, one_all) fits 100
 
 -- the kind of each statement of a body
 kind_at : (P : StmKind → Type 0) (n : Numbers) → ((kind : StmKind) → KindIn kind → P (numbered n kind)) → (pieces : List Piece) → PiecesIn pieces → EachStatement (body_of n pieces) (λ point stm. P stm.kind)

@@ -1,5 +1,5 @@
 -- The sorts of operands and results.
-use Rattle.std.proofs.Common.{◌≡◌, ◌≤◌, ℕ, List, [], ◌∷◌, ◌++◌, slice_get, Option, Some, None, option_map, refl, sym, ap, ◌∙◌, subst, arith, ◌<◌, ◌+◌, max, Bool, true, false, cond, Ok, pos, ◌⊎◌, inl, inr}
+use Rattle.std.proofs.Common.{◌≡◌, ◌≤◌, ℕ, List, [], ◌∷◌, ◌++◌, slice_get, Option, Some, None, option_map, refl, sym, ◌∙◌, subst, arith, ◌<◌, ◌+◌, max, Bool, true, false, cond, Ok, pos, ◌⊎◌}
 use Rattle.core_soundness.proofs.Words.Trees.{Tree, BinaryOp, UnaryOp}
 use Rattle.core_soundness.proofs.Words.Types.{TagTable, PlainType, kind_of, IntType, line_of, promoted, common_type, Refusal, Checked, unless, named_in, result_type, barred, moving, immovable, beside_pointer, sum_types, difference_types, order_types, equal_types, integer_types, binary, PlainTyped, Operand, Number, PointerTo, Neither, operand, held, read, is_scalar, has_no_size, value, int, is_null_constant, TypeKind}
 use Rattle.core_soundness.proofs.Words.Core.{Sort, Integer, Pointer, sort_of, Reg as Register, Atom, CmpOp, StmKind, Set, Un, Bin, Cmp, Add, Sub, Off, Diff, Pcmp, Test, Load, Loadp, Store, Storep, Call, Printf, Return}
@@ -39,8 +39,7 @@ pub grew_trans : (u v w : World) → Grew u v → Grew v w → Grew u w
 grew_trans u v w x y = search arith
 
 local_grew : (w v : World) (k : ℕ) (sort : Sort) (o : Option Register) → slice_get w.locals k ≡ o → ((reg : Register) → o ≡ Some reg → slice_get v.locals k ≡ Some reg) → option_map sort_of o ≡ Some sort → local_sort v k ≡ Some sort
-local_grew w v k sort None e h q = cc
-local_grew w v k sort (Some reg) e h q = ap (λ (x : Option Register). option_map sort_of x) (h reg refl) ∙ q
+local_grew w v k sort o e h q = search (arith, option_map) fits 100
 
 pub register_grew : (w v : World) (sort : Sort) (r : ℕ) → Grew w v → IsRegister w sort r → IsRegister v sort r
 register_grew w v sort r g (is_local k e h) = is_local k e (local_grew w v k sort (slice_get w.locals k) refl (λ reg q. g.locals k reg q) h)
@@ -53,15 +52,11 @@ object_grew w v i g (is_literal k e h) = is_literal k e (omega (arith, h, g.lite
 
 pub holds_grew : (w v : World) (sort : Sort) (a : Atom) → Grew w v → Holds w sort a → Holds v sort a
 holds_grew w v sort (atom.Reg r) g h = register_grew w v sort r g h
-holds_grew w v sort (atom.Static i) g h = (h.0, object_grew w v i g h.1)
-holds_grew w v sort (atom.Mem m) g h = (h.0, omega (arith, h.1, g.mems))
-holds_grew w v sort other g h = h
+holds_grew w v sort a g h = search (arith, object_grew) fits 100
 
 pub all_grew : (w v : World) (sorts : List Sort) (atoms : List Atom) → Grew w v → HoldAll w sorts atoms → HoldAll v sorts atoms
-all_grew w v [] [] g h = tt
-all_grew w v [] (a ∷ atoms) g h = absurd h
-all_grew w v (sort ∷ sorts) [] g h = absurd h
 all_grew w v (sort ∷ sorts) (a ∷ atoms) g h = (holds_grew w v sort a g h.0, all_grew w v sorts atoms g h.1)
+all_grew w v sorts atoms g h = search arith fits 100
 
 pub receives_grew : (w v : World) (result : Option Sort) (r : Option ℕ) → Grew w v → Receives w result r → Receives v result r
 receives_grew w v None None g h = tt
@@ -82,10 +77,7 @@ fits_grew w v (Return a) g h = absurd h
 fits_grew w v kind g h = search (register_grew, holds_grew, all_grew, receives_grew)
 
 pub answer_grew : (w v : World) (answer : Option Sort) (a : Option Atom) → Grew w v → FitsAnswer w answer a → FitsAnswer v answer a
-answer_grew w v None None g h = tt
-answer_grew w v None (Some a) g h = absurd h
-answer_grew w v (Some sort) None g h = absurd h
-answer_grew w v (Some sort) (Some a) g h = holds_grew w v sort a g h
+answer_grew w v answer a g h = search (arith, holds_grew) fits 100
 
 fits_in_grew : (answer : Option Sort) (w v : World) (kind : StmKind) → Grew w v → FitsIn answer w kind → FitsIn answer v kind
 fits_in_grew answer w v (Return a) g h = answer_grew w v answer a g h
@@ -93,8 +85,7 @@ fits_in_grew answer w v kind g h = fits_grew w v kind g h
 
 -- a statement that fits is no return
 pub fits_any : (answer : Option Sort) (w : World) (kind : StmKind) → Fits w kind → FitsIn answer w kind
-fits_any answer w (Return a) h = absurd h
-fits_any answer w kind h = h
+fits_any answer w kind h = search arith fits 100
 
 pub pieces_grew : (answer : Option Sort) (w v : World) (pieces : List Piece) → Grew w v → PiecesFit answer w pieces → PiecesFit answer v pieces
 pieces_grew answer w v [] g h = tt
@@ -224,19 +215,13 @@ goes_forgotten b c g = search (arith, pieces_grew)
 -- the sorts of what conversions and operators give
 
 pub held_as_grew : (w v : World) (o : Operand) (a : Atom) → Grew w v → HeldAs w o a → HeldAs v o a
-held_as_grew w v (Number ty) a g h = holds_grew w v Integer a g h
-held_as_grew w v (PointerTo target) a g h = holds_grew w v Pointer a g h
-held_as_grew w v Neither a g h = tt
+held_as_grew w v o a g h = search (arith, holds_grew) fits 100
 
 pub held_grew : (w v : World) (type : PlainType) (a : Atom) → Grew w v → Held w type a → Held v type a
 held_grew w v type a g h = held_as_grew w v (operand type) a g h
 
 pub stands_as_grew : (w v : World) (is_place : Bool) (type : PlainType) (spot : Spot) → Grew w v → StandsAs w is_place type spot → StandsAs v is_place type spot
-stands_as_grew w v true type (Local r) g h = (h.0, held_grew w v type (atom.Reg r) g h.1)
-stands_as_grew w v true type (Memory a) g h = holds_grew w v Pointer a g h
-stands_as_grew w v false type (Value a) g h = held_grew w v type a g h
-stands_as_grew w v false type Empty g h = h
-stands_as_grew w v others type other g h = absurd h
+stands_as_grew w v is_place type spot g h = search (arith, held_grew, holds_grew) fits 100
 
 pub stands_grew : (w v : World) (e : Found) → Grew w v → Stands w e → Stands v e
 stands_grew w v e g h = stands_as_grew w v e.typed.is_place e.typed.type e.spot g h
@@ -287,8 +272,7 @@ comes_lands c z h = record { goes = h.goes; stands = value_stands (world z.0) z.
 -- reading
 
 no_record : (G : Type 0) (k : Bool) (one other : Refusal) (typed : PlainTyped) → cond k (bad one) (bad other) ≡ good typed → G
-no_record G true one other typed e = never G one typed e
-no_record G false one other typed e = never G other typed e
+no_record G k one other typed e = search (arith, never) fits 100
 
 reads_place : (line at : ℕ) (tags : TagTable) (type : PlainType) (spot : Spot) (c : Context) (typed : PlainTyped) → 1 ≤ line → StandsAs (world c) true type spot → held at tags type ≡ Ok typed → Brings c typed.type (read_spot line type spot c) × (typed.is_place ≡ false)
 unfolding read_spot
@@ -315,13 +299,11 @@ reads_place line at tags other rest c typed l h e = absurd h
 -- a value is read as it is
 value_read : (line : ℕ) (type : PlainType) (a : Atom) (c : Context) → read_spot line type (Value a) c ≡ (c, a)
 unfolding read_spot
-value_read line types.Void a c = refl
-value_read line other a c = refl
+value_read line type a c = search arith fits 100
 
 empty_read : (line : ℕ) (type : PlainType) (c : Context) → read_spot line type Empty c ≡ (c, atom.Null)
 unfolding read_spot
-empty_read line types.Void c = refl
-empty_read line other c = refl
+empty_read line type c = search arith fits 100
 
 reads_value : (line : ℕ) (type : PlainType) (spot : Spot) (c : Context) → StandsAs (world c) false type spot → Brings c type (read_spot line type spot c)
 reads_value line type (Value a) c h = subst (Brings c type) (sym (value_read line type a c)) (record { goes = goes_refl c; held = h })
@@ -359,8 +341,7 @@ old_brings line e spot c l s h = by e.type s h
 -- conversions
 
 pub gives_cond : (c : Context) (sort : Sort) (test : Bool) (x y : Context × Atom) → Gives c sort x → Gives c sort y → Gives c sort (cond test x y)
-gives_cond c sort true x y g h = g
-gives_cond c sort false x y g h = h
+gives_cond c sort test x y g h = search arith fits 100
 
 pub gives_here : (c : Context) (sort : Sort) (a : Atom) → Holds (world c) sort a → Gives c sort (c, a)
 gives_here c sort a h = record { goes = goes_refl c; holds = h }
@@ -368,10 +349,7 @@ gives_here c sort a h = record { goes = goes_refl c; holds = h }
 pub integer_converted : (line : ℕ) (ty source : IntType) (a : Atom) (c : Context) → 1 ≤ line → Holds (world c) Integer a → Gives c Integer (convert_integer line ty source a c)
 unfolding convert_integer
 integer_converted line ty source (atom.Int k) c l h = record { goes = goes_refl c; holds = refl }
-integer_converted line ty source (atom.Reg r) c l h = search (arith, gives_cond, gives_here, gives_integer, holds_grew)
-integer_converted line ty source atom.Null c l h = search (arith, gives_cond, gives_here, gives_integer, holds_grew)
-integer_converted line ty source (atom.Static s) c l h = search (arith, gives_cond, gives_here, gives_integer, holds_grew)
-integer_converted line ty source (atom.Mem m) c l h = search (arith, gives_cond, gives_here, gives_integer, holds_grew)
+integer_converted line ty source a c l h = search (arith, gives_cond, gives_here, gives_integer, holds_grew) fits 100
 
 -- a value of the second sort of operand converts to the first
 abbrev pub Converting : Operand → Operand → Type 0
@@ -427,16 +405,13 @@ write_goes line type other a c l s h = absurd s
 -- what a check that was passed says
 
 pub passed : {A : Type 0} (test : Bool) (kind : TypeKind) (line : ℕ) (x y : A) → unless test kind line (Ok x) ≡ Ok y → x ≡ y
-passed true kind line x y e = never (x ≡ y) _ y e
-passed false kind line x y e = ok_same x y e
+passed test kind line x y e = search (arith, never, ok_same) fits 100
 
 pub kept_test : {A : Type 0} (test : Bool) (kind : TypeKind) (line : ℕ) (r : Checked A) (y : A) → unless test kind line r ≡ Ok y → test ≡ false
-kept_test true kind line r y e = never (true ≡ false) _ y e
-kept_test false kind line r y e = refl
+kept_test test kind line r y e = search (arith, never) fits 100
 
 pub unbarred : {A : Type 0} (o : Option TypeKind) (line : ℕ) (r : Checked A) (y : A) → barred o line r ≡ Ok y → (o ≡ None) × (r ≡ Ok y)
-unbarred None line r y e = (refl, e)
-unbarred (Some kind) line r y e = never _ _ y e
+unbarred o line r y e = search (arith, never) fits 100
 
 pub moved_is : (line : ℕ) (tags : TagTable) (target : PlainType) (x y : PlainTyped) → moving line tags target x ≡ Ok y → x ≡ y
 moved_is line tags target x y e = ok_same x y (unbarred (immovable tags target) line (good x) y e).1
@@ -584,12 +559,10 @@ module _ (line : ℕ) (l : 1 ≤ line) (b c : Context) (g : Goes b c) where
       (gives_on b c Integer _ g (gives_integer line (λ r. Pcmp test r atom.Null q) c l (λ v r gv i. (i, refl, holds_grew (world c) v Pointer q gv h))))
 
   left_number : (s : IntType) (t : Operand) (p : Atom) → (IsPointed t → ⊥) → Left b (Number s) t p → Holds (world b) Integer p
-  left_number s t p n (inl h) = h
-  left_number s t p n (inr h) = absurd (n h.0)
+  left_number s t p n h4 = search arith fits 100
 
   left_pointer : (target : PlainType) (t : Operand) (p : Atom) → Left b (PointerTo target) t p → Holds (world b) Pointer p
-  left_pointer target t p (inl h) = h
-  left_pointer target t p (inr h) = subst (Holds (world b) Pointer) (sym h.1) refl
+  left_pointer target t p h3 = search arith fits 100
 
   pub equal_makes : (op : BinaryOp) (test : CmpOp) (x y typed : PlainTyped) (s t : Operand) (p q : Atom) → working op ≡ Compares test → equal_types op line x y s t ≡ Ok typed → Left b s t p → HeldAs (world c) t q → Makes b typed (combine line op b.code s t p q c)
   equal_makes op test x y typed (Number s) (Number t) p q w e h k = number_made (result_type op s t) typed _ _ refl refl (ok_same _ typed e) (numbers op s t p q (left_number s (Number t) p (λ n. n) h) k)
@@ -599,12 +572,10 @@ module _ (line : ℕ) (l : 1 ≤ line) (b c : Context) (g : Goes b c) where
   equal_makes op test x y typed other rest p q w e h k = never _ _ typed e
 
   left_held : (op : BinaryOp) (s t : Operand) (p : Atom) → tells_equal op ≡ false → LeftOf b op s t p → HeldAs (world b) s p
-  left_held op s t p n (inl h) = h
-  left_held op s t p n (inr h) = let clash : false ≡ true = sym n ∙ h.0 in cc
+  left_held op s t p n h5 = search arith fits 100
 
   left_of : (op : BinaryOp) (s t : Operand) (p : Atom) → LeftOf b op s t p → Left b s t p
-  left_of op s t p (inl h) = inl h
-  left_of op s t p (inr h) = inr (h.1, h.2)
+  left_of op s t p h4 = search arith fits 100
 
   pub binary_makes : (op : BinaryOp) (tags : TagTable) (x y typed : PlainTyped) (p q : Atom) → IsBetween op → binary line op tags x y ≡ Ok typed → LeftOf b op (operand x.type) (operand y.type) p → Held (world c) y.type q → Makes b typed (combine line op b.code (operand x.type) (operand y.type) p q c)
   unfolding working

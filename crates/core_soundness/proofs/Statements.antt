@@ -175,12 +175,10 @@ do_walks a line c g t fit w test =
 -- switches
 
 ways_right : (x y : Option (ℕ × ℕ)) (l : ℕ) → IsWay (ways_of y) l → IsWay (ways_of x ++ ways_of y) l
-ways_right None y l h = h
-ways_right (Some x) y l h = inr h
+ways_right x y l h = search arith fits 100
 
 leads_right : (m : Marks) (end : ℕ) (x y : Option (ℕ × ℕ)) → Leads m end (ways_of x ++ ways_of y) → Leads m end (ways_of y)
-leads_right m end None y h = h
-leads_right m end (Some x) y h = h.1
+leads_right m end x y h = search arith fits 100
 
 switch_labels : (a : Around) (block : Bool) (end : ℕ) (ty : IntType) (c g : Context) (w : Walks (in_switch block end ty a) (no_cases (apart c)) g) (l : ℕ) → HasLabel l g.running → Among l w.entries
 switch_labels a block end ty c g w l h =
@@ -192,8 +190,7 @@ switch_labels a block end ty c g w l h =
     none_is_none k e = cc
 
 target_is : (end : ℕ) (otherwise : Option ℕ) (s : List ℕ) → ((l : ℕ) → otherwise ≡ Some l → Among l s) → (default_or end otherwise ≡ end) ⊎ Among (default_or end otherwise) s
-target_is end None s h = inl refl
-target_is end (Some l) s h = inr (h l refl)
+target_is end otherwise s h = search arith fits 100
 
 switch_walks : (a : Around) (line : ℕ) (ty : IntType) (x : Atom) (c t g : Context) → Fits c.code.labels a → Passes (entered (with_labels 1 c)) t
     → Walks (in_switch true c.code.labels ty a) (no_cases (apart t)) g → Walks a c (left (switched line c.code.labels x t g))
@@ -305,19 +302,13 @@ leave_to_walks line a (Some exit) c s h =
     (λ m p lead. let st = facts.stands m (p + (a.delays - exit.1) + 1) lead in (st.depth, omega (arith, st.ahead refl))))
 
 break_facts : (x y : Option (ℕ × ℕ)) (n l : ℕ) → AreEarlier l (ways_of x ++ ways_of y) → IsOutside n x → (e : ℕ × ℕ) → x ≡ Some e → Leave_to (ways_of x ++ ways_of y) n l e
-break_facts None y n l early out e is = cc
-break_facts (Some z) y n l early out e is =
-    let same : z ≡ e = some_same z e is in
-    subst (Leave_to (way_on z.0 z.1 ∷ ways_of y) n l) same (record { is = inl refl; early = early.0; outside = out; stands = λ m end lead. lead.0 })
+break_facts x y n l early out e is = search (arith, some_same, way_on, ways_of) fits 100
 
 only_facts : (y : Option (ℕ × ℕ)) (n l : ℕ) → AreEarlier l (ways_of y) → IsOutside n y → (e : ℕ × ℕ) → y ≡ Some e → Leave_to (ways_of y) n l e
 only_facts y n l early out e is = search (arith, break_facts, append-nil, ways_of)
 
 continue_facts : (x y : Option (ℕ × ℕ)) (n l : ℕ) → AreEarlier l (ways_of x ++ ways_of y) → IsOutside n y → (e : ℕ × ℕ) → y ≡ Some e → Leave_to (ways_of x ++ ways_of y) n l e
-continue_facts None y n l early out e is = only_facts y n l early out e is
-continue_facts (Some x) y n l early out e is =
-    let f = only_facts y n l early.1 out e is in
-    record { is = inr f.is; early = f.early; outside = f.outside; stands = λ m end lead. f.stands m end lead.1 }
+continue_facts x y n l early out e is = search (arith, only_facts) fits 100
 
 -- what stands first in a `for`
 for_start_passes : (line : ℕ) (tree : Tree) (c : Context) → Safe c.scopes → Led (Passes c) (for_start line tree c)

@@ -3,9 +3,8 @@ use Rattle.std.proofs.Common.{◌≡◌, ◌≤◌, ◌+◌, ◌-◌, ℕ, ℤ, 
 use Rattle.core_soundness.proofs.Words.Trees.{shape, is_scope, Tree, Trees, At, Node, none, ◌▹◌}
 use Rattle.core_soundness.proofs.Words.Types.{PlainType, Void, kind_of, IntType, line_of, promoted, unconverted, converts, Checked, then, unless, tail, Operand, Number, Neither, operand, is_void, is_scalar, LeftOut, Operands, Assignment, CaseTwice, StrayBreak}
 use Rattle.core_soundness.proofs.Words.Core.{wrapped, Sort, Integer, Atom, Jump, Zero, Case, Loop, Enter, Leave, Return}
-use Rattle.core_soundness.proofs.Words.Elaborating.{Taken, left_scope, taken, all_taken, Here, Context, entered, left, scoped, emit, here, new_label, with_labels, with_pieces, Found, atom_in, valued, convert, convert_integer, tested_value, unused, declaration, constant, found, opened, closed, Around, below, in_loop, in_switch, in_delay, has_case, leaves, leave_to, evaluated, maybe_evaluated, closed_atom, condition, leaves_if_zero, maybe_leaves, apart, returned, return_value, return_of, return_from, with_case, cased, defaulted, does, dispatch, switch_operand_of, switch_operand, no_cases, switched, looped, for_start, statement, items}
+use Rattle.core_soundness.proofs.Words.Elaborating.{Taken, left_scope, taken, all_taken, Here, Context, entered, left, scoped, emit, here, new_label, with_labels, with_pieces, Found, atom_in, valued, convert, convert_integer, tested_value, unused, declaration, constant, found, opened, closed, Around, below, in_loop, in_switch, in_delay, has_case, leaves, leave_to, evaluated, maybe_evaluated, closed_atom, condition, leaves_if_zero, maybe_leaves, apart, returned, return_value, return_from, with_case, cased, defaulted, does, dispatch, switch_operand_of, switch_operand, no_cases, switched, looped, for_start, statement, items}
 use Rattle.core_soundness.proofs.Words.Facts.{Spoken, AllSpoken, Written, AllWritten, World, world, Holds, HeldAs, Held, FitsAnswer, PiecesFit, NamesFit, result_sort}
-use Rattle.c_types.specs.Types as types
 use Rattle.c_tree.specs.Forms as f
 use Rattle.elaboration.specs.Addressed.{left as left_node}
 use Rattle.core_soundness.proofs.Formed.{Formed, AllFormed}
@@ -86,40 +85,34 @@ returned_runs answer line delays a c l g h =
     runs_trans answer c d _ r (return_fits answer line a d l r.fine (h (world d) k.grew))
 
 answer_held : (w : World) (answer : Option Sort) (type : PlainType) (a : Atom) → result_sort type ≡ answer → (operand type ≡ Neither → ⊥) → Held w type a → FitsAnswer w answer (Some a)
-answer_held w answer (types.Int ty) a e n h = subst (λ (o : Option Sort). FitsAnswer w o (Some a)) e h
-answer_held w answer (types.Pointer target) a e n h = subst (λ (o : Option Sort). FitsAnswer w o (Some a)) e h
-answer_held w answer other a e n h = absurd (n refl)
+answer_held w answer type a e n h = search arith fits 100
 
 never_neither : (type : PlainType) (e : Rattle.c_decls.specs.Typed.PlainTyped) → unconverted type e ≡ None → operand type ≡ Neither → ⊥
 never_neither type e u o = grind arith
 
-return_of_runs : (answer : Option Sort) (line delays : ℕ) (e : Tree) (type : PlainType) (c z : Context) → 1 ≤ line → Spoken c.scopes e → Fine c → result_sort type ≡ answer → return_of line delays e type c ≡ Ok z → Runs answer c z
-return_of_runs answer line delays e type c z l p g s q =
-    let begun = opened e c in
-    let d = came (valued e (found e type begun)) q in
-    let k = unbarred (unconverted type d.value.1.typed) line (return_value line delays e type begun.code d.value) z (behind_test (is_void type) Assignment line (converts line type d.value.1.typed (return_value line delays e type begun.code d.value)) z d.last) in
-    let v = evaluates e type c d.value p g.names d.is in
-    let x = convert line begun.code type d.value.1.typed (atom_in d.value.1) d.value.0 in
-    let cx = converted line begun type d.value.1.typed (atom_in d.value.1) d.value.0 l v.comes.goes v.comes.value.held in
-    let y = closed e x.0 in
-    let gy = closed_goes e x.0 v.line in
-    let gc : Goes c y = goes_trans c begun y v.begun (goes_trans begun x.0 y cx.goes gy) in
-    let held = cx.held (converting_of type d.value.1.typed k.0) in
-    let r = goes_runs answer c y g gc in
-    subst (Runs answer c) (ok_same (returned line delays (Some x.1) y) z k.1)
-    (runs_trans answer c y _ r (returned_runs answer line delays (Some x.1) y l r.fine
-    (λ w gw. answer_held w answer type x.1 s (never_neither type d.value.1.typed k.0) (Rattle.core_soundness.proofs.Sorting.held_grew (world x.0) w type x.1 (grew_trans (world x.0) (world y) w gy.grew gw) held))))
-
 void_answer : (w : World) (answer : Option Sort) (type : PlainType) → result_sort type ≡ answer → is_void type ≡ true → FitsAnswer w answer None
-void_answer w answer Void e v = subst (λ (o : Option Sort). FitsAnswer w o None) e tt
-void_answer w answer other e v = cc
+void_answer w answer type e v = search arith fits 100
 
 return_from_runs : (answer : Option Sort) (line delays : ℕ) (es : Trees) (c z : Context) → 1 ≤ line → AllSpoken c.scopes es → Fine c → result_sort c.running.answer ≡ answer → return_from line delays es c ≡ Ok z → Runs answer c z
 unfolding AllSpoken
 return_from_runs answer line delays none c z l p g s q =
     subst (Runs answer c) (ok_same (returned line delays None c) z (behind_test (not (is_void c.running.answer)) Assignment line (good (returned line delays None c)) z q))
     (returned_runs answer line delays None c l g (λ w gw. void_answer w answer c.running.answer s (not_false (is_void c.running.answer) (kept_test (not (is_void c.running.answer)) Assignment line (good (returned line delays None c)) z q))))
-return_from_runs answer line delays (e ▹ rest) c z l p g s q = return_of_runs answer line delays e c.running.answer c z l p.0 g s q
+return_from_runs answer line delays (e ▹ rest) c z l p g s q =
+    let begun = opened e c in
+    let d = came (valued e (found e c.running.answer begun)) q in
+    let k = unbarred (unconverted c.running.answer d.value.1.typed) line (return_value line delays e c.running.answer begun.code d.value) z (behind_test (is_void c.running.answer) Assignment line (converts line c.running.answer d.value.1.typed (return_value line delays e c.running.answer begun.code d.value)) z d.last) in
+    let v = evaluates e c.running.answer c d.value p.0 g.names d.is in
+    let x = convert line begun.code c.running.answer d.value.1.typed (atom_in d.value.1) d.value.0 in
+    let cx = converted line begun c.running.answer d.value.1.typed (atom_in d.value.1) d.value.0 l v.comes.goes v.comes.value.held in
+    let y = closed e x.0 in
+    let gy = closed_goes e x.0 v.line in
+    let gc : Goes c y = goes_trans c begun y v.begun (goes_trans begun x.0 y cx.goes gy) in
+    let held = cx.held (converting_of c.running.answer d.value.1.typed k.0) in
+    let r = goes_runs answer c y g gc in
+    subst (Runs answer c) (ok_same (returned line delays (Some x.1) y) z k.1)
+    (runs_trans answer c y _ r (returned_runs answer line delays (Some x.1) y l r.fine
+    (λ w gw. answer_held w answer c.running.answer x.1 s (never_neither c.running.answer d.value.1.typed k.0) (Rattle.core_soundness.proofs.Sorting.held_grew (world x.0) w c.running.answer x.1 (grew_trans (world x.0) (world y) w gy.grew gw) held))))
 
 -- switches
 
@@ -201,18 +194,10 @@ default_runs answer line a label c z g q =
     (record { grew = grew_refl (world c); fine = record { names = g.names; lined = g.lined }; fits = λ k. k; answer = refl; addressed = refl; outside = all_refl (tail c.scopes.inner); depth = refl; params = λ flat k. k; walked = refl })
 
 case_step : (line : ℕ) (a : Around) (o : Option IntType) (place : ℕ) (v : ℤ) (label : ℕ) (u : Taken) (c z : Context) → InStep u c → cased line a o place v label c ≡ Ok z → InStep u z
-case_step line a None place v label u c z s q = never _ _ z q
-case_step line a (Some ty) place v label u c z s q =
-    let value = wrapped (kind_of ty) v in
-    let last : Checked Context = good (with_case place value label c) in
-    subst (λ (x : Context). InStep u x) (passed (has_case value c) CaseTwice line (with_case place value label c) z (behind_test (not a.labelled) LeftOut line (unless (has_case value c) CaseTwice line last) z q)) s
+case_step line a o place v label u c z s q = search (arith, never, passed, behind_test) fits 100
 
 default_step : (line : ℕ) (a : Around) (label : ℕ) (u : Taken) (c z : Context) → InStep u c → defaulted line a label c ≡ Ok z → InStep u z
-default_step line a label u c z s q =
-    let d : Context = record c { running = record c.running { otherwise = Some label } } in
-    let r2 : Checked Context = unless (is_some c.running.otherwise) CaseTwice line (good d) in
-    let r1 : Checked Context = unless (not a.labelled) LeftOut line r2 in
-    subst (λ (x : Context). InStep u x) (passed (is_some c.running.otherwise) CaseTwice line d z (behind_test (not a.labelled) LeftOut line r2 z (behind_test (not (is_some a.switched)) StrayBreak line r1 z q))) s
+default_step line a label u c z s q = search (arith, is_some, passed, behind_test) fits 100
 
 looped_goes : (line head end : ℕ) (c : Context) → 1 ≤ line → Goes c (looped line head end c)
 looped_goes line head end c l = goes_trans c (emit line (Loop head) c) _ (goes_emit line (Loop head) c l tt) (goes_here end (emit line (Loop head) c))
@@ -265,9 +250,6 @@ module _ (answer : Option Sort) (numbers : List ℕ) where
   ran_go t u c d s step g = ran t u c d s step (goes_runs answer c d s.fine g)
 
   -- what is known, said otherwise; and the context
-  ran_as : (u v : Taken) (c d : Context) → u ≡ v → Ran_on answer numbers c u d → Ran_on answer numbers c v d
-  ran_as u v c d e r = subst (λ (x : Taken). Ran_on answer numbers c x d) e r
-
   ran_to : (u : Taken) (c d z : Context) → good d ≡ Ok z → Ran_on answer numbers c u d → Ran_on answer numbers c u z
   ran_to u c d z e r = subst (λ (x : Context). Ran_on answer numbers c u x) (ok_same d z e) r
 
@@ -275,11 +257,7 @@ module _ (answer : Option Sort) (numbers : List ℕ) where
   ran_behind : (u : Taken) (b c d : Context) → Runs answer b c → Ran_on answer numbers c u d → Ran_on answer numbers b u d
   ran_behind u b c d r x = record { runs = runs_trans answer b c d r x.runs; stands = x.stands }
 
-  -- a scope of its own
   -- of each success: a part behind another, behind what goes on, and the last of them
-  led_as : (u v : Taken) (c : Context) {x : Checked Context} → u ≡ v → Led (Ran_on answer numbers c u) x → Led (Ran_on answer numbers c v) x
-  led_as u v c e h z q = ran_as u v c z e (h z q)
-
   led_then : (u v : Taken) (c : Context) {x : Checked Context} {next : Context → Checked Context} → Led (Ran_on answer numbers c u) x
       → ((d : Context) → Stands_in answer numbers u d → Led (Ran_on answer numbers d v) (next d)) → Led (Ran_on answer numbers c v) (then x next)
   led_then u v c {x} h k = led_after (Ran_on answer numbers c v) x (λ d q z e. let r = h d q in ran_behind v c d z r.runs (k d r.stands z e))
@@ -348,7 +326,7 @@ module _ (answer : Option Sort) (numbers : List ℕ) where
 
     pub statement_runs : (tree : Tree) (w : Taken) (a : Around) (c : Context) → Good numbers w tree → Stands_in answer numbers w c → Led (Ran_on answer numbers c (taken tree w)) (statement tree a c)
     statement_runs (Node f.Empty parts) w a c p s z q =
-        ran_as w (taken (Node f.Empty parts) w) c z (empty_taken parts w p.formed) (ran_to w c c z q (record { runs = runs_refl answer c s.fine; stands = s }))
+        subst (λ (x : Taken). Ran_on answer numbers c x z) (empty_taken parts w p.formed) (ran_to w c c z q (record { runs = runs_refl answer c s.fine; stands = s }))
     statement_runs (Node f.Expr (At line ▹ e ▹ none)) w a c p s z q =
         let o = (node_good numbers f.Expr (At line ▹ e ▹ none) w p).1.0 in
         let g = evaluated_runs e c z (evaluated_spoken e w c z s.step.2 (inside_at (taken e w).addressed numbers c.running.addressed s.same o.inside) o.written o.formed q) s.fine.names q in

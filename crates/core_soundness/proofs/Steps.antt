@@ -1,12 +1,12 @@
 -- Initializers and names go in step with the walk over addresses.
-use Rattle.std.proofs.Common.{◌≡◌, ◌+◌, ℕ, pos, Bool, true, false, not, cond, length, min, List, [], ◌∷◌, Option, Some, None, Ok, refl, subst, ◌||◌, ◌&&◌, zero, suc, is_some, unwrap_or, bytes_eq, ◌++◌, sym, ap, ◌∙◌, arith}
+use Rattle.std.proofs.Common.{◌≡◌, ◌+◌, ℕ, pos, Bool, true, false, not, cond, length, min, List, [], ◌∷◌, Option, Some, None, Ok, refl, subst, ◌||◌, zero, suc, is_some, unwrap_or, bytes_eq, ◌++◌, sym, ap, ◌∙◌, arith}
 use Rattle.std.proofs.lemmas.Slice.Eq.{bytes_eq-Decides}
 use Rattle.std.proofs.lemmas.Bool.{and_parts}
 use Rattle.std.specs.Option.{option_or}
 use Rattle.core_soundness.proofs.Words.Trees.{shape, rows, some, commas, behind_commas, some_commas, Place, is_scope, places, name_of, name_among, first_name, leads_to_name, Tree, Trees, At, Node, none, ◌▹◌, count, Leaf}
-use Rattle.core_soundness.proofs.Words.Types.{PlainType, Array, Struct, Union, line_of, PlainNamed, refused, then, ScopeList, Table, named_in, found_from, found as declaration, innermost, first_or, with_name, with_name_in, after_declaration, is_scalar, Assignment, DeclaredTwice}
+use Rattle.core_soundness.proofs.Words.Types.{PlainType, Array, line_of, PlainNamed, refused, then, ScopeList, Table, named_in, found_from, found as declaration, innermost, first_or, with_name, with_name_in, after_declaration, is_scalar, Assignment, DeclaredTwice}
 use Rattle.core_soundness.proofs.Words.Core.{Atom, Off, Copy, Clear, Set}
-use Rattle.core_soundness.proofs.Words.Elaborating.{Taken, taken, number_of, Known, left_part, all_taken, Context, emit, local_register, Found, Spot, Local, Memory, atom_in, valued, convert, write, size_or_zero, zero_of, cleared, fill_memory, fill_register, fill_at, fill_local, specs, found, Target, InRegister, InMemory, InStatic, static_scalar, member_place, store_at, fill_scalar, scalar, copy_to, fill_record, is_same_place, whole, fill_text, is_character, text, by_text, by_expression, parts_of, takes_braces, is_scalar_type, all_surplus, initialize, initialize_parts, not_whole, next_is_memory, local_in, with_local, is_same_again, is_file, is_twice_in, is_twice, declared_as, with_register, with_memory, counted, with_named, memory_param, register_param, function_param, prototype_param, is_prototype, with_param, opened, with_literal}
+use Rattle.core_soundness.proofs.Words.Elaborating.{Taken, taken, left_part, all_taken, Context, emit, local_register, Found, Spot, Local, Memory, atom_in, valued, convert, write, size_or_zero, zero_of, cleared, fill_memory, fill_register, fill_at, fill_local, specs, found, Target, InRegister, InMemory, InStatic, static_scalar, member_place, store_at, fill_scalar, scalar, fill_record, is_same_place, whole, fill_text, is_character, text, by_text, by_expression, parts_of, takes_braces, is_scalar_type, all_surplus, initialize, initialize_parts, not_whole, next_is_memory, local_in, with_local, is_same_again, is_file, is_twice_in, is_twice, declared_as, with_register, with_memory, counted, with_named, memory_param, register_param, function_param, prototype_param, is_prototype, with_param, opened, with_literal}
 use Rattle.core_soundness.proofs.Words.Facts.{Spoken, AllSpoken, is_register, Written}
 use Rattle.core_tree.specs.declared.statements.Atom.TheVariants as atom
 use Rattle.c_tree.specs.Forms as f
@@ -21,7 +21,7 @@ use Rattle.core_soundness.proofs.Growth.{good, ok_same, never, Grows, grows_refl
 use Rattle.core_soundness.proofs.Keeping.{text_calm, unary_calm, found_calm, keeps_refl, keeps_trans, grows_keeps, emit_keeps, opened_keeps, closed_keeps, found_keeps, full_keeps, calm_spoken, valued_calm, AreNumbered, keeps_stepped, stepped_trans}
 use Rattle.core_soundness.proofs.Scopes.{named_push, HasScope}
 use Rattle.core_soundness.proofs.Sorting.{passed, kept_test}
-use Rattle.core_soundness.proofs.Taking.{Inside, Keeps, Follows, Still, AllStill, Calm, some_commas_held, calm_node, among, drops, Numbered, Fewer, Stepped, each, SameNames}
+use Rattle.core_soundness.proofs.Taking.{Inside, Keeps, Follows, Still, AllStill, Calm, some_commas_held, calm_node, among, drops, Fewer, Stepped, each, SameNames}
 use Rattle.core_soundness.proofs.Walks.{found_grows, grown_valued, grows_convert, grows_write}
 use Rattle.core_soundness.proofs.Choices.{either_way, not_false}
 
@@ -68,12 +68,8 @@ scalar_went : (e : Tree) (line : ℕ) (type : PlainType) (offset : ℕ) (t : Tar
 scalar_went e line type offset t b g = search (arith, reached_after, reached_barred, fill_scalar_went, valued_calm)
 
 fill_record_went : (e : Tree) (line : ℕ) (type : PlainType) (offset : ℕ) (b : Context) (d : Context × Found) (t : Target) → Went e b d.0 → Reached (Went e b) (fill_record e line type offset d t)
-fill_record_went e line type offset b d (InMemory at mem) x =
-    let place = member_place at mem offset d.0 in
-    let copied = copy_to at type (atom_in d.1) place in
-    reached_ok (Went e b)
-    (x.0, keeps_trans b d.0 _ x.1 (keeps_trans d.0 place.0 _ (place_keeps at mem offset d.0) (keeps_trans place.0 copied _ (emit_keeps at (Copy place.1 (atom_in d.1) (pos (size_or_zero place.0 type))) place.0) (closed_keeps e copied))))
-fill_record_went e line type offset b d t x = reached_refused (Went e b)
+fill_record_went e line type offset b d t x =
+    search (arith, reached_ok, keeps_trans, place_keeps, emit_keeps, closed_keeps, reached_refused) fits 100
 
 whole_went : (e : Tree) (line : ℕ) (type : PlainType) (offset : ℕ) (t : Target) (b : Context) → Formed e → Reached (Went e b) (whole e line type offset t b)
 whole_went e line type offset t b g =
@@ -112,9 +108,7 @@ by_text_went e line element size offset (Some bytes) t b is g =
 
 by_expression_went : (e : Tree) (line : ℕ) (type : PlainType) (offset : ℕ) (t : Target) (b : Context) → Formed e → Reached (Went e b) (by_expression e line type offset t b)
 by_expression_went e line (Array element size) offset t b g = by_text_went e line element size offset (text e) t b refl g
-by_expression_went e line (Struct tag) offset t b g = whole_went e line (Struct tag) offset t b g
-by_expression_went e line (Union tag) offset t b g = whole_went e line (Union tag) offset t b g
-by_expression_went e line type offset t b g = scalar_went e line type offset t b g
+by_expression_went e line type offset t b g = search (arith, whole_went, scalar_went) fits 100
 
 init_calm : (line : ℕ) (e : Tree) → Calm e → Calm (Node f.InitExpr (At line ▹ e ▹ none))
 unfolding shape
@@ -138,14 +132,12 @@ mutual
   initialize_went tree in_scalar type offset t b g d q = never (Went tree b d.0) _ d q
 
   parts_went : (inits : Trees) (line : ℕ) (in_scalar : Bool) (parts : List (PlainType × ℕ)) (t : Target) (b : Context) → AllFormed inits → Reached (λ d. AllStill inits × Keeps b d) (initialize_parts line inits in_scalar parts t b)
-  parts_went none line in_scalar parts t b g = reached_ok (λ d. AllStill none × Keeps b d) (tt, keeps_refl b)
-  parts_went (init ▹ rest) line in_scalar [] t b g =
-      reached_after (λ d. AllStill (init ▹ rest) × Keeps b d) (all_surplus (init ▹ rest) b) (λ d h. reached_refused (λ d. AllStill (init ▹ rest) × Keeps b d))
   parts_went (init ▹ rest) line in_scalar (part ∷ parts) t b g =
       reached_after (λ d. AllStill (init ▹ rest) × Keeps b d) (initialize init in_scalar part.0 part.1 t b)
       (λ d h z e. let one = initialize_went init in_scalar part.0 part.1 t b g.0 d h in
       let more = parts_went rest line in_scalar parts d.1 d.0 g.1 z e in
       ((one.0.still, more.0), keeps_trans b d.0 z.0 one.1 more.1))
+  parts_went inits line in_scalar parts t b g = search (arith, reached_ok, keeps_refl, reached_after, reached_refused) fits 100
 
 -- the initializer of a local, where it is one of these
 
@@ -207,8 +199,7 @@ unequal : (x y : List ℕ) → bytes_eq x y ≡ false → bytes_eq y x ≡ false
 unequal x y e = grind (arith, bytes_eq, false, true, bytes_eq-Decides)
 
 or_none : (o : Option PlainNamed) → option_or o None ≡ o
-or_none None = refl
-or_none (Some v) = refl
+or_none o = search arith fits 100
 
 -- what is declaration under the name, and under another
 module _ (name : List ℕ) (v : PlainNamed) where
@@ -219,12 +210,10 @@ module _ (name : List ℕ) (v : PlainNamed) where
   else_named t x q = search (arith, named_push, or_none)
 
   here_found : (file : Table) (inner : List Table) → named_in name (first_or file inner) ≡ None → (x : List ℕ) → bytes_eq x name ≡ true → declaration (with_name_in file inner name v) x ≡ Some v
-  here_found file [] e x q = here_named file e x q
-  here_found file (t ∷ ts) e x q = ap (λ (o : Option PlainNamed). option_or o (found_from file x ts)) (here_named t e x q)
+  here_found file inner e x q = search (arith, here_named) fits 100
 
   else_found : (file : Table) (inner : List Table) (x : List ℕ) → bytes_eq x name ≡ false → declaration (with_name_in file inner name v) x ≡ found_from file x inner
-  else_found file [] x q = else_named file x q
-  else_found file (t ∷ ts) x q = ap (λ (o : Option PlainNamed). option_or o (found_from file x ts)) (else_named t x q)
+  else_found file inner x q = search (arith, else_named) fits 100
 
 -- what the walk knows with a name more
 abbrev pub with_one : List ℕ → Option ℕ → Taken → Taken
@@ -232,17 +221,7 @@ with_one name number t = record t { names = record { name = name; number = numbe
 
 pub named_numbered : (s : ScopeList) (name : List ℕ) (v : PlainNamed) (number : Option ℕ) (t : Taken) (numbers : List ℕ) → named_in name (innermost s) ≡ None
     → (is_register (Some v) ≡ true → (k : ℕ) × (number ≡ Some k) × (among k numbers ≡ false)) → AreNumbered s t numbers → AreNumbered (with_name s name v) (with_one name number t) numbers
-named_numbered s name v number t numbers e g h x r = by (bytes_eq x name) refl
-  where
-    by : (b : Bool) → bytes_eq x name ≡ b → Numbered (with_one name number t) numbers x
-    by true q =
-        let a = g (sym (ap is_register (here_found name v s.file s.inner e x q)) ∙ r) in
-        let same : x ≡ name = (bytes_eq-Decides x name).0 q in
-        let again : bytes_eq name x ≡ true = ap (λ (l : List ℕ). bytes_eq l x) (sym same) ∙ ap (λ (l : List ℕ). bytes_eq x l) same ∙ q in
-        (a.0, ap (λ (b : Bool). cond b number (number_of t.names x)) again ∙ a.1, a.2)
-    by false q =
-        let a = h x (sym (ap is_register (else_found name v s.file s.inner x q)) ∙ r) in
-        (a.0, ap (λ (b : Bool). cond b number (number_of t.names x)) (unequal x name q) ∙ a.1, a.2)
+named_numbered s name v number t numbers e g h x r = search (arith, bytes_eq, here_found, bytes_eq-Decides, else_found, unequal) fits 100
 
 -- scopes around the innermost
 
@@ -261,28 +240,18 @@ pub plain_outside : (s : ScopeList) (name : List ℕ) (v : PlainNamed) → is_re
 plain_outside s name v p k = grind (arith, drops_same, pushed_fewer)
 
 named_depth : (file : Table) (inner : List Table) (name : List ℕ) (v : PlainNamed) → length (with_name_in file inner name v).inner ≡ length inner
-named_depth file [] name v = refl
-named_depth file (t ∷ ts) name v = refl
+named_depth file inner name v = search arith fits 100
 
 -- a name that stands for no register is declared
 
 again_plain : (w v : PlainNamed) → is_register (Some v) ≡ false → is_same_again w v ≡ true → is_register (Some w) ≡ false
-again_plain (n.Register type i) v e q = cc
-again_plain other v e q = refl
+again_plain w v e q = search arith fits 100
 
 -- it was there before, at file scope
 again_numbered : (file : Table) (inner : List Table) (name : List ℕ) (v w : PlainNamed) (t : Taken) (numbers : List ℕ) → is_register (Some v) ≡ false → named_in name (first_or file inner) ≡ Some w → is_twice_in (is_file inner) v (Some w) ≡ false
     → AreNumbered (record { file = file; inner = inner }) t numbers → AreNumbered (record { file = file; inner = inner }) (with_one name None t) numbers
-again_numbered file (s ∷ ss) name v w t numbers p e q h x r = cc
-again_numbered file [] name v w t numbers p e q h x r = by (bytes_eq x name) refl
-  where
-    by : (b : Bool) → bytes_eq x name ≡ b → Numbered (with_one name None t) numbers x
-    by true z =
-        let same : x ≡ name = (bytes_eq-Decides x name).0 z in
-        let plain : is_register (Some w) ≡ false = again_plain w v p (and_parts true (is_same_again w v) (not_false (true && is_same_again w v) q)).1 in
-        let clash : true ≡ false = sym r ∙ ap is_register (ap (λ (l : List ℕ). named_in l file) same ∙ e) ∙ plain in
-        cc
-    by false z = let a = h x r in (a.0, ap (λ (b : Bool). cond b None (number_of t.names x)) (unequal x name z) ∙ a.1, a.2)
+again_numbered file inner name v w t numbers p e q h x r =
+    search (arith, bytes_eq, bytes_eq-Decides, again_plain, and_parts, not_false, unequal) fits 100
 
 pub plain_stepped : (line : ℕ) (name : List ℕ) (v : PlainNamed) (t : Taken) (c z : Context) → is_register (Some v) ≡ false → Follows t c → declared_as line name v c ≡ Ok z → Stepped t c (with_one name None t) z
 plain_stepped line name v t c z p h q =
@@ -309,9 +278,7 @@ plain_stepped line name v t c z p h q =
 -- a parameter or local more
 
 none_twice : (inner : List Table) (v : PlainNamed) (o : Option PlainNamed) → HasScope inner → is_twice_in (is_file inner) v o ≡ false → o ≡ None
-none_twice [] v o h e = absurd h
-none_twice (s ∷ ss) v None h e = refl
-none_twice (s ∷ ss) v (Some w) h e = cc
+none_twice inner v o h e = search arith fits 100
 
 pub not_twice : (c : Context) (name : List ℕ) (v : PlainNamed) → HasScope c.scopes.inner → is_twice c.scopes name v ≡ false → named_in name (innermost c.scopes) ≡ None
 not_twice c name v h e = none_twice c.scopes.inner v (named_in name (innermost c.scopes)) h e
@@ -333,17 +300,8 @@ one_local None v t c d same e1 e2 fresh deep g h = record {
   outside = λ k. subst (λ (y : ScopeList). Fewer (drops k (scopes.left c.scopes)) (drops k (scopes.left y))) (sym same) (λ x r. r);
 }
 one_local (Some name) v t c d same e1 e2 fresh deep g h =
-    let numbered : AreNumbered (with_name c.scopes name v) (with_one name (Some t.declared) t) c.running.addressed =
-    named_numbered c.scopes name v (Some t.declared) t c.running.addressed fresh (λ r. (t.declared, refl, ap (λ (k : ℕ). among k c.running.addressed) h.0 ∙ g r)) h.1 in
-    record {
-      follows = (
-        ap (λ (k : ℕ). k + 1) (h.0 ∙ sym e1),
-        λ x r. let a = numbered x (subst (λ (s : ScopeList). is_register (declaration (with_name s name v) x) ≡ true) same r) in (a.0, a.1, ap (λ (l : List ℕ). among a.0 l) e2 ∙ a.2),
-      );
-      addressed = e2;
-      depth = ap (λ (y : ScopeList). length (with_name y name v).inner) same ∙ named_depth c.scopes.file c.scopes.inner name v;
-      outside = λ k. subst (λ (y : ScopeList). Fewer (drops k (scopes.left c.scopes)) (drops k (scopes.left (with_name y name v)))) (sym same) (inner_outside c.scopes name v deep k);
-    }
+    let numbered : AreNumbered (with_name c.scopes name v) (with_one name (Some t.declared) t) c.running.addressed = named_numbered c.scopes name v (Some t.declared) t c.running.addressed fresh (λ r. (t.declared, refl, ap (λ (k : ℕ). among k c.running.addressed) h.0 ∙ g r)) h.1 in
+    search (arith, named_numbered, among, named_depth, drops, inner_outside) fits 100
 
 pub local_stepped : (name : List ℕ) (type : PlainType) (t : Taken) (c : Context) → HasScope c.scopes.inner → named_in name (innermost c.scopes) ≡ None → Follows t c → Stepped t c (walk.with_local (Some name) t) (with_local name type c).0
 local_stepped name type t c deep fresh h = by (next_is_memory type c) refl
@@ -434,10 +392,6 @@ module _ (parts : Trees) (t : Taken) where
   unfolding taken left shape is_scope
   enumerators_taken = same_of (each parts t) (all_taken parts (places (some_commas p.Enumerator (count parts))) t) (some_commas_each p.Enumerator refl parts t)
 
-  pub names_taken : SameNames (each parts t) (taken (Node f.Names parts) t)
-  unfolding taken left shape is_scope
-  names_taken = same_of (each parts t) (all_taken parts (places (commas p.Entry (count parts))) t) (commas_each p.Entry refl parts t)
-
   pub specs_taken : (line : ℕ) → SameNames (each parts t) (taken (Node f.Specs (At line ▹ parts)) t)
   unfolding taken all_taken left shape is_scope
   specs_taken line = same_of (each parts t) (all_taken parts (places (rows p.SpecWord (count parts))) t) (rows_each p.SpecWord refl parts t)
@@ -454,19 +408,15 @@ module _ (t : Taken) where
   direct_taken base suffixes = same_of (each suffixes (taken base t)) (all_taken suffixes (places (rows p.Suffix (count suffixes))) (taken base t)) (rows_each p.Suffix refl suffixes (taken base t))
 
 first_none : (o : Option (List ℕ)) → first_name o None ≡ o
-first_none None = refl
-first_none (Some name) = refl
+first_none o = search arith fits 100
 
 -- specs are no name
 pub specs_unnamed : (words : Tree) (c : Context) (z : Context × PlainType) → specs words c ≡ Ok z → name_of words ≡ None
 unfolding specs name_of leads_to_name
-specs_unnamed (Node f.Specs (At line ▹ words)) c z q = refl
-specs_unnamed words c z q = never (name_of words ≡ None) _ z q
+specs_unnamed words c z q = search (arith, never) fits 100
 
 local_names : (o : Option (List ℕ)) (u v : Taken) → SameNames u v → SameNames (taken_local o u) (taken_local o v)
-local_names None u v h = (h.0, ap (λ (k : ℕ). k + 1) h.1)
-local_names (Some name) u v h =
-    (ap (λ (x : List Known). record { name = name; number = Some v.declared } ∷ x) h.0 ∙ ap (λ (k : ℕ). record { name = name; number = Some k } ∷ u.names) h.1, ap (λ (k : ℕ). k + 1) h.1)
+local_names o u v h = search arith fits 100
 
 pub param_taken : (line : ℕ) (words declarator : Tree) (t : Taken) → name_of words ≡ None → SameNames (taken_local (name_of declarator) (taken declarator (taken words t))) (taken (Node f.Param (At line ▹ words ▹ declarator ▹ none)) t)
 unfolding taken all_taken left shape is_scope name_among

@@ -1,7 +1,7 @@
 -- Tags and the sorts by which types name them.
-use Rattle.std.proofs.Common.{◌≡◌, ℕ, true, false, List, [], ◌∷◌, ◌++◌, length, slice_get, Option, Some, None, refl, subst, ◌*◌, zero, nat_lt, Ok, sym, arith}
+use Rattle.std.proofs.Common.{◌≡◌, ℕ, true, false, List, [], ◌∷◌, ◌++◌, length, slice_get, Option, Some, None, refl, subst, zero, nat_lt, Ok, sym, arith}
 use Rattle.core_soundness.proofs.Words.Trees.{name_of, Tree, Trees, Leaf, At, Node, none, ◌▹◌, RecordSort}
-use Rattle.core_soundness.proofs.Words.Types.{TagTable, size_in, CompletedTag, PlainType, Array, Struct, Union, Int, TagInfo, named, call, line_of, Found, answered, wanted, changing, one, two, joined, string, first_literal, callee, in_new_scope, typed, values, typename, layers, suffix_layers, suffix_layer, param_types, param_type, unused, cast_operand, PlainNamed, held_place, element, dot, arrow, stepped, size, cast, choice, assigned, changed, behind_comma, Checked, ScopeList, Table, found, with_name, with_name_in, tag_name, record_type, is_union, Context, Layer, ArrayOf, FunctionOf, word_type, same_sort, tag_named, enum_named, type_named, special_type, array_of, layered, layered_before, with_layers, specs_type, array_length, with_param_layers, adjusted, with_param, declared_param, with_new_tag, address, unary, binary, is_function, PlainTyped, read, LeftOut, TypeTooLarge, DeclaredTwice}
+use Rattle.core_soundness.proofs.Words.Types.{TagTable, CompletedTag, PlainType, Array, Struct, Union, Int, TagInfo, named, call, line_of, Found, answered, wanted, changing, one, two, joined, string, first_literal, callee, in_new_scope, typed, values, typename, layers, suffix_layers, suffix_layer, param_types, param_type, unused, cast_operand, PlainNamed, held_place, element, dot, arrow, stepped, size, cast, choice, assigned, changed, behind_comma, Checked, ScopeList, Table, found, with_name_in, tag_name, record_type, is_union, Context, Layer, ArrayOf, word_type, same_sort, tag_named, enum_named, type_named, special_type, array_of, layered, layered_before, with_layers, specs_type, array_length, with_param_layers, adjusted, with_param, declared_param, with_new_tag, address, unary, binary, is_function, PlainTyped, read, LeftOut}
 use Rattle.core_soundness.proofs.Words.Elaborating.{Context as TextContext, asked, given_length, with_init_layers}
 use Rattle.core_soundness.proofs.Words.Facts.{TableFits, ScopesFit}
 use Rattle.c_types.specs.Types as ct
@@ -12,7 +12,6 @@ use Rattle.c_tree.specs.declared.operator.RecordSort.TheVariants as r
 use Rattle.c_tree.specs.declared.operator.UnaryOp.TheVariants as u
 use Rattle.c_decls.specs.Named as n
 use Rattle.c_decls.specs.ScopeList as scopes
-use Rattle.c_decls.specs.TypeNames.{PointerTo}
 use Rattle.core_soundness.proofs.Growth.{Longer, Led, led_ok, led_refused, led_after, led_unless, ok_same, never, Reached, reached_ok, reached_refused, reached_after, reached_then, reached_unless, wanted_unused, type_cast_unused}
 use Rattle.core_soundness.proofs.Scopes.{name_fits, named_fits, entered_fit, left_fit, scopes_fit, get_left, get_last, More, more_refl, more_trans, with_tag_more, left_more, HasScope, scope_more}
 
@@ -38,14 +37,10 @@ SortedScopes made s = ScopesFit (SortedName made) (SortedName made) s
 
 pub type_longer : (type : PlainType) (j k : List TagInfo) → Longer j k → SortedType j type → SortedType k type
 type_longer (Array element m) j k x h = type_longer element j k x h
-type_longer (Struct tag) j k x h = (h.0, x tag h.0 h.1, h.2)
-type_longer (Union tag) j k x h = (h.0, x tag h.0 h.1, h.2)
-type_longer other j k x h = tt
+type_longer type j k x h = search arith fits 100
 
 pub name_longer : (v : PlainNamed) (j k : List TagInfo) → Longer j k → SortedName j v → SortedName k v
-name_longer (n.Tag type) j k x h = type_longer type j k x h
-name_longer (n.Typedef type) j k x h = type_longer type j k x h
-name_longer other j k x h = tt
+name_longer v j k x h = search (arith, type_longer) fits 100
 
 -- a new tag
 
@@ -69,9 +64,7 @@ abbrev pub ST : Context × PlainType → Type 0
 ST d = SortedType d.0.tags.made d.1
 
 same_sorted : (line : ℕ) (sort : RecordSort) (c : Context) (type : PlainType) → SortedType c.tags.made type → Led ST (same_sort line sort c type)
-same_sorted line r.Struct c (Struct tag) h = led_ok ST h
-same_sorted line r.Union c (Union tag) h = led_ok ST h
-same_sorted line sort c type h = led_refused ST
+same_sorted line sort c type h = search (arith, led_ok, led_refused) fits 100
 
 pub tag_sorted : (line : ℕ) (sort : RecordSort) (name : List ℕ) (c : Context) (named : Option PlainNamed) → ((type : PlainType) → named ≡ Some (n.Tag type) → SortedType c.tags.made type) → Led ST (tag_named line sort name c named)
 tag_sorted line sort name c None h = led_ok ST (new_sorted sort c.tags.made name)
@@ -79,13 +72,10 @@ tag_sorted line sort name c (Some (n.Tag type)) h = same_sorted line sort c type
 tag_sorted line sort name c (Some other) h = led_refused ST
 
 enum_sorted : (line : ℕ) (c : Context) (named : Option PlainNamed) → Led ST (enum_named line c named)
-enum_sorted line c (Some (n.Tag (Int ty))) = led_ok ST tt
-enum_sorted line c named = led_refused ST
+enum_sorted line c named = search (arith, led_ok, led_refused) fits 100
 
 type_sorted : (line : ℕ) (c : Context) (named : Option PlainNamed) → ((type : PlainType) → named ≡ Some (n.Typedef type) → SortedType c.tags.made type) → Led ST (type_named line c named)
-type_sorted line c (Some (n.Typedef type)) h = led_ok ST (h type refl)
-type_sorted line c (Some (n.BuiltIn zero)) h = led_ok ST tt
-type_sorted line c named h = led_refused ST
+type_sorted line c named h = search (arith, led_ok, led_refused) fits 100
 
 pub special_sorted : (line : ℕ) (tree : Tree) (c : Context) → SortedScopes c.tags.made c.scopes → Led ST (special_type line tree c)
 special_sorted line (Node f.TypedefName (Leaf (w.Name name) ▹ none)) c h = type_sorted line c (found c.scopes name) (λ type e. name_fits (SortedName c.tags.made) c.scopes name (n.Typedef type) h e)
@@ -98,20 +88,13 @@ special_sorted line tree c h = led_refused ST
 
 module _ (made : List TagInfo) where
   array_sorted : (line : ℕ) (element : PlainType) (size length : Option ℕ) → SortedType made element → Led (SortedType made) (array_of line element size length)
-  array_sorted line element None length h = led_refused (SortedType made)
-  array_sorted line element (Some size) None h = led_refused (SortedType made)
-  array_sorted line element (Some size) (Some m) h = led_unless (SortedType made) (nat_lt 268435456 (m * size)) TypeTooLarge line (λ t. led_ok (SortedType made) h)
+  array_sorted line element size length h = search (arith, led_refused, led_unless, nat_lt, led_ok) fits 100
 
   layered_sorted : (tags : TagTable) (layer : Layer) (type : PlainType) → SortedType made type → Led (SortedType made) (layered tags layer type)
-  layered_sorted tags (PointerTo line) type h = led_unless (SortedType made) (is_function type) LeftOut line (λ t. led_ok (SortedType made) tt)
-  layered_sorted tags (ArrayOf line length) type h = led_unless (SortedType made) (is_function type) LeftOut line (λ t. array_sorted line type (size_in tags type) length h)
-  layered_sorted tags (FunctionOf line params) type h = led_unless (SortedType made) _ LeftOut line (λ t. led_ok (SortedType made) tt)
+  layered_sorted tags layer type h = search (arith, led_unless, led_ok, array_sorted) fits 100
 
   before_sorted : (tags : TagTable) (layer : Layer) (layers : List Layer) (type : PlainType) → SortedType made type → Led (SortedType made) (layered_before tags layer layers type)
-  before_sorted tags (FunctionOf line params) (next ∷ layers) type h = led_after (SortedType made) (layered tags (FunctionOf line params) type) (λ t q. led_refused (SortedType made))
-  before_sorted tags (FunctionOf line params) [] type h = layered_sorted tags (FunctionOf line params) type h
-  before_sorted tags (PointerTo line) layers type h = layered_sorted tags (PointerTo line) type h
-  before_sorted tags (ArrayOf line length) layers type h = layered_sorted tags (ArrayOf line length) type h
+  before_sorted tags layer layers type h = search (arith, led_after, led_refused, layered_sorted) fits 100
 
   pub with_layers_sorted : (tags : TagTable) (layers : List Layer) (type : PlainType) → SortedType made type → Led (SortedType made) (with_layers tags layers type)
   with_layers_sorted tags [] type h = led_ok (SortedType made) h
@@ -185,10 +168,7 @@ sort_leads line r.Union c (ct.Union tag) = reached_ok (Leads c) (leads_refl c)
 sort_leads line sort c type = reached_refused (Leads c)
 
 pub new_tag_leads : (sort : RecordSort) (name : List ℕ) (c : Context) → Leads c (with_new_tag sort name c).0
-new_tag_leads sort name c =
-    let made = push_longer c.tags.made (record { is_union = is_union sort; name = name }) in
-    let now : List TagInfo = (with_new_tag sort name c).0.tags.made in
-    record { more = with_tag_more c.scopes name _; made = made; sorts = λ h. named_fits (SortedName now) (SortedName now) c.scopes (tag_name name) (n.Tag (record_type sort (length c.tags.made))) (new_sorted sort c.tags.made name) (new_sorted sort c.tags.made name) (scopes_fit (SortedName c.tags.made) (SortedName now) (λ v. name_longer v c.tags.made now made) c.scopes h) }
+new_tag_leads sort name c = search (arith, push_longer, with_tag_more, named_fits, new_sorted, scopes_fit, name_longer) fits 100
 
 pub tag_leads : (line : ℕ) (sort : RecordSort) (name : List ℕ) (c : Context) (named : Option PlainNamed) → Reached (Leads c) (tag_named line sort name c named)
 tag_leads line sort name c None = reached_ok (Leads c) (new_tag_leads sort name c)
@@ -239,8 +219,7 @@ inside_leads a b c x y = record {
 }
 
 named_some : (file : Table) (inner : List Table) (name : List ℕ) (v : PlainNamed) → HasScope inner → HasScope (scopes.with_name_in file inner name v).inner
-named_some file [] name v h = absurd h
-named_some file (s ∷ ss) name v h = tt
+named_some file inner name v h = search arith fits 100
 
 named_left : (file : Table) (inner : List Table) (name : List ℕ) (v : PlainNamed) → HasScope inner
     → More (scopes.left (record { file = file; inner = inner })) (scopes.left (scopes.with_name_in file inner name v))
@@ -249,14 +228,7 @@ named_left file (s ∷ ss) name v h = more_refl (record { file = file; inner = s
 
 param_inside : (line : ℕ) (c : Context) (name : Option (List ℕ)) (type : PlainType) → HasScope c.scopes.inner → Reached (Inside c) (with_param line c name type)
 param_inside line c None type h = reached_ok (Inside c) (inside_refl c h)
-param_inside line c (Some name) type h =
-    let d : Context = record { scopes = with_name c.scopes name (n.Register type 0); tags = c.tags } in
-    reached_unless (Inside c) _ DeclaredTwice line (reached_ok (Inside c) (record {
-      some = named_some c.scopes.file c.scopes.inner name (n.Register type 0) h;
-      outside = named_left c.scopes.file c.scopes.inner name (n.Register type 0) h;
-      made = λ i x e. e;
-      sorts = λ k. named_fits (SortedName c.tags.made) (SortedName c.tags.made) c.scopes name (n.Register type 0) tt tt k;
-    }))
+param_inside line c (Some name) type h = search (arith, reached_unless, reached_ok, named_some, named_left, named_fits) fits 100
 
 declared_inside : (line : ℕ) (c : Context) (name : Option (List ℕ)) (type : PlainType) → HasScope c.scopes.inner → Reached (Inside c) (declared_param line c name type)
 declared_inside line c name type h = search (arith, reached_unless, param_inside)

@@ -2,9 +2,9 @@
 use Rattle.std.proofs.Common.{◌≡◌, ℕ, Bool, true, false, ◌||◌, nat_eq, List, [], ◌∷◌, Option, Some, None, refl, ◌≤◌, sym, ap, ◌∙◌, zero, suc, length, ⊎_elim, arith}
 use Rattle.std.specs.List.{list_any}
 use Rattle.std.specs.Option.{option_or}
-use Rattle.core_soundness.proofs.Words.Trees.{Form, shape, rows, some, commas, behind_commas, some_commas, here_rows, Place, name_among, is_scope, places, Tree, Trees, Node, none, ◌▹◌, count, Leaf, At}
+use Rattle.core_soundness.proofs.Words.Trees.{Form, shape, rows, some, commas, behind_commas, some_commas, here_rows, Place, is_scope, places, Tree, Trees, Node, none, ◌▹◌, count, Leaf, At}
 use Rattle.core_soundness.proofs.Words.Types.{PlainNamed, ScopeList, Table, found, named_in, found_from, tail}
-use Rattle.core_soundness.proofs.Words.Elaborating.{Taken, number_of, plain_name, with_number, with_address, with_known, declare, left_part, taken, all_taken, left_scope, Context, left as left_context}
+use Rattle.core_soundness.proofs.Words.Elaborating.{Taken, number_of, with_number, with_address, with_known, declare, left_part, taken, all_taken, left_scope, Context, left as left_context}
 use Rattle.core_soundness.proofs.Words.Facts.{is_register, World, world, FileFits, HasParts, Written, AllWritten, TableFits}
 use Rattle.c_tree.specs.Forms as f
 use Rattle.c_tree.specs.Places as p
@@ -26,36 +26,26 @@ abbrev pub Inside : List ℕ → List ℕ → Type 0
 Inside one other = (k : ℕ) → Has one k → Has other k
 
 or_right : (x y : Bool) → y ≡ true → x || y ≡ true
-or_right true y e = refl
-or_right false y e = e
+or_right x y e = search arith fits 100
 
 with_number_adds : (o : Option ℕ) (t : Taken) (k : ℕ) → Has t.addressed k → Has (with_number o t).addressed k
-with_number_adds None t k h = h
-with_number_adds (Some n) t k h = or_right (nat_eq n k) _ h
+with_number_adds o t k h = search (arith, or_right, nat_eq) fits 100
 
 with_address_adds : (o : Option (List ℕ)) (t : Taken) (k : ℕ) → Has t.addressed k → Has (with_address o t).addressed k
-with_address_adds None t k h = h
-with_address_adds (Some name) t k h = with_number_adds (number_of t.names name) t k h
+with_address_adds o t k h = search (arith, with_number_adds) fits 100
 
 known_adds : (name : Option (List ℕ)) (number : Option ℕ) (t : Taken) (k : ℕ) → Has t.addressed k → Has (with_known name number t).addressed k
-known_adds None number t k h = h
-known_adds (Some name) number t k h = h
+known_adds name number t k h = search arith fits 100
 
 declare_adds : (typedef : Bool) (name : Option (List ℕ)) (t : Taken) (k : ℕ) → Has t.addressed k → Has (declare typedef name t).addressed k
-declare_adds true name t k h = known_adds name None t k h
-declare_adds false name t k h = known_adds name (Some t.declared) t k h
+declare_adds typedef name t k h = search (arith, known_adds) fits 100
 
 pub left_adds : (form : Form) (parts : Trees) (before inner : Taken) (k : ℕ) → Has inner.addressed k → Has (left form parts before inner).addressed k
 unfolding left
-left_adds f.Declared parts before inner k h = declare_adds before.typedef (name_among parts) (record inner { typedef = before.typedef }) k h
-left_adds f.Param parts before inner k h = known_adds (name_among parts) (Some inner.declared) (record inner { typedef = before.typedef }) k h
-left_adds f.Enumerator parts before inner k h = known_adds (name_among parts) None (record inner { typedef = before.typedef }) k h
-left_adds (f.Unary u.Address) (line ▹ e ▹ none) before inner k h = with_address_adds (plain_name e) inner k h
-left_adds form parts before inner k h = h
+left_adds form parts before inner k h = search (arith, declare_adds, known_adds, with_address_adds) fits 100
 
 pub part_adds : (scope : Bool) (before inner : Taken) (k : ℕ) → Has inner.addressed k → Has (left_part scope before inner).addressed k
-part_adds true before inner k h = h
-part_adds false before inner k h = h
+part_adds scope before inner k h = search arith fits 100
 
 mutual
   unfolding taken all_taken
@@ -88,8 +78,7 @@ pub record AllGood (numbers : List ℕ) (t : Taken) (parts : Trees) (ps : List P
 -- what is asked of a declaration in front of a `for` is what is asked of one
 names_shaped : (line : ℕ) (words names : Tree) → Shaped f.ForNames (words ▹ names ▹ none) → Shaped f.Local (At line ▹ words ▹ names ▹ none)
 unfolding Shaped
-names_shaped line words (Node f.Names entries) h = h
-names_shaped line words names h = tt
+names_shaped line words names h = search arith fits 100
 
 -- the items of a block
 abbrev pub ItemsGood : List ℕ → Taken → Trees → Type 0
@@ -105,16 +94,13 @@ as_before t u = record u { typedef = t.typedef }
 
 -- words alone change nothing
 part_same : (scope : Bool) (t : Taken) → left_part scope t t ≡ t
-part_same true t = refl
-part_same false t = refl
+part_same scope t = search arith fits 100
 
 words_taken : (parts : Trees) (ps : List Place) (t : Taken) → NoNodes parts → all_taken parts ps t ≡ t
 unfolding taken all_taken
-words_taken none ps t h = refl
 words_taken (Leaf word ▹ rest) (place ∷ ps) t h = ap (λ (u : Taken). all_taken rest ps u) (part_same (is_scope place) t) ∙ words_taken rest ps t h
 words_taken (At line ▹ rest) (place ∷ ps) t h = ap (λ (u : Taken). all_taken rest ps u) (part_same (is_scope place) t) ∙ words_taken rest ps t h
-words_taken (Node form parts ▹ rest) ps t h = absurd h
-words_taken other [] t h = refl
+words_taken parts ps t h = search arith fits 100
 
 pub empty_taken : (parts : Trees) (t : Taken) → Formed (Node f.Empty parts) → t ≡ taken (Node f.Empty parts) t
 unfolding taken left Formed Shaped
@@ -127,9 +113,7 @@ PartsGood numbers t parts ps = Unit {0}
 
 first_good : (numbers : List ℕ) (tree : Tree) (rest : Trees) (place : Place) (ps : List Place) (t : Taken) → AllGood numbers t (tree ▹ rest) (place ∷ ps) → Good numbers t tree × AllGood numbers (left_part (is_scope place) t (taken tree t)) rest ps
 unfolding all_taken AllWritten AllFormed
-first_good numbers tree rest place ps t g =
-    let u : Taken = left_part (is_scope place) t (taken tree t) in
-    (record { inside = λ k h. g.inside k (all_taken_adds rest ps u k (part_adds (is_scope place) t (taken tree t) k h)); written = g.written.0; formed = g.formed.0 }, record { inside = g.inside; written = g.written.1; formed = g.formed.1 })
+first_good numbers tree rest place ps t g = search (arith, all_taken_adds, part_adds) fits 100
 
 parts_good : (numbers : List ℕ) (parts : Trees) (ps : List Place) (t : Taken) → AllGood numbers t parts ps → PartsGood numbers t parts ps
 parts_good numbers none ps t g = tt
@@ -313,34 +297,14 @@ abbrev pub SameNames : Taken → Taken → Type 0
 SameNames t u = (u.names ≡ t.names) × (u.declared ≡ t.declared)
 
 address_names : (o : Option (List ℕ)) (t : Taken) → SameNames t (with_address o t)
-address_names None t = (refl, refl)
-address_names (Some name) t = by (number_of t.names name)
-  where
-    by : (o : Option ℕ) → SameNames t (with_number o t)
-    by None = (refl, refl)
-    by (Some n) = (refl, refl)
+address_names o t = search arith fits 100
 
 pub left_names : (form : Form) (parts : Trees) (before inner : Taken) → declares form ≡ false → SameNames before inner → SameNames before (left form parts before inner)
 unfolding left
-left_names f.Body parts before inner e h = (refl, h.1)
-left_names f.Block parts before inner e h = (refl, h.1)
-left_names f.Delay parts before inner e h = (refl, h.1)
-left_names f.If parts before inner e h = (refl, h.1)
-left_names f.IfElse parts before inner e h = (refl, h.1)
-left_names f.While parts before inner e h = (refl, h.1)
-left_names f.Do parts before inner e h = (refl, h.1)
-left_names f.For parts before inner e h = (refl, h.1)
-left_names f.Switch parts before inner e h = (refl, h.1)
-left_names f.FunctionSuffix parts before inner e h = (refl, h.1)
-left_names f.Declared parts before inner e h = cc
-left_names f.Param parts before inner e h = cc
-left_names f.Enumerator parts before inner e h = cc
-left_names (f.Unary u.Address) (line ▹ e1 ▹ none) before inner e h = search (arith, address_names)
-left_names _ parts before inner e h = (h.0, h.1)
+left_names form parts before inner e h = search (arith, address_names) fits 100
 
 pub part_names : (scope : Bool) (before inner : Taken) → SameNames before inner → SameNames before (left_part scope before inner)
-part_names true before inner h = (refl, h.1)
-part_names false before inner h = h
+part_names scope before inner h = search arith fits 100
 
 mutual
   unfolding taken all_taken Still AllStill
@@ -378,12 +342,7 @@ restores _ = true
 
 left_typedef : (form : Form) (parts : Trees) (before inner : Taken) → restores form ≡ true → (left form parts before inner).typedef ≡ before.typedef
 unfolding left
-left_typedef f.Specs parts before inner e = cc
-left_typedef f.Declared parts before inner e = cc
-left_typedef f.Param parts before inner e = cc
-left_typedef f.Enumerator parts before inner e = cc
-left_typedef (f.Unary u.Address) parts before inner e = cc
-left_typedef _ parts before inner e = refl
+left_typedef form parts before inner e = search arith fits 100
 
 pub restored : (form : Form) (parts : Trees) (t : Taken) → restores form ≡ true → (taken (Node form parts) t).typedef ≡ t.typedef
 unfolding taken
@@ -394,12 +353,7 @@ unfolding Still
 calm_node form parts d r h s = record { still = (d, h, s); typedef = λ t. restored form parts t r }
 
 address_typedef : (o : Option (List ℕ)) (t : Taken) → (with_address o t).typedef ≡ t.typedef
-address_typedef None t = refl
-address_typedef (Some name) t = by (number_of t.names name)
-  where
-    by : (o : Option ℕ) → (with_number o t).typedef ≡ t.typedef
-    by None = refl
-    by (Some n) = refl
+address_typedef o t = search arith fits 100
 
 pub calm_address : (line : ℕ) (e : Tree) → Calm e → Calm (Node (f.Unary u.Address) (At line ▹ e ▹ none))
 unfolding Still AllStill taken all_taken left shape is_scope

@@ -1,29 +1,23 @@
 -- The types of expressions are whole, where those of names are.
-use Rattle.std.proofs.Common.{◌≡◌, ◌≤◌, ◌+◌, ◌||◌, not, ℕ, pos, zero, suc, Bool, true, false, cond, nat_lt, bytes_eq, length, List, [], ◌∷◌, ◌++◌, reverse, slice_get, Option, Some, None, option_map, Ok, refl, sym, subst, arith}
+use Rattle.std.proofs.Common.{◌≡◌, ◌≤◌, ◌+◌, not, ℕ, zero, Bool, true, false, cond, nat_lt, bytes_eq, length, List, [], ◌∷◌, ◌++◌, reverse, slice_get, Option, Some, None, option_map, Ok, refl, sym, subst, arith}
 use Rattle.std.proofs.lemmas.Bool.{ltb-false}
 use Rattle.std.proofs.lemmas.List.{reverse-append}
-use Rattle.std.specs.List.{find}
 use Rattle.core_soundness.proofs.Words.Trees.{name_of, Tree, Trees, Leaf, At, Node, none, ◌▹◌, AssignOp, BinaryOp, RecordSort, UnaryOp}
-use Rattle.core_soundness.proofs.Words.Types.{Known, number_layout, TagTable, CompletedTag, PlainMember, known, layout_in, size_in, members_in, PlainType, PlainTypes, Void, Int, Pointer, Array, Struct, Union, Function, first, Layout, built_ins, constant_of, Callee, Takes, Prints, NoFunction, built_in_callee, built_in_value, built_in_named, named, no_function, function_callee, built_in_called, callee_at, called, prints, call, line_of, Found, answered, wanted, changing, one, two, joined, string, first_literal, callee, in_new_scope, out_of_scope, typed, values, typename, layers, suffix_layers, suffix_layer, param_types, param_type, unused, cast_operand, PlainNamed, cast_types, cast, chosen_pointer, choice_types, choice, size_answer, size, element_types, element, member_answer, member_among, member_of, dot, arrow_of, arrow, record_assigned, scalar_assigned, assigned, changed_types, changed, stepped, held_place, behind_comma, all_convert, unconverted, Checked, found, tag_name, Context, Layer, ArrayOf, FunctionOf, word_type, record_type, with_new_tag, same_sort, tag_named, enum_named, type_named, special_type, specs_type, length_from, array_length, array_of, layered, layered_before, with_layers, with_param_layers, adjusted, with_param, declared_param, immovable, moving, beside_pointer, sum_types, difference_types, order_types, equal_types, integer_types, logical, binary, unary_of, unary_on_pointer, unary, address, PlainTyped, Operand, Number, PointerTo, Neither, operand, place, value, int, held, read, is_void, is_function, is_record, is_null_constant, has_no_size, wanted_value, BuiltIn, Constant, Operands, NotLvalue, ArgumentCount, DeclaredTwice, Incomplete, TypeTooLarge, Format, LeftOut, Folded, Is}
+use Rattle.core_soundness.proofs.Words.Types.{Known, number_layout, TagTable, CompletedTag, known, layout_in, size_in, members_in, PlainType, PlainTypes, Int, Pointer, Function, first, Layout, built_ins, Callee, Takes, Prints, NoFunction, built_in_callee, built_in_value, built_in_named, named, no_function, function_callee, built_in_called, callee_at, called, prints, call, line_of, Found, answered, wanted, changing, one, two, joined, string, first_literal, callee, in_new_scope, out_of_scope, typed, values, typename, layers, suffix_layers, suffix_layer, param_types, param_type, unused, cast_operand, PlainNamed, cast_types, cast, chosen_pointer, choice_types, choice, size_answer, size, element_types, element, member_among, member_of, dot, arrow_of, arrow, record_assigned, scalar_assigned, assigned, changed_types, changed, stepped, held_place, behind_comma, all_convert, unconverted, Checked, found, tag_name, Context, Layer, ArrayOf, FunctionOf, word_type, record_type, with_new_tag, same_sort, tag_named, enum_named, type_named, special_type, specs_type, length_from, array_length, array_of, layered, layered_before, with_layers, with_param_layers, adjusted, with_param, declared_param, immovable, moving, beside_pointer, sum_types, difference_types, order_types, equal_types, integer_types, logical, binary, unary_of, unary_on_pointer, unary, address, PlainTyped, Operand, Number, PointerTo, Neither, operand, int, held, read, is_void, is_function, is_null_constant, wanted_value, BuiltIn, Constant, Operands, NotLvalue, DeclaredTwice, TypeTooLarge, LeftOut, Folded}
 use Rattle.core_soundness.proofs.Words.Facts.{Whole, AllWhole, AreMade, NamedWhole, NamesWhole}
 use Rattle.c_types.specs.Types as ct
 use Rattle.c_tree.specs.Forms as f
 use Rattle.c_tree.specs.Words as w
 use Rattle.c_tree.specs.declared.operator.AssignOp.TheVariants as a
-use Rattle.c_tree.specs.declared.operator.BinaryOp.TheVariants as b
-use Rattle.c_tree.specs.declared.operator.RecordSort.TheVariants as r
 use Rattle.c_tree.specs.declared.operator.UnaryOp.TheVariants as u
 use Rattle.c_decls.specs.Named as n
 use Rattle.c_decls.specs.TypeNames as names
-use Rattle.c_decls.specs.declared.built_in.BuiltIn.TheVariants as built
 use Rattle.core_soundness.proofs.Growth.{Led, led_ok, led_refused, led_after, led_unless, led_barred, wanted_unused, type_cast_unused}
 use Rattle.core_soundness.proofs.Scopes.{name_fits, named_fits, entered_fit, left_fit}
 use Rattle.core_soundness.proofs.WholeTypes.{nothing, member_whole}
-use Rattle.core_soundness.proofs.Choices.{some_same}
 
 pub led_cond : {C : Type 0} (R : C → Type 0) (test : Bool) (x y : Checked C) → Led R x → Led R y → Led R (cond test x y)
-led_cond R true x y g h = g
-led_cond R false x y g h = h
+led_cond R test x y g h = search arith fits 100
 
 -- layers of declarators
 
@@ -49,20 +43,13 @@ layers_reverse k (x ∷ xs) h = subst (LayersWhole k) (sym (reverse-append (x �
 
 module _ (ts : List CompletedTag) where
   row_of : (line : ℕ) (tags : TagTable) (element : PlainType) (o : Option Layout) (length : Option ℕ) → tags.completed ≡ ts → layout_in tags element ≡ o → Whole (known ts) element → LayerWhole (known ts) (ArrayOf line length) → Led (Whole (known ts)) (array_of line element (option_map (λ (l : Layout). l.size) o) length)
-  row_of line tags element None length c q h g = led_refused (Whole (known ts))
-  row_of line tags element (Some l) None c q h g = led_refused (Whole (known ts))
-  row_of line tags element (Some l) (Some m) c q h g = search (arith, led_unless, led_ok, ltb-false)
+  row_of line tags element o length c q h g = search (arith, led_refused, led_unless, led_ok, ltb-false) fits 100
 
   pub layered_whole : (tags : TagTable) (layer : Layer) (type : PlainType) → tags.completed ≡ ts → Whole (known ts) type → LayerWhole (known ts) layer → Led (Whole (known ts)) (layered tags layer type)
-  layered_whole tags (names.PointerTo line) type c h g = led_unless (Whole (known ts)) (is_function type) LeftOut line (λ t. led_ok (Whole (known ts)) h)
-  layered_whole tags (ArrayOf line length) type c h g = led_unless (Whole (known ts)) (is_function type) LeftOut line (λ t. row_of line tags type (layout_in tags type) length c refl h g)
-  layered_whole tags (FunctionOf line params) type c h g = led_unless (Whole (known ts)) _ LeftOut line (λ t. led_ok (Whole (known ts)) (h, g))
+  layered_whole tags layer type c h g = search (arith, led_unless, led_ok, row_of) fits 100
 
   pub before_whole : (tags : TagTable) (layer : Layer) (layers : List Layer) (type : PlainType) → tags.completed ≡ ts → Whole (known ts) type → LayerWhole (known ts) layer → Led (Whole (known ts)) (layered_before tags layer layers type)
-  before_whole tags (FunctionOf line params) (next ∷ layers) type c h g = search (arith, led_after, led_refused)
-  before_whole tags (FunctionOf line params) [] type c h g = layered_whole tags (FunctionOf line params) type c h g
-  before_whole tags (names.PointerTo line) layers type c h g = layered_whole tags (names.PointerTo line) type c h g
-  before_whole tags (ArrayOf line length) layers type c h g = layered_whole tags (ArrayOf line length) type c h g
+  before_whole tags layer layers type c h g = search (arith, led_after, led_refused, layered_whole) fits 100
 
   pub with_layers_whole : (tags : TagTable) (layers : List Layer) (type : PlainType) → tags.completed ≡ ts → Whole (known ts) type → LayersWhole (known ts) layers → Led (Whole (known ts)) (with_layers tags layers type)
   with_layers_whole tags [] type c h g = led_ok (Whole (known ts)) h
@@ -79,8 +66,7 @@ module _ (ts : List CompletedTag) where
       (λ inner q. with_param_layers_whole tags layers inner c (before_whole tags layer layers type c h g.0 inner q) g.1)
 
   pub adjusted_whole : (type : PlainType) → Whole (known ts) type → Whole (known ts) (adjusted type)
-  adjusted_whole (Array element m) h = h.0
-  adjusted_whole other h = h
+  adjusted_whole type h = search arith fits 100
 
 -- the rules of expressions
 
@@ -94,17 +80,10 @@ module _ (ts : List CompletedTag) (made : AreMade nothing ts) where
   WO Neither = Unit {0}
 
   operand_whole : (type : PlainType) → Whole (known ts) type → WO (operand type)
-  operand_whole (Pointer target) h = h
-  operand_whole other h = tt
+  operand_whole type h = search arith fits 100
 
   held_whole : (line : ℕ) (tags : TagTable) (type : PlainType) → Whole (known ts) type → Led W (held line tags type)
-  held_whole line tags Void h = led_refused W
-  held_whole line tags (Int ty) h = led_ok W tt
-  held_whole line tags (Pointer target) h = led_ok W h
-  held_whole line tags (Array element m) h = led_ok W h.0
-  held_whole line tags (Struct tag) h = led_cond W (has_no_size tags (Struct tag)) _ _ (led_refused W) (led_refused W)
-  held_whole line tags (Union tag) h = led_cond W (has_no_size tags (Union tag)) _ _ (led_refused W) (led_refused W)
-  held_whole line tags (Function answer params) h = led_refused W
+  held_whole line tags type h = search (arith, led_refused, led_ok, led_cond) fits 100
 
   pub read_whole : (line : ℕ) (tags : TagTable) (e : PlainTyped) → W e → Led W (read line tags e)
   read_whole line tags e h = led_cond W e.is_place _ _ (held_whole line tags e.type h) (led_ok W h)
@@ -113,14 +92,10 @@ module _ (ts : List CompletedTag) (made : AreMade nothing ts) where
   held_place_whole line tags e h = led_after W (wanted_value line tags e) (λ x q. led_ok W h)
 
   value_of_whole : (line : ℕ) (name : BuiltIn) (o : Option Constant) → Led W (built_in_value line name o)
-  value_of_whole line built.Null o = led_ok W tt
-  value_of_whole line built.SizeT o = led_refused W
-  value_of_whole line name (Some c) = led_ok W tt
-  value_of_whole line name None = led_refused W
+  value_of_whole line name o = search (arith, led_ok, led_refused) fits 100
 
   built_in_whole : (line : ℕ) (o : Option BuiltIn) → Led W (built_in_named line o)
-  built_in_whole line None = led_refused W
-  built_in_whole line (Some name) = value_of_whole line name (constant_of name)
+  built_in_whole line o = search (arith, led_refused, value_of_whole) fits 100
 
   abbrev NamedBy : Option PlainNamed → Type 0
   NamedBy o = (v : PlainNamed) → o ≡ Some v → NamedWhole (known ts) v
@@ -144,71 +119,37 @@ module _ (ts : List CompletedTag) (made : AreMade nothing ts) where
   beside_whole line e x h = led_cond W (is_null_constant e) x _ h (led_refused W)
 
   element_whole : (line : ℕ) (tags : TagTable) (s t : Operand) → WO s → WO t → Led W (element_types line tags s t)
-  element_whole line tags (PointerTo target) (Number ty) h k = moving_whole line tags target (place target) h
-  element_whole line tags (Number ty) (PointerTo target) h k = moving_whole line tags target (place target) k
-  element_whole line tags s t h k = led_refused W
-
-  answer_whole : (line : ℕ) (o : Option PlainType) → ((type : PlainType) → o ≡ Some type → Whole (known ts) type) → Led W (member_answer line o)
-  answer_whole line None h = led_refused W
-  answer_whole line (Some type) h = led_ok W (h type refl)
-
-  among_whole : (line : ℕ) (name : List ℕ) (o : Option (List PlainMember)) → ((members : List PlainMember) (m : PlainMember) → o ≡ Some members → find (λ (m : PlainMember). bytes_eq name m.name) members ≡ Some m → Whole (known ts) m.type) → Led W (member_among line name o)
-  among_whole line name None h = led_refused W
-  among_whole line name (Some members) h = answer_whole line _ (by (find (λ (m : PlainMember). bytes_eq name m.name) members) refl)
-    where
-      by : (o : Option PlainMember) → find (λ (m : PlainMember). bytes_eq name m.name) members ≡ o → (type : PlainType) → option_map (λ (m : PlainMember). m.type) o ≡ Some type → Whole (known ts) type
-      by None q type e = cc
-      by (Some m) q type e = subst (Whole (known ts)) (some_same m.type type e) (h members m refl q)
+  element_whole line tags s t h k = search (arith, moving_whole, led_refused) fits 100
 
   tag_member_whole : (line : ℕ) (name : List ℕ) (tags : TagTable) (tag : ℕ) → tags.completed ≡ ts → Led W (member_among line name (members_in tags tag))
   tag_member_whole line name tags tag c = search (arith, member_whole, bytes_eq, nothing)
 
   member_of_whole : (line : ℕ) (name : List ℕ) (tags : TagTable) (type : PlainType) → tags.completed ≡ ts → Led W (member_of line name tags type)
-  member_of_whole line name tags (Struct tag) c = tag_member_whole line name tags tag c
-  member_of_whole line name tags (Union tag) c = tag_member_whole line name tags tag c
-  member_of_whole line name tags type c = led_refused W
+  member_of_whole line name tags type c = search (arith, tag_member_whole, led_refused) fits 100
 
   dot_whole : (line : ℕ) (name : List ℕ) (tags : TagTable) (e : PlainTyped) → tags.completed ≡ ts → Led W (dot line name tags e)
   dot_whole line name tags e c = led_unless W (not e.is_place) Operands line (λ t. member_of_whole line name tags e.type c)
 
   arrow_whole : (line : ℕ) (name : List ℕ) (tags : TagTable) (o : Operand) → tags.completed ≡ ts → Led W (arrow_of line name tags o)
-  arrow_whole line name tags (PointerTo target) c = member_of_whole line name tags target c
-  arrow_whole line name tags o c = led_refused W
+  arrow_whole line name tags o c = search (arith, member_of_whole, led_refused) fits 100
 
   pointer_unary_whole : (line : ℕ) (op : UnaryOp) (target : PlainType) → Whole (known ts) target → Led W (unary_on_pointer line op target)
-  pointer_unary_whole line u.Not target h = led_ok W tt
-  pointer_unary_whole line u.Deref target h = led_ok W h
-  pointer_unary_whole line op target h = led_refused W
+  pointer_unary_whole line op target h = search (arith, led_ok, led_refused) fits 100
 
   unary_whole : (line : ℕ) (op : UnaryOp) (e : PlainTyped) (o : Operand) → WO o → Led W (unary_of line op e o)
-  unary_whole line u.Deref e (Number ty) h = led_refused W
-  unary_whole line u.Deref e (PointerTo target) h = pointer_unary_whole line u.Deref target h
-  unary_whole line u.Deref e Neither h = led_refused W
-  unary_whole line op e (Number ty) h = led_ok W tt
-  unary_whole line op e (PointerTo target) h = pointer_unary_whole line op target h
-  unary_whole line op e Neither h = led_refused W
+  unary_whole line op e o h = search (arith, led_refused, pointer_unary_whole, led_ok) fits 100
 
   address_whole : (line : ℕ) (e : PlainTyped) → W e → Led W (address line e)
   address_whole line e h = led_cond W e.is_place _ _ (led_ok W h) (led_refused W)
 
   sum_whole : (line : ℕ) (tags : TagTable) (x y : PlainTyped) (s t : Operand) → W x → W y → Led W (sum_types line tags x y s t)
-  sum_whole line tags x y (Number s) (Number t) h k = led_ok W tt
-  sum_whole line tags x y (PointerTo target) (Number t) h k = moving_whole line tags target (value x.type) h
-  sum_whole line tags x y (Number s) (PointerTo target) h k = moving_whole line tags target (value y.type) k
-  sum_whole line tags x y s t h k = led_refused W
+  sum_whole line tags x y s t h k = search (arith, led_ok, moving_whole, led_refused) fits 100
 
   difference_whole : (line : ℕ) (tags : TagTable) (x y : PlainTyped) (s t : Operand) → W x → W y → Led W (difference_types line tags x y s t)
-  difference_whole line tags x y (Number s) (Number t) h k = led_ok W tt
-  difference_whole line tags x y (PointerTo target) (Number t) h k = moving_whole line tags target (value x.type) h
-  difference_whole line tags x y (PointerTo target) (PointerTo other) h k = led_unless W _ Operands line (λ t. moving_whole line tags target int tt)
-  difference_whole line tags x y s t h k = led_refused W
+  difference_whole line tags x y s t h k = search (arith, led_ok, moving_whole, led_unless, led_refused) fits 100
 
   order_whole : (op : BinaryOp) (line : ℕ) (x y : PlainTyped) (s t : Operand) → Led W (order_types op line x y s t)
-  order_whole op line x y (Number s) (Number t) = led_ok W tt
-  order_whole op line x y (PointerTo target) (PointerTo other) = led_unless W _ Operands line (λ t. led_ok W tt)
-  order_whole op line x y (PointerTo target) (Number t) = beside_whole line y _ (led_refused W)
-  order_whole op line x y (Number s) (PointerTo other) = beside_whole line x _ (led_refused W)
-  order_whole op line x y s t = led_refused W
+  order_whole op line x y s t = search (arith, led_ok, led_unless, beside_whole, led_refused) fits 100
 
   equal_whole : (op : BinaryOp) (line : ℕ) (x y : PlainTyped) (s t : Operand) → Led W (equal_types op line x y s t)
   equal_whole op line x y (Number s) (Number t) = led_ok W tt
@@ -218,34 +159,20 @@ module _ (ts : List CompletedTag) (made : AreMade nothing ts) where
   equal_whole op line x y s t = led_refused W
 
   integer_whole : (op : BinaryOp) (line : ℕ) (x y : PlainTyped) (s t : Operand) → Led W (integer_types op line x y s t)
-  integer_whole op line x y (Number s) (Number t) = led_ok W tt
-  integer_whole op line x y s t = led_refused W
+  integer_whole op line x y s t = search (arith, led_ok, led_refused) fits 100
 
   logical_whole : (line : ℕ) (folded : Folded) (x y : PlainTyped) → Led W (logical line folded x y)
   logical_whole line folded x y = led_unless W _ Operands line (λ t. led_ok W tt)
 
   pub binary_whole : (line : ℕ) (op : BinaryOp) (tags : TagTable) (x y : PlainTyped) → W x → W y → Led W (binary line op tags x y)
-  binary_whole line b.Or tags x y h k = logical_whole line _ x y
-  binary_whole line b.And tags x y h k = logical_whole line _ x y
-  binary_whole line b.Add tags x y h k = sum_whole line tags x y (operand x.type) (operand y.type) h k
-  binary_whole line b.Subtract tags x y h k = difference_whole line tags x y (operand x.type) (operand y.type) h k
-  binary_whole line b.Less tags x y h k = order_whole b.Less line x y (operand x.type) (operand y.type)
-  binary_whole line b.Greater tags x y h k = order_whole b.Greater line x y (operand x.type) (operand y.type)
-  binary_whole line b.LessEqual tags x y h k = order_whole b.LessEqual line x y (operand x.type) (operand y.type)
-  binary_whole line b.GreaterEqual tags x y h k = order_whole b.GreaterEqual line x y (operand x.type) (operand y.type)
-  binary_whole line b.Equal tags x y h k = equal_whole b.Equal line x y (operand x.type) (operand y.type)
-  binary_whole line b.NotEqual tags x y h k = equal_whole b.NotEqual line x y (operand x.type) (operand y.type)
-  binary_whole line op tags x y h k = integer_whole op line x y (operand x.type) (operand y.type)
+  binary_whole line op tags x y h k =
+      search (arith, logical_whole, sum_whole, difference_whole, order_whole, equal_whole, integer_whole) fits 100
 
   size_whole : (line : ℕ) (o : Option ℕ) → Led W (size_answer line o)
-  size_whole line None = led_refused W
-  size_whole line (Some m) = led_ok W tt
+  size_whole line o = search (arith, led_refused, led_ok) fits 100
 
   cast_types_whole : (line : ℕ) (type : PlainType) (e : PlainTyped) (s t : Operand) → Whole (known ts) type → Led W (cast_types line type e s t)
-  cast_types_whole line type e (Number ty) (Number source) h = led_ok W tt
-  cast_types_whole line type e (PointerTo target) (PointerTo source) h = led_ok W h
-  cast_types_whole line type e (PointerTo target) (Number source) h = beside_whole line e _ (led_ok W h)
-  cast_types_whole line type e s t h = led_refused W
+  cast_types_whole line type e s t h = search (arith, led_ok, beside_whole, led_refused) fits 100
 
   cast_whole : (line : ℕ) (type : PlainType) (e : PlainTyped) → Whole (known ts) type → Led W (cast line type e)
   cast_whole line type e h = led_cond W (is_void type) _ _ (led_ok W h) (cast_types_whole line type e (operand type) (operand e.type) h)
@@ -254,11 +181,7 @@ module _ (ts : List CompletedTag) (made : AreMade nothing ts) where
   chosen_whole line x y s t h k = search (arith, led_cond, led_ok, led_refused)
 
   choice_types_whole : (line : ℕ) (test : Folded) (x y : PlainTyped) (s t : Operand) → W x → W y → Led W (choice_types line test x y s t)
-  choice_types_whole line test x y (Number s) (Number t) h k = led_ok W tt
-  choice_types_whole line test x y (PointerTo s) (PointerTo t) h k = chosen_whole line x y s t h k
-  choice_types_whole line test x y (PointerTo s) (Number t) h k = beside_whole line y _ (led_ok W h)
-  choice_types_whole line test x y (Number s) (PointerTo t) h k = beside_whole line x _ (led_ok W k)
-  choice_types_whole line test x y s t h k = led_cond W _ _ _ (led_ok W h) (led_refused W)
+  choice_types_whole line test x y s t h k = search (arith, led_ok, chosen_whole, beside_whole, led_cond, led_refused) fits 100
 
   pub choice_whole : (line : ℕ) (test x y : PlainTyped) → W x → W y → Led W (choice line test x y)
   choice_whole line test x y h k = led_unless W _ Operands line (λ t. choice_types_whole line test.folded x y (operand x.type) (operand y.type) h k)
@@ -270,14 +193,10 @@ module _ (ts : List CompletedTag) (made : AreMade nothing ts) where
   scalar_whole line target e h = search (arith, led_unless, not, led_barred, led_ok)
 
   pub assigned_whole : (line right : ℕ) (tags : TagTable) (target e : PlainTyped) → W target → Led W (assigned line right tags target e)
-  assigned_whole line right tags target e h =
-      led_cond W (is_record target.type) _ _ (record_whole line tags target e h)
-      (led_after W (wanted_value right tags e) (λ x q. scalar_whole line target x h))
+  assigned_whole line right tags target e h = search (arith, led_cond, record_whole, led_after, scalar_whole) fits 100
 
   changed_types_whole : (line : ℕ) (op : AssignOp) (tags : TagTable) (type : PlainType) (s t : Operand) → Whole (known ts) type → Led W (changed_types line op tags type s t)
-  changed_types_whole line op tags type (Number ty) (Number source) h = led_ok W h
-  changed_types_whole line op tags type (PointerTo target) (Number source) h = led_unless W _ Operands line (λ t. moving_whole line tags target (value type) h)
-  changed_types_whole line op tags type s t h = led_refused W
+  changed_types_whole line op tags type s t h = search (arith, led_ok, led_unless, moving_whole, led_refused) fits 100
 
   pub changed_whole : (line : ℕ) (op : AssignOp) (tags : TagTable) (target e : PlainTyped) → W target → Led W (changed line op tags target e)
   changed_whole line op tags target e h = led_unless W _ NotLvalue line (λ t. changed_types_whole line op tags target.type (operand target.type) (operand e.type) h)
@@ -295,56 +214,29 @@ module _ (ts : List CompletedTag) (made : AreMade nothing ts) where
   converting_whole line (first type rest) (e ∷ arguments) x h = led_barred W (unconverted type e) line (converting_whole line rest arguments x h)
 
   printing_whole : (line : ℕ) (o : Option (List ℕ)) (arguments : List PlainTyped) → Led W (prints line o arguments)
-  printing_whole line None arguments = led_refused W
-  printing_whole line (Some bytes) [] = led_refused W
-  printing_whole line (Some bytes) (format ∷ rest) = led_unless W _ Format line (λ t. led_ok W tt)
+  printing_whole line o arguments = search (arith, led_refused, led_unless, led_ok) fits 100
 
   call_whole : (line : ℕ) (o : Option (List ℕ)) (function : Callee) (arguments : List PlainTyped) → CW function → Led W (call line o function arguments)
-  call_whole line o (Takes answer params) arguments h = led_unless W _ ArgumentCount line (λ t. converting_whole line params arguments _ (led_ok W h.0))
-  call_whole line o Prints arguments h = printing_whole line o arguments
-  call_whole line o NoFunction arguments h = led_refused W
+  call_whole line o function arguments h = search (arith, led_unless, converting_whole, led_ok, printing_whole, led_refused) fits 100
 
   no_function_whole : (line : ℕ) (tags : TagTable) (x : Checked PlainTyped) → Led CW (no_function line tags x)
   no_function_whole line tags x = led_after CW x (λ e q. led_after CW (wanted_value line tags e) (λ y z. led_ok CW tt))
 
   function_whole : (type : PlainType) → Whole (known ts) type → CW (function_callee type)
-  function_whole (Function answer params) h = h
-  function_whole other h = tt
+  function_whole type h = search arith fits 100
 
   built_in_callee_whole : (name : BuiltIn) → CW (built_in_callee name)
-  built_in_callee_whole built.Malloc = (tt, (tt, tt))
-  built_in_callee_whole built.Calloc = (tt, (tt, (tt, tt)))
-  built_in_callee_whole built.Realloc = (tt, (tt, (tt, tt)))
-  built_in_callee_whole built.Free = (tt, (tt, tt))
-  built_in_callee_whole built.Exit = (tt, (tt, tt))
-  built_in_callee_whole built.Abort = (tt, tt)
-  built_in_callee_whole built.Memcpy = (tt, (tt, (tt, (tt, tt))))
-  built_in_callee_whole built.Memmove = (tt, (tt, (tt, (tt, tt))))
-  built_in_callee_whole built.Memset = (tt, (tt, (tt, (tt, tt))))
-  built_in_callee_whole built.Strlen = (tt, (tt, tt))
-  built_in_callee_whole built.Strcmp = (tt, (tt, (tt, tt)))
-  built_in_callee_whole built.Getchar = (tt, tt)
-  built_in_callee_whole built.Putchar = (tt, (tt, tt))
-  built_in_callee_whole built.Puts = (tt, (tt, tt))
-  built_in_callee_whole name = tt
+  built_in_callee_whole name = search arith fits 100
 
   at_whole : (o : Option BuiltIn) → CW (callee_at o)
-  at_whole None = tt
-  at_whole (Some name) = built_in_callee_whole name
+  at_whole o = search (arith, built_in_callee_whole) fits 100
 
   built_in_called_whole : (line : ℕ) (tags : TagTable) (o : Option BuiltIn) (function : Callee) → CW function → Led CW (built_in_called line tags o function)
-  built_in_called_whole line tags o NoFunction h = no_function_whole line tags (built_in_named line o)
-  built_in_called_whole line tags o other h = led_ok CW h
+  built_in_called_whole line tags o function h = search (arith, no_function_whole, led_ok) fits 100
 
   pub called_whole : (line : ℕ) (tags : TagTable) (o : Option PlainNamed) → NamedBy o → Led CW (called line tags o)
   called_whole line tags (Some (n.Function type i)) h = led_ok CW (function_whole type (h (n.Function type i) refl))
-  called_whole line tags (Some (n.BuiltIn i)) h = built_in_called_whole line tags (slice_get built_ins i) (callee_at (slice_get built_ins i)) (at_whole (slice_get built_ins i))
-  called_whole line tags (Some (n.Object type i)) h = no_function_whole line tags (named line (Some (n.Object type i)))
-  called_whole line tags (Some (n.Register type i)) h = no_function_whole line tags (named line (Some (n.Register type i)))
-  called_whole line tags (Some (n.Typedef type)) h = no_function_whole line tags (named line (Some (n.Typedef type)))
-  called_whole line tags (Some (n.Constant type x)) h = no_function_whole line tags (named line (Some (n.Constant type x)))
-  called_whole line tags (Some (n.Tag type)) h = no_function_whole line tags (named line (Some (n.Tag type)))
-  called_whole line tags None h = no_function_whole line tags (named line None)
+  called_whole line tags o h = search (arith, built_in_called_whole, at_whole, no_function_whole) fits 100
 
   -- the walk
 
@@ -409,26 +301,19 @@ module _ (ts : List CompletedTag) (made : AreMade nothing ts) where
   -- tags and the names of types
 
   sort_good : (line : ℕ) (sort : RecordSort) (c : Context) (type : PlainType) → Fit c → Led GoodType (same_sort line sort c type)
-  sort_good line r.Struct c (Struct tag) g = led_ok GoodType (g, tt)
-  sort_good line r.Union c (Union tag) g = led_ok GoodType (g, tt)
-  sort_good line sort c type g = led_refused GoodType
+  sort_good line sort c type g = search (arith, led_ok, led_refused) fits 100
 
   pub record_type_whole : (sort : RecordSort) (m : ℕ) → Whole (known ts) (record_type sort m)
-  record_type_whole r.Struct m = tt
-  record_type_whole r.Union m = tt
+  record_type_whole sort m = search arith fits 100
 
   new_tag_good : (sort : RecordSort) (name : List ℕ) (c : Context) → Fit c → GoodType (with_new_tag sort name c)
-  new_tag_good sort name c g =
-      (record { completed = g.completed; names = named_fits (NamedWhole (known ts)) (NamedWhole (known ts)) c.scopes (tag_name name) (n.Tag (record_type sort (length c.tags.made))) tt tt g.names }, record_type_whole sort (length c.tags.made))
+  new_tag_good sort name c g = search (arith, named_fits, record_type_whole) fits 100
 
   pub tag_good : (line : ℕ) (sort : RecordSort) (name : List ℕ) (c : Context) (o : Option PlainNamed) → Fit c → Led GoodType (tag_named line sort name c o)
-  tag_good line sort name c None g = led_ok GoodType (new_tag_good sort name c g)
-  tag_good line sort name c (Some (n.Tag type)) g = sort_good line sort c type g
-  tag_good line sort name c (Some other) g = led_refused GoodType
+  tag_good line sort name c o g = search (arith, led_ok, new_tag_good, sort_good, led_refused) fits 100
 
   enum_good : (line : ℕ) (c : Context) (o : Option PlainNamed) → Fit c → Led GoodType (enum_named line c o)
-  enum_good line c (Some (n.Tag (Int ty))) g = led_ok GoodType (g, tt)
-  enum_good line c o g = led_refused GoodType
+  enum_good line c o g = search (arith, led_ok, led_refused) fits 100
 
   type_good : (line : ℕ) (c : Context) (o : Option PlainNamed) → Fit c → NamedBy o → Led GoodType (type_named line c o)
   type_good line c (Some (n.Typedef type)) g h = led_ok GoodType (g, h (n.Typedef type) refl)
@@ -455,8 +340,7 @@ module _ (ts : List CompletedTag) (made : AreMade nothing ts) where
   Some_long m = 1 ≤ m
 
   length_from_some : (line : ℕ) (type : PlainType) (folded : Folded) → Led Some_long (length_from line type folded)
-  length_from_some line (Int ty) (Is (pos (suc m))) = led_ok Some_long (omega arith)
-  length_from_some line type folded = led_refused Some_long
+  length_from_some line type folded = search (arith, led_ok, led_refused) fits 100
 
   pub length_some : (line : ℕ) (e : PlainTyped) → Led Some_long (array_length line e)
   length_some line e = length_from_some line e.type e.folded
@@ -467,9 +351,7 @@ module _ (ts : List CompletedTag) (made : AreMade nothing ts) where
       led_unless GoodType _ DeclaredTwice line (λ t. led_ok GoodType (record { completed = g.completed; names = named_fits (NamedWhole (known ts)) (NamedWhole (known ts)) c.scopes name (n.Register type 0) h h g.names }, h))
 
   declared_good : (line : ℕ) (c : Context) (name : Option (List ℕ)) (type : PlainType) → Fit c → Whole (known ts) type → Led GoodType (declared_param line c name type)
-  declared_good line c name type g h =
-      led_unless GoodType (is_void type) Incomplete line
-      (λ t. led_unless GoodType (is_record type || is_function type) LeftOut line (λ s. param_good line c name type g h))
+  declared_good line c name type g h = search (arith, led_unless, param_good) fits 100
 
   new_scope : (c : Context) → Fit c → Fit (in_new_scope c)
   new_scope c g = record { completed = g.completed; names = entered_fit (NamedWhole (known ts)) (NamedWhole (known ts)) c.scopes g.names }

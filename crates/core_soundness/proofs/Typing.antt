@@ -6,9 +6,9 @@ use Rattle.std.proofs.lemmas.Bool.{and_parts}
 use Rattle.std.specs.List.{sum_by}
 use Rattle.std.specs.Option.{ForSome}
 use Rattle.core_soundness.proofs.Words.Trees.{name_of, params_of, Tree, Trees, At, Node, ◌▹◌}
-use Rattle.core_soundness.proofs.Words.Types.{TagTable, PlainType, PlainTypes, Void, Int, Function, none, built_ins, numbered_from, PlainNamed, length_of, then, unless, Table, named_in, with_name, Layer, FunctionOf, with_layers, same, is_array, is_record, is_function, BuiltIn, DeclaredTwice, ProgramTooLong, Undeclared}
+use Rattle.core_soundness.proofs.Words.Types.{TagTable, PlainType, PlainTypes, Int, Function, none, built_ins, numbered_from, PlainNamed, length_of, then, unless, Table, named_in, with_name, Layer, FunctionOf, with_layers, same, is_array, is_record, is_function, BuiltIn, DeclaredTwice, ProgramTooLong, Undeclared}
 use Rattle.core_soundness.proofs.Words.Core.{Sort, sort_of, register_sort, GivesResult, TakesCall, HasRegister, EachFunc, EachReturn, answer_sort, GivesAnswer, is_main as is_main_function, first_main, main_of, IsMain, Core, Func, Reg as Register, Atom, Stm, StmKind, Return, Call}
-use Rattle.core_soundness.proofs.Words.Elaborating.{Taken, nothing_taken, params_taken, addressed_in, no_code, Declared, Context, Walked, entered, emit, first_context, Piece, Does, Here, function_number, function_number_of, with_function, declared_function, declaration, specs, layers, suffix_layers, suffix_layer, params, left_params, walked, elaborated, piece_length, begun, is_defined, body_begun, last_answer, body_ended, body, defined, named_definition, definition, external, externals, is_main, calls_defined, is_twice_in, atoms_by, numbered, body_of, temporary, pointer_register, numbers_of, function_of, core_of, definition_of, function_by, around_body, items}
+use Rattle.core_soundness.proofs.Words.Elaborating.{Taken, nothing_taken, params_taken, addressed_in, no_code, Declared, Context, Walked, entered, emit, first_context, Piece, Does, Here, function_number, function_number_of, with_function, declared_function, specs, layers, suffix_layers, suffix_layer, params, left_params, walked, elaborated, piece_length, begun, is_defined, body_begun, last_answer, body_ended, body, defined, named_definition, definition, external, externals, is_main, calls_defined, is_twice_in, atoms_by, numbered, body_of, temporary, pointer_register, numbers_of, function_of, core_of, definition_of, function_by, around_body, items}
 use Rattle.core_soundness.proofs.Words.Facts.{HasTypes, IsList, HasLists, HasParameters, IsDefinition, World, world, walked_world, FitsAnswer, PiecesFit, InnerFits, FileFits, result_sort, param_sorts, IsCall, Written, AllWritten, AreWritten, TableFits, TablesFit}
 use Rattle.c_types.specs.Types as types
 use Rattle.c_types.specs.declared.types.IntType.TheVariants as i
@@ -83,18 +83,6 @@ empty_fits P (t ∷ ts) e = absurd (omega (arith, e))
 begun_fine : (line : ℕ) (addressed : List ℕ) (c : Context) → 1 ≤ line → Between c → Fine (begun line addressed c)
 begun_fine line addressed c l h = record { names = record { file = h.file; inner = empty_fits (InnerFits (world (begun line addressed c))) c.scopes.inner h.flat }; lined = l }
 
--- a declaration at file scope
-declared_between : (line : ℕ) (words names : Tree) (c z : Context) → 1 ≤ line → Written names → Between c → declaration true line words names (begun line [] c) ≡ Ok z → Between z
-declared_between line words names c z l p h q =
-    let b = begun line [] c in
-    let r = file_declaration_runs None line words names b z l p (begun_fine line [] c l h) h.flat q in
-    let s : Statics c z = record { variables = r.grew.variables; literals = r.grew.literals; calls = r.grew.calls; file = r.grew.file } in
-    record {
-      file = r.fine.names.file;
-      flat = r.depth ∙ h.flat;
-      walked = λ k x e. walked_on c z x s (h.walked k x (subst (λ (ws : List Walked). slice_get ws k ≡ Some x) r.walked e));
-    }
-
 -- the parameters of a definition
 
 -- layers with a function among them, whose parameters are the list that ended last
@@ -168,8 +156,7 @@ pushed_name : (key : List ℕ) (v : PlainNamed) (table : Table) → named_in key
 pushed_name key v table e = search (arith, named_push, bytes_eq, bytes_eq-Decides)
 
 function_kept : (k : Bool) (name key : List ℕ) (type : PlainType) (index : ℕ) (x : Context) → named_in key x.scopes.file ≡ Some (n.Function type index) → named_in key (cond k x (record x { functions = x.functions ++ (record { name = name; defined = None }) ∷ [] })).scopes.file ≡ Some (n.Function type index)
-function_kept true name key type index x e = e
-function_kept false name key type index x e = e
+function_kept k name key type index x e = search arith fits 100
 
 -- a file scope alone, by what it has under the name
 flat_typed : (line : ℕ) (name : List ℕ) (type : PlainType) (c : Context) (file : Table) (o : Option PlainNamed) (d : Context) → named_in name file ≡ o
@@ -198,10 +185,7 @@ function_typed line name type c d flat q =
 -- the end of a body
 
 last_fits : (v : World) (type : PlainType) → (is_array type || is_function type || is_record type) ≡ false → FitsAnswer v (result_sort type) (last_answer type)
-last_fits v Void e = tt
-last_fits v (Int ty) e = refl
-last_fits v (types.Pointer target) e = refl
-last_fits v other e = cc
+last_fits v type e = search arith fits 100
 
 -- the body of a function of a name, in front of which c stands between external declarations
 body_between : (line end : ℕ) (name : List ℕ) (answer : PlainType) (ps : PlainTypes) (index : ℕ) (more : List Sort) (c e z : Context) → IsOwn name → 1 ≤ end → Between c → Statics c e → e.walked ≡ c.walked → Fine e → CodeFits (result_sort answer) e → e.running.answer ≡ answer
@@ -292,7 +276,15 @@ definition_between line words declarator tree c z one p form_words form_name for
 external_between : (tree : Tree) (c z : Context) → Written tree → Formed tree → HasParams tree → IsDefinition tree → HasOwnName tree → Between c → external tree c ≡ Ok z → Between z
 unfolding external Written AllWritten Formed AllFormed
 external_between (Node f.Function (At line ▹ words ▹ Node f.Declared (declarator ▹ t.none) ▹ tree ▹ t.none)) c z p i j d own h q = definition_between line words declarator tree c z p.1.0 p.1.1.1.1.0 i.1.1.0 i.1.1.1.0 i.1.1.1.1.0 d j own h q
-external_between (Node f.Declaration (At line ▹ words ▹ names ▹ t.none)) c z p i j d own h q = declared_between line words names c z p.1.0 p.1.1.1.0 h q
+external_between (Node f.Declaration (At line ▹ words ▹ names ▹ t.none)) c z p i j d own h q =
+    let b = begun line [] c in
+    let r = file_declaration_runs None line words names b z p.1.0 p.1.1.1.0 (begun_fine line [] c p.1.0 h) h.flat q in
+    let s : Statics c z = record { variables = r.grew.variables; literals = r.grew.literals; calls = r.grew.calls; file = r.grew.file } in
+    record {
+      file = r.fine.names.file;
+      flat = r.depth ∙ h.flat;
+      walked = λ k x e. walked_on c z x s (h.walked k x (subst (λ (ws : List Walked). slice_get ws k ≡ Some x) r.walked e));
+    }
 external_between tree c z p i j d own h q = never _ _ z q
 
 pub externals_between : (unit : Trees) (c z : Context) → AreWritten unit → AreFormed unit → HaveOwnNames unit → Between c → externals unit c ≡ Ok z → Between z
@@ -376,13 +368,10 @@ list_parts : (x : Register) (xs : List Register) (s : Sort) (ss : List Sort) →
 list_parts x xs s ss e = (cc, cc)
 
 taken_sorts : (ps : List Sort) (k : ℕ) (xs ys : List Register) (rest : List Sort) → k ≡ length ps → map sort_of xs ≡ ps ++ rest → map sort_of (take k (xs ++ ys)) ≡ ps
-taken_sorts [] zero xs ys rest e h = refl
-taken_sorts [] (suc k) xs ys rest e h = absurd (omega (arith, e))
-taken_sorts (p ∷ ps) zero xs ys rest e h = absurd (omega (arith, e))
-taken_sorts (p ∷ ps) (suc k) [] ys rest e h = cc
 taken_sorts (p ∷ ps) (suc k) (x ∷ xs) ys rest e h =
     let parts = list_parts x xs p (ps ++ rest) h in
     ap (λ (s : Sort). s ∷ map sort_of (take k (xs ++ ys))) parts.0 ∙ ap (λ (ss : List Sort). p ∷ ss) (taken_sorts ps k xs ys rest (omega (arith, e)) parts.1)
+taken_sorts ps k xs ys rest e h = search arith fits 100
 
 count_sorts : (ps : PlainTypes) → length_of ps ≡ length (param_sorts ps)
 count_sorts types.none = refl
@@ -412,10 +401,7 @@ has_register func sort r e = by func.regs r e
     by (x ∷ xs) (suc k) e = omega (arith, by xs k e)
 
 result_register : (func : Func) (result : Option Sort) (r : Option ℕ) → GivesResult func result r → HasRegister func r
-result_register func None None h = tt
-result_register func (Some sort) None h = tt
-result_register func None (Some r) h = absurd h
-result_register func (Some sort) (Some r) h = has_register func sort r h
+result_register func result r h = search (arith, has_register) fits 100
 
 call_resolves : (c : Context) (x : Walked) → Ended c → (f : ℕ) (r : Option ℕ) (args : List Atom) → IsCall (walked_world c x) f r args
     → HasRegister (function_of c x) (option_map (numbers_of c x).register r) × TakesCall (core_of c) (function_of c x) (atoms_by (numbers_of c x) args) (slice_get (core_of c).funcs ((numbers_of c x).function f))

@@ -1,8 +1,8 @@
 -- One walk over expressions, and one over specs, tags and declarators.
-use Rattle.std.proofs.Common.{◌≡◌, ◌≤◌, ◌+◌, ◌*◌, ℕ, zero, suc, List, [], ◌∷◌, refl, arith, Bool, true, false, cond, Option, Some, None, unwrap_or, Ok, subst, ltb-false, ℤ, pos, Result, Err}
+use Rattle.std.proofs.Common.{◌≡◌, ◌≤◌, ◌+◌, ◌*◌, ℕ, zero, suc, List, [], ◌∷◌, refl, arith, Bool, true, false, cond, Option, Some, None, unwrap_or, Ok, subst, ltb-false, ℤ, pos, Result}
 use Rattle.std.specs.Prelude.{IfSome}
 use Rattle.core_soundness.proofs.Words.Trees.{Item, Says, Here, Part, shape, commas, behind_commas, assign_level, Place, Expression, name_of, Tree, Trees, Leaf, At, Node, none, ◌▹◌, count, BinaryOp, RecordSort}
-use Rattle.core_soundness.proofs.Words.Types.{TagTable, completion, PlainType, PlainTypes, Void, Int, Struct, Union, TagError, IntType, Callee, Prints, NoFunction, named, called, line_of, joined, string, literal, first_literal, typed, typename, wanted, constant_from, PlainNamed, Checked, then, found as declaration, named_in, innermost, with_name, tag_name, after_declaration, special_type, array_length, with_new_tag, with_layers, with_param_layers, adjusted, address, PlainTyped, is_record, place, BuiltIn, DeclaredTwice}
+use Rattle.core_soundness.proofs.Words.Types.{TagTable, completion, PlainType, PlainTypes, Void, Int, TagError, IntType, Callee, Prints, NoFunction, named, called, line_of, joined, string, literal, first_literal, typed, typename, wanted, constant_from, PlainNamed, Checked, then, found as declaration, with_name, tag_name, after_declaration, special_type, array_length, with_new_tag, with_layers, with_param_layers, adjusted, address, PlainTyped, is_record, place, BuiltIn, DeclaredTwice}
 use Rattle.core_soundness.proofs.Words.Core.{IsShort, Atom}
 use Rattle.core_soundness.proofs.Words.Elaborating.{record_assigned, scalar_assigned, old_value, Argument, first_type, rest_types, argument_from, built_in_at, Context, With, asked, told, new_label, entered, Found, valued, unused, Spot, read_spot, convert_integer, convert, tested, write, constant, with_type, maybe_name, begun_as, completed_by, complete, ended, member, enumerator, enum_named, param, left_params, specs, words_type, tag_type, members, member_names, enumerators, layers, suffix_layers, suffix_layer, params, name_answer, literal_answer, unevaluated, address_answer, changing, callee_name, callee, parameters, format_argument, is_printf, call_answer, found, arguments, cast_operand, with_param, combined, member_address, with_literal, left_operand, and_then, or_else, choose, type_ahead, choose_first}
 use Rattle.core_soundness.proofs.Words.Facts.{Names, AllNames}
@@ -49,8 +49,7 @@ behind_said place zero = refl
 behind_said place (suc k) = omega (arith, behind_said place k)
 
 pub commas_said : (place : Place) (k : ℕ) → 6 * k ≤ said (commas place k) + 6
-commas_said place zero = omega arith
-commas_said place (suc k) = omega (arith, behind_said place k)
+commas_said place k = search (arith, behind_said) fits 100
 
 -- one walk over expressions: what each of its steps keeps, it keeps (C99 6.5)
 
@@ -82,19 +81,13 @@ formats_short none line params c z h = omega arith
 formats_short (e ▹ rest) line params c z h = some_short (literal e) (first_short e rest line params c z h)
 
 called_printf : (line : ℕ) (tags : TagTable) (o : Option PlainNamed) (k : Callee) → called line tags o ≡ Ok k → built_in_at o ≡ Some bi.Printf → k ≡ Prints
-called_printf line tags (Some (n.BuiltIn index)) k h e = search (arith, ok_same)
-called_printf line tags other k h e = cc
+called_printf line tags o k h e = search (arith, ok_same) fits 100
 
 printf_callee : (e : Tree) (c : Context) (answer : With Found) (d : Context × Callee) → callee e c answer ≡ Ok d → built_in_at (callee_name e c) ≡ Some bi.Printf → d.1 ≡ Prints
-printf_callee (Node f.Name (At line ▹ Leaf (w.Name name) ▹ none)) c answer d h e = search (arith, came, ok_same, called_printf)
-printf_callee tree c answer d h e = none_there e
-  where
-    none_there : {G : Type 0} → built_in_at None ≡ Some bi.Printf → G
-    none_there q = cc
+printf_callee e c answer d h e2 = search (arith, came, ok_same, called_printf) fits 100
 
 prints_short : (o : Option BuiltIn) (format : Option (List ℕ)) → (o ≡ Some bi.Printf → IsShort (unwrap_or format [])) → PrintsShort o format
-prints_short (Some bi.Printf) format h = h refl
-prints_short other format h = tt
+prints_short o format h = search arith fits 100
 
 call_prints : (e : Tree) (c : Context) (answer : With Found) (values : Trees) (line : ℕ) (d : Context × Callee) (v : Context × List Argument) → callee e c answer ≡ Ok d → arguments line d.1 (parameters d.1) values d.0 ≡ Ok v → PrintsShort (built_in_at (callee_name e c)) (first_literal values)
 call_prints e c answer values line d v h k = search (arith, prints_short, formats_short, printf_callee)
@@ -137,8 +130,7 @@ module _ (R : ℕ → Context → Context → Type 0) (walk : Walks R) where
   callee_keeps k tree c answer h = reached_then (R (k + 1) c) (R (k + 1) c) (valued_keeps R walk.writes k tree c answer h) (λ d q. reached_ok (R (k + 1) c) q)
 
   format_keeps : (k : ℕ) (format : Option (List ℕ)) (c : Context) (answer : Checked (names.Context × PlainTyped)) (walked : With Found) → Reached (R k c) walked → Reached (R k c) (format_argument format c answer walked)
-  format_keeps k (Some bytes) c answer walked h = reached_after (R k c) answer (λ d q. reached_ok (R k c) (walk.writes.stop k c))
-  format_keeps k None c answer walked h = h
+  format_keeps k format c answer walked h = search (arith, reached_after, reached_ok) fits 100
 
   called_keeps : (line : ℕ) (name : Option PlainNamed) (function : Callee) (wanted : PlainType) (trees : Trees) (c : Context) (values : List Argument) → PrintsShort (built_in_at name) (first_literal trees) → Reached (R 2 c) (call_answer line name function wanted trees c values)
   called_keeps line name function wanted trees c values g = search (arith, reached_after, reached_ok, call_keeps)
@@ -296,27 +288,22 @@ module _ (R : Context → Context → Type 0) (tag : Tagging R) where
   begun_as_keeps sort name other c = tag.tells (with_new_tag sort name (asked c)).0 c (with_tag_more c.scopes name _)
 
   pub begun_keeps : (sort : RecordSort) (name : Option (List ℕ)) (c : Context) → R c (begun sort name c).0
-  begun_keeps sort None c = tag.retags _ c
-  begun_keeps sort (Some name) c = begun_as_keeps sort name (named_in (tag_name name) (innermost c.scopes)) c
+  begun_keeps sort name c = search (arith, begun_as_keeps) fits 100
 
   completed_keeps : (line : ℕ) (c : Context) (type : PlainType) (o : Result TagTable TagError) → Reached (R c) (completed_by line c type o)
-  completed_keeps line c type (Ok tags) = reached_ok (R c) (tag.retags tags c)
-  completed_keeps line c type (Err error) = reached_refused (R c)
+  completed_keeps line c type o = search (arith, reached_ok, reached_refused) fits 100
 
   complete_keeps : (line number : ℕ) (type : PlainType) (c : Context) (list : d.Members) → Reached (R c) (complete line number type c list)
   complete_keeps line number type c list = reached_unless (R c) _ DeclaredTwice line (completed_keeps line c type (completion c.tags number list))
 
   pub ended_keeps : (line : ℕ) (sort : RecordSort) (type : PlainType) (c : Context) (list : d.Members) → Reached (R c) (ended line sort type c list)
-  ended_keeps line r.Struct (Struct number) c list = complete_keeps line number (Struct number) c list
-  ended_keeps line r.Union (Union number) c list = complete_keeps line number (Union number) c list
-  ended_keeps line sort type c list = reached_refused (R c)
+  ended_keeps line sort type c list = search (arith, complete_keeps, reached_refused) fits 100
 
   pub members_keep_one : (line : ℕ) (name : Option (List ℕ)) (type : PlainType) (list : d.Members) (c : Context) → Reached (R c) (member line name type list c)
   members_keep_one line name type list c = search (arith, reached_unless, reached_after, reached_ok)
 
   pub enum_named_keeps : (line : ℕ) (name : Option (List ℕ)) (c : Context) → Reached (R c) (enum_named line name c)
-  enum_named_keeps line None c = reached_ok (R c) (tag.stop c)
-  enum_named_keeps line (Some name) c = search (arith, reached_unless, reached_ok)
+  enum_named_keeps line name c = search (arith, reached_ok, reached_unless) fits 100
 
   module _ (adds : Enumerates R) where
     enumerator_keeps : (line : ℕ) (name : List ℕ) (value : ℤ) (c : Context) → Reached (R c) (enumerator line name value c)
@@ -472,18 +459,8 @@ abbrev Made : ℕ → Context → Context → Type 0
 Made n c d = Grows c d
 
 grows_writes : Writes Made
-grows_writes = record {
-  stop = λ n c. grows_refl c;
-  join = λ m n k a b c h x y. grows_trans a b c x y;
-  emits = λ line kind c h. grows_emit line kind c h;
-  integer = λ line kind c h. grows_integer line kind c h;
-  pointer = λ line kind c h. grows_pointer line kind c h;
-  forgets = λ n b c g. grows_forgotten b c g;
-  forks = λ m n k t r s line at a h x y. grows_fork t r s line at a x y;
-  formats = λ bytes c h. grows_format bytes c;
-  calls = λ calls c. grows_calls calls c;
-  frees = λ line a c. grows_free line a c;
-}
+grows_writes =
+    search (arith, grows_refl, grows_trans, grows_emit, grows_integer, grows_pointer, grows_forgotten, grows_fork, grows_format, grows_calls, grows_free) fits 100
 
 pub grows_read : (line : ℕ) (type : PlainType) (spot : Spot) (c : Context) → Grows c (read_spot line type spot c).0
 grows_read line type spot c = read_keeps Made grows_writes line type spot c

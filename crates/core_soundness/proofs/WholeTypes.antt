@@ -1,16 +1,15 @@
 -- Types that are whole stay so, and have sizes from 1 to that of the largest object.
-use Rattle.std.proofs.Common.{◌≡◌, ◌≤◌, ◌*◌, ◌==◌, ℕ, zero, suc, Bool, true, false, cond, is_some, List, [], ◌∷◌, ◌++◌, map, fold, zip, Option, Some, None, IsSome, IfSome, option_map, unwrap_or, refl, sym, ap, ◌∙◌, subst, arith}
+use Rattle.std.proofs.Common.{◌≡◌, ◌≤◌, ◌*◌, ◌==◌, ℕ, Bool, true, false, cond, is_some, List, [], ◌∷◌, ◌++◌, map, fold, zip, Option, Some, None, IsSome, IfSome, option_map, unwrap_or, refl, sym, ap, ◌∙◌, subst, arith}
 use Rattle.std.proofs.lemmas.List.Sums.{fold_push}
 use Rattle.std.specs.List.{find}
 use Rattle.std.specs.Option.{option_or}
-use Rattle.core_soundness.proofs.Words.Types.{Known, ArraysFit, Placed, none_placed, placed, layout_of, number_layout, pointer_layout, no_layout, members_layout, CompletedTag, TagTable, PlainMember, learn, known, tag_layout, members_in, PlainType, PlainTypes, Int, Pointer, Array, Struct, Union, Function, none, first, width_of, Layout, IntType, PlainNamed}
+use Rattle.core_soundness.proofs.Words.Types.{Known, ArraysFit, Placed, none_placed, placed, layout_of, no_layout, members_layout, CompletedTag, TagTable, PlainMember, learn, known, tag_layout, members_in, PlainType, PlainTypes, Pointer, Array, Function, none, first, width_of, Layout, IntType, PlainNamed}
 use Rattle.core_soundness.proofs.Words.Core.{IsCompleted, AreCompleted, IsLayoutOfType}
 use Rattle.core_soundness.proofs.Words.Facts.{IsRow, Whole, AllWhole, MembersWhole, AreMade, NamedWhole}
 use Rattle.c_types.proofs.MemberLemmas.{Extends, some_array, layout_stays}
 use Rattle.c_types.proofs.Places.{stays_known}
 use Rattle.c_types.proofs.Sound.{rounded_le}
 use Rattle.c_types.specs.Layouts.{place}
-use Rattle.c_types.specs.declared.types.IntType.TheVariants as i
 use Rattle.core_tree.proofs.TypeLayouts.{type_layout_small}
 use Rattle.c_decls.specs.Named as n
 
@@ -41,12 +40,7 @@ members_stay [] j k x h = tt
 members_stay (m ∷ ms) j k x h = ((whole_stays m.1 j k x h.0.0, some_stays j k m.1 x h.0.1), members_stay ms j k x h.1)
 
 pub named_stays : (v : PlainNamed) (j k : Known) → Extends j k → NamedWhole j v → NamedWhole k v
-named_stays (n.Object type i) j k x h = whole_stays type j k x h
-named_stays (n.Register type i) j k x h = whole_stays type j k x h
-named_stays (n.Function type i) j k x h = whole_stays type j k x h
-named_stays (n.Typedef type) j k x h = whole_stays type j k x h
-named_stays (n.Constant type value) j k x h = h
-named_stays other j k x h = tt
+named_stays v j k x h = search (arith, whole_stays) fits 100
 
 pub extends_refl : (k : Known) → Extends k k
 extends_refl k tag l e = e
@@ -85,22 +79,16 @@ abbrev AllSized : Known → Type 0
 AllSized k = (tag : ℕ) (l : Layout) → k tag ≡ Some l → 1 ≤ l.size
 
 width_some : (int : IntType) → 1 ≤ width_of int
-width_some i.Char = omega arith
-width_some other = omega arith
+width_some int = search arith fits 100
 
 product_some : (n m : ℕ) → 1 ≤ n → 1 ≤ m → 1 ≤ n * m
-product_some zero m h k = absurd (omega (arith, h))
-product_some (suc n) m h k = omega arith
+product_some n m h k = search arith fits 100
 
 layout_some : (k : Known) → AllSized k → (type : PlainType) (l : Layout) → Whole k type → layout_of k type ≡ Some l → 1 ≤ l.size
-layout_some k a (Int int) l w e = let same : number_layout (width_of int) ≡ l = cc in subst (λ (x : Layout). 1 ≤ x.size) same (width_some int)
-layout_some k a (Pointer target) l w e = let same : pointer_layout ≡ l = cc in subst (λ (x : Layout). 1 ≤ x.size) same (omega arith)
 layout_some k a (Array element n) l w e =
     let r = some_array (layout_of k element) n l e in
     subst (λ (x : Layout). 1 ≤ x.size) r.2 (product_some n r.0.size w.1.3 (layout_some k a element r.0 w.0 r.1))
-layout_some k a (Struct tag) l w e = a tag l e
-layout_some k a (Union tag) l w e = a tag l e
-layout_some k a other l w e = cc
+layout_some k a type l w e = search (arith, width_some) fits 100
 
 -- members are placed one behind another, or all at 0
 pub placed_far : (u : Bool) (p : Placed) (ls : List Layout) → p.end ≤ (fold (place u) p ls).end
@@ -114,8 +102,7 @@ body_some : (u : Bool) (l : Layout) (ls : List Layout) → 1 ≤ l.size → 1 �
 body_some u l ls h = search (arith, first_far, rounded_le)
 
 pub some_layout : (o : Option Layout) → is_some o ≡ true → o ≡ Some (unwrap_or o no_layout)
-some_layout None e = cc
-some_layout (Some l) e = refl
+some_layout o e = search arith fits 100
 
 tag_some : (k : Known) → AllSized k → (new : CompletedTag) (ms : List (List ℕ × PlainType)) → new.members ≡ ms → ((new.members ≡ []) → ⊥) → MembersWhole k ms → 1 ≤ (tag_layout k new).size
 tag_some k a new [] e s w = absurd (s e)
