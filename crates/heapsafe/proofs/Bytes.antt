@@ -1,7 +1,8 @@
 -- What is answered for the bytes of a file that is executed.
-use Rattle.std.proofs.Common.{◌≡◌, ◌⊎◌, ◌≤◌, ◌<◌, ℕ, List, [], ◌∷◌, Some, None, cond, Err, inl, inr, refl, sym, subst, arith, get_or, length}
+use Rattle.std.proofs.Common.{◌≡◌, ◌≤◌, ◌<◌, ◌+◌, ℕ, List, [], ◌∷◌, Option, Some, None, cond, Err, inl, inr, refl, sym, ap, subst, arith, get_or, length}
 use Rattle.std.specs.Prelude.{MatchBool}
 use Rattle.std.proofs.lemmas.Bool.{le-ltb, lt-ltb}
+use Rattle.hs_base.specs.declared.outside.Texts as reading
 use Rattle.flat_code.specs.WellFormed.{IsWellFormed}
 use Rattle.meaning_laws.specs.code.Laws.{HoldsBytes}
 use Rattle.code_file.specs.declared.file.CodeFile.{CodeFile}
@@ -9,14 +10,15 @@ use Rattle.code_file.specs.CodeFile.{HasBytes, IsFileOf, IsRanged, IsRangedStati
 use Rattle.heapsafe.specs.declared.executing.Asked.{Asked}
 use Rattle.hs_base.specs.declared.reading.ReadError.{ReadError}
 use Rattle.hs_base.specs.declared.reading.ReadError.TheVariants.{Fault, TooLong, NoMemory}
-use Rattle.heapsafe.specs.Execution.{AnswersBytes, AnswersCode, AnswersExecution, AnswersVerified, most_bytes}
+use Rattle.heapsafe.specs.Execution.{AnswersBytes, AnswersCode, AnswersExecution, AnswersVerified, asked_of, most_bytes}
 use Rattle.heapsafe.specs.Program.{Input}
 use Rattle.hs_base.specs.ReadAll.{ReadCounts, Reads}
-use Rattle.command_words.specs.Commands.{Execute}
-use Rattle.heapsafe.specs.Saying.{IsSaid, IsTextOf, unread, unread_files}
-use Rattle.heapsafe.proofs.Broken.{own_line}
-use Rattle.heapsafe.proofs.Told.{IsSilent}
-use Rattle.heapsafe.specs.Shown.{Shown, bad_code, no_memory, text_fault, text_too_long, unverified}
+use Rattle.heapsafe.specs.Saying.{SaysOnly, unread}
+use Rattle.heapsafe.specs.Serving.{Obeys}
+use Rattle.heapsafe.specs.Sight.{Sight}
+use Rattle.heapsafe.proofs.Served.{IsLine, memory_line, obeys_fault, obeys_said}
+use Rattle.heapsafe.proofs.Statuses.{no_fault}
+use Rattle.heapsafe.specs.Shown.{Shown, bad_code, no_memory, text_too_long, unverified}
 
 -- the numbers of a file are those of their types, and so its statics hold bytes
 pub ranged_bytes : (file : CodeFile) → IsRanged file → HoldsBytes file.code
@@ -53,32 +55,36 @@ module _ (name : List ℕ) (input : Input) (asked : Asked) (a : Shown) where
   pub long_is : (bytes : List ℕ) → most_bytes < length bytes → AnswersExecution name bytes input asked a → a ≡ text_too_long name
   long_is bytes long is = subst (λ b. MatchBool b (a ≡ text_too_long name) (AnswersBytes name bytes input asked a)) (lt-ltb most_bytes (length bytes) long) is
 
--- a file that was not read, where reading did not fail
-pub unread_is : (error : ReadError) (name bytes : List ℕ) (input : Input) (asked : Asked) (t t' : ℕ) → Reads bytes most_bytes (Err error) → ReadCounts {T = List ℕ} t t' (Err error) → t' ≡ t → AnswersExecution name bytes input asked (unread error name) ⊎ (unread error name ≡ no_memory)
-unread_is Fault name bytes input asked t t' reads counts same = absurd (omega (arith, counts, same))
-unread_is TooLong name bytes input asked t t' reads counts same = inl (is_long name input asked (text_too_long name) bytes reads refl)
-unread_is NoMemory name bytes input asked t t' reads counts same = inr refl
+pub code_line : (name : List ℕ) → IsLine (bad_code name)
+code_line name = record {
+  silent = record { read = refl; out = refl };
+  wants = λ h. absurd (omega (arith, h));
+  fair = λ is. no_fault 136 (λ h. omega (arith, h)) (λ h. omega (arith, h)) (λ h. omega (arith, h)) is;
+}
 
--- an answer of it
-pub unread_line : (error : ReadError) (name bytes : List ℕ) (input : Input) (asked : Asked) (a : Shown) (t t' : ℕ) → Reads bytes most_bytes (Err error) → ReadCounts {T = List ℕ} t t' (Err error) → t' ≡ t → AnswersExecution name bytes input asked a → (a ≡ unread error name) ⊎ (unread error name ≡ no_memory)
-unread_line Fault name bytes input asked a t t' reads counts same is = absurd (omega (arith, counts, same))
-unread_line TooLong name bytes input asked a t t' reads counts same is = inl (long_is name input asked a bytes reads is)
-unread_line NoMemory name bytes input asked a t t' reads counts same is = inr refl
+pub unverified_line : (name : List ℕ) → IsLine (unverified name)
+unverified_line name = record {
+  silent = record { read = refl; out = refl };
+  wants = λ h. absurd (omega (arith, h));
+  fair = λ is. no_fault 137 (λ h. omega (arith, h)) (λ h. omega (arith, h)) (λ h. omega (arith, h)) is;
+}
 
-pub unread_silent : (error : ReadError) (name : List ℕ) → IsSilent (unread error name)
-unread_silent Fault name = record { read = refl; out = refl }
-unread_silent TooLong name = record { read = refl; out = refl }
-unread_silent NoMemory name = record { read = refl; out = refl }
+pub long_line : (name : List ℕ) → IsLine (text_too_long name)
+long_line name = record {
+  silent = record { read = refl; out = refl };
+  wants = λ h. absurd (omega (arith, h));
+  fair = λ is. no_fault 122 (λ h. omega (arith, h)) (λ h. omega (arith, h)) (λ h. omega (arith, h)) is;
+}
 
--- a file is one of itself alone
-own_text : (name : List ℕ) → IsTextOf (name ∷ []) name
-own_text name = inl (0, omega arith, refl)
-
--- its line, where the error stream failed
-pub unread_off : (error : ReadError) (name bytes : List ℕ) (input : Input) (asked : Asked) (a : Shown) (t t' i p : ℕ) → Reads bytes most_bytes (Err error) → ReadCounts {T = List ℕ} t t' (Err error) → AnswersExecution name bytes input asked a →
-    IsSaid (unread_files (Some (Execute name asked.limits.heap asked.limits.stack asked.steps asked.leaks asked.explain)) t t') a i i p p (unread error name).err
-unread_off Fault name bytes input asked a t t' i p reads counts is =
-    subst (λ b. IsSaid (cond b (Some (name ∷ [])) None) a i i p p (text_fault name).err) (sym (lt-ltb t t' (omega (arith, counts)))) (name, own_text name, refl)
-unread_off error name bytes input asked a t t' i p reads counts is =
-    subst (λ b. IsSaid (cond b (Some (name ∷ [])) None) a i i p p (unread error name).err) (sym (le-ltb t t' (omega (arith, counts))))
-    (own_line (unread error name) a i i p p (unread_line error name bytes input asked a t t' reads counts counts is) refl refl)
+-- a file that was not read: its line was said
+module _ {T I O E : Type 0} (of : reading.Ghosts T) (texts texts' : T) (before after : Sight I O E) (result : ℕ) (name : List ℕ) (asked : Asked) where
+  pub unread_obeys : (error : ReadError) → ((told : List ℕ → List ℕ) → of.texts texts ≡ Some told → Reads (told name) most_bytes (Err error)) → ReadCounts {T = List ℕ} (of.faults texts) (of.faults texts') (Err error) →
+      SaysOnly (unread error name) before after result → Obeys of (asked_of name asked) texts texts' before after result
+  unread_obeys Fault reads counts said =
+      obeys_fault of texts texts' before after result (asked_of name asked) name counts
+      (ap (λ b. cond b (Some (name ∷ [])) None) (lt-ltb (of.faults texts) (of.faults texts') (omega (arith, counts)))) (inl (0, omega arith, refl)) said
+  unread_obeys TooLong reads counts said =
+      obeys_said of texts texts' before after result (asked_of name asked) (text_too_long name) (long_line name) counts
+      (λ told k i. inl (is_long name i asked (text_too_long name) (told name) (reads told k) refl)) (λ told k i a is. inl (long_is name i asked a (told name) (reads told k) is)) said
+  unread_obeys NoMemory reads counts said =
+      obeys_said of texts texts' before after result (asked_of name asked) no_memory memory_line counts (λ told k i. inr refl) (λ told k i a is. inr refl) said

@@ -1,66 +1,110 @@
 -- A program's answer, from the events, the end and the objects of its run, whichever meaning has them.
-use Rattle.std.proofs.Common.{◌≡◌, ℕ, Bool, true, false, cond, List, [], ◌++◌, Option, Some, None, inl, inr, refl, sym, ◌∙◌, subst, arith}
-use Rattle.std.specs.Prelude.{IsTrue, nat_lt}
+use Rattle.std.proofs.Common.{◌≡◌, ◌+◌, ◌≤◌, ◌<◌, ℕ, Bool, true, false, cond, List, [], ◌∷◌, ◌++◌, Option, Some, None, Ok, inl, inr, refl, sym, ap, ◌∙◌, subst, arith, ⊎_elim}
+use Rattle.std.specs.Prelude.{IsTrue, nat_lt, ⊤}
+use Rattle.std.proofs.lemmas.List.{append-nil}
 use Rattle.hs_base.specs.declared.ends.End.{End}
 use Rattle.hs_base.specs.declared.ends.End.TheVariants as end
 use Rattle.hs_base.specs.declared.ends.Leak.{Leak}
 use Rattle.hs_base.specs.declared.ends.Limits.{Limits}
 use Rattle.hs_base.specs.Object.{Object}
-use Rattle.hs_base.specs.Cut.{ending_of}
+use Rattle.hs_base.specs.Cut.{cut, ending_of}
 use Rattle.hs_base.specs.Trace.{Event, Out, In, New, Gone, Enter, Leave, Ending, bytes_in, bytes_out}
 use Rattle.c_pre.specs.declared.answer.Opened.{Opened}
 use Rattle.core_tree.specs.declared.program.Core.{Core}
 use Rattle.bad_free_report.specs.declared.explanation.InForce.{InForce}
 use Rattle.flat_code.specs.declared.program.Code.{Code}
-use Rattle.object_meaning.specs.code.CodeMeaning.{meaning}
-use Rattle.meaning_run.specs.Meant.{StopsAtIn, Stopped, end_in}
+use Rattle.object_meaning.specs.code.CodeMeaning as code
+use Rattle.flat_codegen.specs.Running as core_runs
+use Rattle.meaning_run.specs.Meant.{MeanAnswers, StopsAtIn, Stopped, end_in}
+use Rattle.meaning_run.specs.Meant as meant_runs
 use Rattle.flat_machine.specs.Running.{RunAnswers, RunCounts, Whole, cut_of}
-use Rattle.heapsafe.specs.Shown.{Shown}
-use Rattle.heapsafe.specs.Places.{told_leaks, told_end_of}
-use Rattle.heapsafe.specs.Program.{AnswersProgram, AreTold, Done, Ended, TellsNone, status_of}
-use Rattle.heapsafe.specs.Saying.{Breaks, Gives, Says, SaysLeaks, TakesAll}
-use Rattle.heapsafe.proofs.Ended as ended
-use Rattle.heapsafe.proofs.Ended.{IsNoExit, none_told, tells_none}
-use Rattle.heapsafe.proofs.Broken as broken
+use Rattle.heapsafe.specs.Shown.{Shown, no_memory}
+use Rattle.heapsafe.specs.Places.{told_end_of, told_leaks}
+use Rattle.heapsafe.specs.Program.{AnswersProgram, AnswersWay, AreTold, Done, Ended, Input, TellsNone, ended, explains_mean, input_of, run_within, meant, status_of, unfinished}
+use Rattle.heapsafe.specs.Saying.{Breaks, Gives, IsFault, IsSaid, Puts, Says, SaysCounts, SaysLeaks, SaysOnly, SaysOwn, TakesAll}
+use Rattle.heapsafe.specs.Serving.{Runs}
+use Rattle.heapsafe.specs.Sight.{KeepsBoth, Sight}
+use Rattle.heapsafe.specs.declared.program.Way.TheVariants.{Mean}
+use Rattle.heapsafe.proofs.Served.{says_from}
+use Rattle.heapsafe.proofs.Told.{gives, said_faults}
+use Rattle.heapsafe.proofs.Ended.{IsNoExit, input_end, none_told, output_end, program_faults, same_some, stopped_is, tells_none, whole_is}
+use Rattle.heapsafe.proofs.Broken.{Fronts, says_front}
+use Rattle.heapsafe.proofs.Statuses.{end_cause, end_refused, never_refused, no_fault, own_end}
 
 -- all events were made: what they write and read, and the end
-pub record MakesAll (events : List Event) (ends : Option End) (left put : List ℕ) (left' : Option (List ℕ)) (x : End) : Type 0 where
+pub record MakesAll (events : List Event) (ends : Option End) (left : List ℕ) (x : End) (left' taken : Option (List ℕ)) : Type 0 where
   pub end : ends ≡ Some x
-  pub is_taken : Some put ≡ Some (bytes_out events)
+  pub is_taken : taken ≡ Some (bytes_out events)
   pub rest : List ℕ
   pub is_left : left' ≡ Some rest
   pub is_read : bytes_in events ++ rest ≡ left
 
 -- or a first part of them
-abbrev pub Makes : List Event → Option End → List ℕ → List ℕ → Option (List ℕ) → End → Type 0
-Makes events ends left put left' end.InputFault = StopsAtIn events left [] left' (Some put)
-Makes events ends left put left' end.OutputFault = Stopped events left [] left' (Some put)
-Makes events ends left put left' x = MakesAll events ends left put left' x
+abbrev pub Makes : List Event → Option End → List ℕ → End → Option (List ℕ) → Option (List ℕ) → Type 0
+Makes events ends left end.InputFault left' taken = StopsAtIn events left [] left' taken
+Makes events ends left end.OutputFault left' taken = Stopped events left [] left' taken
+Makes events ends left x left' taken = MakesAll events ends left x left' taken
 
 -- such a run, and the objects that it leaves, where they are asked for
 abbrev pub done_of : List Event → Option End → List Object → Bool → Done
 done_of events ends objects leaks = record { events = events; ends = ends; left = cond leaks (Some objects) None }
 
 -- a run of code is one
-module _ (code : Code) (left put : List ℕ) (n : ℕ) (limits : Limits) (left' : Option (List ℕ)) where
+module _ (program : Code) (left : List ℕ) (n : ℕ) (limits : Limits) (left' taken : Option (List ℕ)) where
   abbrev pub code_events : List Event
-  code_events = (cut_of code left n limits).kept
+  code_events = (cut_of program left n limits).kept
 
   abbrev pub code_ends : Option End
-  code_ends = end_in (ending_of (cut_of code left n limits).refused (meaning code left n limits.heap).ended)
+  code_ends = end_in (ending_of (cut_of program left n limits).refused (code.meaning program left n limits.heap).ended)
 
-  whole_makes : (x : End) → Whole code left n limits [] x left' (Some put) → MakesAll code_events code_ends left put left' x
-  whole_makes x w = record { end = w.end; is_taken = w.is_taken; rest = w.left; is_left = w.is_left; is_read = w.is_read }
+  code_whole : (x : End) → Whole program left n limits [] x left' taken → MakesAll code_events code_ends left x left' taken
+  code_whole x w = record { end = w.end; is_taken = w.is_taken; rest = w.left; is_left = w.is_left; is_read = w.is_read }
 
-  pub code_makes : (x : End) → RunAnswers code left n limits [] x left' (Some put) → Makes code_events code_ends left put left' x
+  pub code_makes : (x : End) → RunAnswers program left n limits [] x left' taken → Makes code_events code_ends left x left' taken
   code_makes end.InputFault h = h
   code_makes end.OutputFault h = h
-  code_makes (end.Exit status) h = whole_makes (end.Exit status) h
-  code_makes (end.Trap kind line) h = whole_makes (end.Trap kind line) h
-  code_makes (end.BadFree why holder) h = whole_makes (end.BadFree why holder) h
-  code_makes (end.Escape func local line) h = whole_makes (end.Escape func local line) h
-  code_makes end.Spent h = whole_makes end.Spent h
-  code_makes (end.OutOfStack line) h = whole_makes (end.OutOfStack line) h
+  code_makes (end.Exit status) h = code_whole (end.Exit status) h
+  code_makes (end.Trap kind line) h = code_whole (end.Trap kind line) h
+  code_makes (end.BadFree why holder) h = code_whole (end.BadFree why holder) h
+  code_makes (end.Escape func local line) h = code_whole (end.Escape func local line) h
+  code_makes end.Spent h = code_whole end.Spent h
+  code_makes (end.OutOfStack line) h = code_whole (end.OutOfStack line) h
+
+-- so is a run of a core on a machine
+module _ (core : Core) (left : List ℕ) (n : ℕ) (limits : Limits) (left' taken : Option (List ℕ)) where
+  abbrev pub core_events : List Event
+  core_events = (run_within limits core left n false).events
+
+  abbrev pub core_ends : Option End
+  core_ends = (run_within limits core left n false).ends
+
+  core_whole : (x : End) → core_runs.Whole core left n limits [] x left' taken → MakesAll core_events core_ends left x left' taken
+  core_whole x w = record { end = w.end; is_taken = w.is_taken; rest = w.left; is_left = w.is_left; is_read = w.is_read }
+
+  pub core_makes : (x : End) → core_runs.RunAnswers core left n limits [] x left' taken → Makes core_events core_ends left x left' taken
+  core_makes end.InputFault h = h
+  core_makes end.OutputFault h = h
+  core_makes (end.Exit status) h = core_whole (end.Exit status) h
+  core_makes (end.Trap kind line) h = core_whole (end.Trap kind line) h
+  core_makes (end.BadFree why holder) h = core_whole (end.BadFree why holder) h
+  core_makes (end.Escape func local line) h = core_whole (end.Escape func local line) h
+  core_makes end.Spent h = core_whole end.Spent h
+  core_makes (end.OutOfStack line) h = core_whole (end.OutOfStack line) h
+
+-- and its evaluation
+module _ (core : Core) (left : List ℕ) (n heap : ℕ) (left' taken : Option (List ℕ)) where
+  mean_whole : (x : End) → meant_runs.Whole core left n heap [] x left' taken → MakesAll (meant core left n heap).events (meant core left n heap).ends left x left' taken
+  mean_whole x w = record { end = w.end; is_taken = w.is_taken; rest = w.left; is_left = w.is_left; is_read = w.is_read }
+
+  pub mean_makes : (x : End) → MeanAnswers core left n heap [] (Ok x) left' taken → Makes (meant core left n heap).events (meant core left n heap).ends left x left' taken
+  mean_makes end.InputFault h = h
+  mean_makes end.OutputFault h = h
+  mean_makes (end.Exit status) h = mean_whole (end.Exit status) h
+  mean_makes (end.Trap kind line) h = mean_whole (end.Trap kind line) h
+  mean_makes (end.BadFree why holder) h = mean_whole (end.BadFree why holder) h
+  mean_makes (end.Escape func local line) h = mean_whole (end.Escape func local line) h
+  mean_makes end.Spent h = mean_whole end.Spent h
+  mean_makes (end.OutOfStack line) h = mean_whole (end.OutOfStack line) h
 
 -- where it ends by an exit, nothing was cut off
 pub exit_whole : (refused : Option Event) (stopped : Option Ending) (status : ℕ) → end_in (ending_of refused stopped) ≡ Some (end.Exit status) → (refused ≡ None) × (ending : Ending) × (stopped ≡ Some ending)
@@ -73,85 +117,172 @@ exit_whole (Some (Gone birth)) stopped status h = absurd (cc)
 exit_whole (Some (Enter cost line)) stopped status h = absurd (cc)
 exit_whole (Some Leave) stopped status h = absurd (cc)
 
-module _ (file : List ℕ) (opened : List Opened) (core : Core) (asked : Option InForce) (left put : List ℕ) (left' o o' err err' : Option (List ℕ)) (i i' p p' f f' result : ℕ) (took : TakesAll o o' put) where
+-- The bytes of two parts of a trace
+
+out_of_parts : (a b : List Event) → bytes_out (a ++ b) ≡ bytes_out a ++ bytes_out b
+out_of_parts [] b = refl
+out_of_parts (Out byte ∷ a) b = ap (λ (l : List ℕ). byte ∷ l) (out_of_parts a b)
+out_of_parts (In byte ∷ a) b = out_of_parts a b
+out_of_parts (New birth size line ∷ a) b = out_of_parts a b
+out_of_parts (Gone birth ∷ a) b = out_of_parts a b
+out_of_parts (Enter cost line ∷ a) b = out_of_parts a b
+out_of_parts (Leave ∷ a) b = out_of_parts a b
+
+in_of_parts : (a b : List Event) → bytes_in (a ++ b) ≡ bytes_in a ++ bytes_in b
+in_of_parts [] b = refl
+in_of_parts (Out byte ∷ a) b = in_of_parts a b
+in_of_parts (In (Some byte) ∷ a) b = ap (λ (l : List ℕ). byte ∷ l) (in_of_parts a b)
+in_of_parts (In None ∷ a) b = in_of_parts a b
+in_of_parts (New birth size line ∷ a) b = in_of_parts a b
+in_of_parts (Gone birth ∷ a) b = in_of_parts a b
+in_of_parts (Enter cost line ∷ a) b = in_of_parts a b
+in_of_parts (Leave ∷ a) b = in_of_parts a b
+
+-- an end that is no exit tells of no leaks
+told_none : (left : Option (List Object)) (x : End) (leaks : List Leak) → IsNoExit x → AreTold left x leaks → leaks ≡ []
+told_none None x leaks unlike told = told
+told_none (Some objects) (end.Exit code) leaks unlike told = absurd unlike
+told_none (Some objects) (end.Trap kind line) leaks unlike told = told
+told_none (Some objects) (end.BadFree why holder) leaks unlike told = told
+told_none (Some objects) (end.Escape func local line) leaks unlike told = told
+told_none (Some objects) end.Spent leaks unlike told = told
+told_none (Some objects) (end.OutOfStack line) leaks unlike told = told
+told_none (Some objects) end.InputFault leaks unlike told = told
+told_none (Some objects) end.OutputFault leaks unlike told = told
+
+same_end : (x y : End) → Some x ≡ Some y → x ≡ y
+same_end x y e = cc
+
+module _ {I O E : Type 0} (file : List ℕ) (opened : List Opened) (core : Core) (asked : Option InForce) (before after : Sight I O E) (result : ℕ) where
   -- the report of an end was said, and nothing else
-  abbrev Plain : End → Type 0
-  Plain x = Says err err' f f' (told_end_of core file opened asked x) (status_of x) result
+  abbrev pub Plain : End → Type 0
+  Plain x = Says before after (told_end_of core file opened asked x) (status_of x) result
+
+  -- and then some leaks
+  abbrev Reported : End → List Leak → Type 0
+  Reported x leaks = Says before after (told_end_of core file opened asked x ++ told_leaks opened leaks) (status_of x) result
+
+  plain : (x : End) → Plain x → Reported x []
+  plain x said =
+      subst (λ (bytes : List ℕ). Says before after bytes (status_of x) result) (sym (append-nil (told_end_of core file opened asked x))) said
 
   -- what is told of a run: nothing behind its report, or behind an exit its leaks
   pub record Telling (objects : List Object) (leaks : Bool) (x : End) : Type 0 where
     pub none : TellsNone leaks x → Plain x
-    pub some : (code : ℕ) → IsTrue leaks → x ≡ end.Exit code → SaysLeaks opened objects err err' f f' code result
+    pub some : (code : ℕ) → IsTrue leaks → x ≡ end.Exit code → SaysLeaks opened objects before after code result
 
-  module _ (events : List Event) (ends : Option End) (objects : List Object) where
-    module _ (same : f' ≡ f) where
+  module _ (left put : List ℕ) (took : TakesAll before.taken after.taken put) (events : List Event) (ends : Option End) (objects : List Object) where
+    abbrev Made : End → Type 0
+    Made x = MakesAll events ends left x after.left (Some put)
+
+    abbrev Counts : End → Type 0
+    Counts x = RunCounts x before.input_faults after.input_faults before.out_faults after.out_faults
+
+    -- the output took what a run wrote
+    wrote : (bytes : List ℕ) → Some put ≡ Some bytes → TakesAll before.taken after.taken bytes
+    wrote bytes is = λ t h. took t h ∙ ap (λ (b : List ℕ). Some (t ++ b)) (same_some put bytes is)
+
+    module _ (same : after.err_faults ≡ before.err_faults) where
+      abbrev Is : Bool → Shown → Type 0
+      Is leaks a = AnswersProgram file opened core asked (nat_lt before.input_faults after.input_faults) (done_of events ends objects leaks) a
+
       abbrev Gave : Bool → Type 0
-      Gave leaks = Gives (AnswersProgram file opened core asked (nat_lt i i') (done_of events ends objects leaks)) left left' o o' err err' result
+      Gave leaks = Gives (λ a. Is leaks a) left before after result
 
-      whole : (leaks : Bool) (x : End) (told : List Leak) → MakesAll events ends left put left' x → i' ≡ i → AreTold (done_of events ends objects leaks).left x told → Says err err' f f' (told_end_of core file opened asked x ++ told_leaks opened told) (status_of x) result → Gave leaks
+      whole : (leaks : Bool) (x : End) (told : List Leak) → Made x → after.input_faults ≡ before.input_faults → AreTold (done_of events ends objects leaks).left x told → Reported x told → Gave leaks
       whole leaks x told w stays are said =
-          ended.whole file opened core asked left put left' o o' err err' i i' p p' f f' result took same (done_of events ends objects leaks) x told w.rest stays w.end are w.is_taken w.is_left w.is_read said
+          gives before after result (λ a. Is leaks a) (ended file opened core asked events x told) left w.rest
+          (inl (whole_is file opened core asked (done_of events ends objects leaks) x told before.input_faults after.input_faults stays w.end are))
+          w.is_left w.is_read (wrote (bytes_out events) w.is_taken) same said
 
-      plain : (x : End) → Plain x → Says err err' f f' (told_end_of core file opened asked x ++ told_leaks opened []) (status_of x) result
-      plain x said = ended.plain file opened core asked left put left' o o' err err' i i' p p' f f' result took same x said
+      stopped : (leaks : Bool) → after.input_faults ≡ before.input_faults + 1 → StopsAtIn events left [] after.left (Some put) → Plain end.InputFault → Gave leaks
+      stopped leaks more s said =
+          gives before after result (λ a. Is leaks a) (ended file opened core asked s.before end.InputFault []) left s.left
+          (inl (stopped_is file opened core asked (done_of events ends objects leaks) s.before s.byte s.rest before.input_faults after.input_faults more s.is))
+          s.is_left s.is_read (wrote (bytes_out s.before) s.is_taken) same (plain end.InputFault said)
 
-      exit : (leaks : Bool) (code : ℕ) → MakesAll events ends left put left' (end.Exit code) → i' ≡ i → Telling objects leaks (end.Exit code) → Gave leaks
+      exit : (leaks : Bool) (code : ℕ) → Made (end.Exit code) → after.input_faults ≡ before.input_faults → Telling objects leaks (end.Exit code) → Gave leaks
       exit false code w stays t = whole false (end.Exit code) [] w stays refl (plain (end.Exit code) (t.none tt))
       exit true code w stays t =
           let said = t.some code refl refl in
           let leaks = said.all same in
           whole true (end.Exit code) leaks.0 w stays leaks.1 (said.says leaks.0 leaks.1)
 
-      other : (leaks : Bool) (x : End) → IsNoExit x → MakesAll events ends left put left' x → i' ≡ i → Telling objects leaks x → Gave leaks
+      other : (leaks : Bool) (x : End) → IsNoExit x → Made x → after.input_faults ≡ before.input_faults → Telling objects leaks x → Gave leaks
       other leaks x unlike w stays t =
           whole leaks x [] w stays (none_told (done_of events ends objects leaks).left x unlike) (plain x (t.none (tells_none leaks x unlike)))
 
-      pub gives_done : (leaks : Bool) (x : End) → Makes events ends left put left' x → RunCounts x i i' p p' → p' ≡ p → Telling objects leaks x → Gave leaks
+      gives_done : (leaks : Bool) (x : End) → Makes events ends left x after.left (Some put) → Counts x → after.out_faults ≡ before.out_faults → Telling objects leaks x → Gave leaks
       gives_done leaks (end.Exit code) w counts stays t = exit leaks code w counts.0 t
       gives_done leaks (end.Trap kind line) w counts stays t = other leaks (end.Trap kind line) tt w counts.0 t
       gives_done leaks (end.BadFree why holder) w counts stays t = other leaks (end.BadFree why holder) tt w counts.0 t
       gives_done leaks (end.Escape func local line) w counts stays t = other leaks (end.Escape func local line) tt w counts.0 t
       gives_done leaks end.Spent w counts stays t = other leaks end.Spent tt w counts.0 t
       gives_done leaks (end.OutOfStack line) w counts stays t = other leaks (end.OutOfStack line) tt w counts.0 t
-      gives_done leaks end.InputFault s counts stays t =
-          ended.stopped file opened core asked left put left' o o' err err' i i' p p' f f' result took same (done_of events ends objects leaks) counts.0 s (t.none (tells_none leaks end.InputFault tt))
+      gives_done leaks end.InputFault s counts stays t = stopped leaks counts.0 s (t.none (tells_none leaks end.InputFault tt))
       gives_done leaks end.OutputFault s counts stays t = absurd (omega (arith, counts.1, stays))
 
-    -- a write failed
-    module _ (leaks : Bool) (a : Shown) (e : Ended file opened core asked (done_of events ends objects leaks) a) where
-      abbrev Broke : Type 0
-      Broke = Breaks None a left left' o o' err err' i i' p p' f f'
+    -- A write failed
 
+    abbrev Broke : Shown → Type 0
+    Broke a = Breaks None a left before after
+
+    -- the events before some others were made
+    pub parted : (a : Shown) (first rest : List Event) (kept : List ℕ) (how : End) (told : List Leak) → events ≡ first ++ rest → a ≡ ended file opened core asked events how told → after.left ≡ Some kept → bytes_in first ++ kept ≡ left → Some put ≡ Some (bytes_out first) → (line : List ℕ) → IsSaid None a before after line → Fronts before after result line → after.out_faults ≤ before.out_faults + 1 → Broke a
+    parted a first rest kept how told split is is_left is_lost written line said front stops = record {
+      lost = bytes_in first;
+      kept = kept;
+      more = bytes_in rest;
+      is_left = is_left;
+      is_lost = is_lost;
+      is_read = sym (ap (λ (s : Shown). s.read) is ∙ ap bytes_in split ∙ in_of_parts first rest);
+      out_took = λ t h. (
+        bytes_out first,
+        bytes_out rest,
+        sym (ap (λ (s : Shown). s.out) is ∙ ap bytes_out split ∙ out_of_parts first rest),
+        took t h ∙ ap (λ (b : List ℕ). Some (t ++ b)) (same_some put (bytes_out first) written),
+      );
+      line = line;
+      is_said = said;
+      err_took = front.0;
+      out_stops = stops;
+      err_stops = front.1;
+    }
+
+    module _ (leaks : Bool) (a : Shown) (e : Ended file opened core asked (done_of events ends objects leaks) a) where
       abbrev Steady : Type 0
-      Steady = (i' ≡ i) × (p' ≡ p)
+      Steady = (after.input_faults ≡ before.input_faults) × (after.out_faults ≡ before.out_faults)
 
       same_how : (x : End) → ends ≡ Some x → x ≡ e.how
-      same_how x is = broken.same_end file opened core asked left put left' o o' err err' i i' p p' f f' result took x e.how (sym is ∙ e.ends)
+      same_how x is = same_end x e.how (sym is ∙ e.ends)
 
-      broke_whole : (x : End) → Steady → MakesAll events ends left put left' x → broken.Fronts err err' f f' (told_end_of core file opened asked e.how ++ told_leaks opened e.leaks) → Broke
+      -- the whole run was made, and its report was not said whole
+      broke_whole : (x : End) → Steady → Made x → Fronts before after result (told_end_of core file opened asked e.how ++ told_leaks opened e.leaks) → Broke a
       broke_whole x counts w front =
-          broken.whole file opened core asked left put left' o o' err err' i i' p p' f f' result took (done_of events ends objects leaks) a w.rest e counts w.is_left w.is_read w.is_taken front
+          parted a events [] w.rest e.how e.leaks (sym (append-nil events)) e.is w.is_left w.is_read w.is_taken
+          (told_end_of core file opened asked e.how ++ told_leaks opened e.leaks) (inr (inr (counts.0, counts.1, inl (sym (ap (λ (s : Shown). s.err) e.is))))) front (omega (arith, counts.1))
 
-      broke_plain : (x : End) → Steady → MakesAll events ends left put left' x → e.leaks ≡ [] → Plain x → Broke
+      broke_plain : (x : End) → Steady → Made x → e.leaks ≡ [] → Plain x → Broke a
       broke_plain x counts w none said =
-          broke_whole x counts w (broken.plain_told file opened core asked left put left' o o' err err' i i' p p' f f' result took x e.how e.leaks (same_how x w.end) none said)
+          broke_whole x counts w
+          (subst (λ (ls : List Leak). Fronts before after result (told_end_of core file opened asked e.how ++ told_leaks opened ls)) (sym none)
+          (subst (λ (y : End). Fronts before after result (told_end_of core file opened asked y ++ told_leaks opened [])) (same_how x w.end)
+          (says_front before after result (status_of x) (told_end_of core file opened asked x ++ told_leaks opened []) (plain x said))))
 
-      broke_other : (x : End) → IsNoExit x → Steady → MakesAll events ends left put left' x → Telling objects leaks x → Broke
+      broke_other : (x : End) → IsNoExit x → Steady → Made x → Telling objects leaks x → Broke a
       broke_other x unlike counts w t =
-          let none = broken.told_none file opened core asked left put left' o o' err err' i i' p p' f f' result took (done_of events ends objects leaks).left e.how e.leaks (subst IsNoExit (same_how x w.end) unlike) e.told in
-          broke_plain x counts w none (t.none (tells_none leaks x unlike))
+          broke_plain x counts w (told_none (done_of events ends objects leaks).left e.how e.leaks (subst IsNoExit (same_how x w.end) unlike) e.told) (t.none (tells_none leaks x unlike))
 
-    broke_exit : (leaks : Bool) (a : Shown) (e : Ended file opened core asked (done_of events ends objects leaks) a) (code : ℕ) → (i' ≡ i) × (p' ≡ p) → MakesAll events ends left put left' (end.Exit code) → Telling objects leaks (end.Exit code) → Breaks None a left left' o o' err err' i i' p p' f f'
+    broke_exit : (leaks : Bool) (a : Shown) (e : Ended file opened core asked (done_of events ends objects leaks) a) (code : ℕ) → (after.input_faults ≡ before.input_faults) × (after.out_faults ≡ before.out_faults) → Made (end.Exit code) → Telling objects leaks (end.Exit code) → Broke a
     broke_exit false a e code counts w t = broke_plain false a e (end.Exit code) counts w e.told (t.none tt)
     broke_exit true a e code counts w t =
         let same = same_how true a e (end.Exit code) w.end in
-        let said = t.some code refl refl in
         let told = subst (λ (y : End). AreTold (Some objects) y e.leaks) (sym same) e.told in
         broke_whole true a e (end.Exit code) counts w
-        (subst (λ (y : End). broken.Fronts err err' f f' (told_end_of core file opened asked y ++ told_leaks opened e.leaks)) same
-        (broken.says_front err err' f f' code result (told_leaks opened e.leaks) (said.says e.leaks told)))
+        (subst (λ (y : End). Fronts before after result (told_end_of core file opened asked y ++ told_leaks opened e.leaks)) same
+        (says_front before after result code (told_leaks opened e.leaks) ((t.some code refl refl).says e.leaks told)))
 
-    pub broken_done : (leaks : Bool) (a : Shown) (x : End) → Ended file opened core asked (done_of events ends objects leaks) a → RunCounts x i i' p p' → Makes events ends left put left' x → Telling objects leaks x → Breaks None a left left' o o' err err' i i' p p' f f'
+    broken_done : (leaks : Bool) (a : Shown) (x : End) → Ended file opened core asked (done_of events ends objects leaks) a → Counts x → Makes events ends left x after.left (Some put) → Telling objects leaks x → Broke a
     broken_done leaks a (end.Exit code) e counts w t = broke_exit leaks a e code counts w t
     broken_done leaks a (end.Trap kind line) e counts w t = broke_other leaks a e (end.Trap kind line) tt counts w t
     broken_done leaks a (end.BadFree why holder) e counts w t = broke_other leaks a e (end.BadFree why holder) tt counts w t
@@ -159,7 +290,88 @@ module _ (file : List ℕ) (opened : List Opened) (core : Core) (asked : Option 
     broken_done leaks a end.Spent e counts w t = broke_other leaks a e end.Spent tt counts w t
     broken_done leaks a (end.OutOfStack line) e counts w t = broke_other leaks a e (end.OutOfStack line) tt counts w t
     broken_done leaks a end.InputFault e counts s t =
-        broken.starved file opened core asked left put left' o o' err err' i i' p p' f f' result took (done_of events ends objects leaks) a e counts s (t.none (tells_none leaks end.InputFault tt))
+        parted a s.before (In s.byte ∷ s.rest) s.left e.how e.leaks s.is e.is s.is_left s.is_read s.is_taken
+        (told_end_of core file opened asked end.InputFault) (inl (omega (arith, counts.0), refl))
+        (says_front before after result 132 (told_end_of core file opened asked end.InputFault) (t.none (tells_none leaks end.InputFault tt))) (omega (arith, counts.1))
     broken_done leaks a end.OutputFault e counts s t =
-        broken.stopped file opened core asked left put left' o o' err err' i i' p p' f f' result took (done_of events ends objects leaks) a e (told_end_of core file opened asked end.OutputFault) s
-        (inr (inl (omega (arith, counts.1), refl))) (broken.plain_front file opened core asked left put left' o o' err err' i i' p p' f f' result took end.OutputFault (t.none (tells_none leaks end.OutputFault tt))) (omega (arith, counts.1))
+        parted a s.before s.rest s.left e.how e.leaks s.is e.is s.is_left s.is_read s.is_taken
+        (told_end_of core file opened asked end.OutputFault) (inr (inl (omega (arith, counts.1), refl)))
+        (says_front before after result 133 (told_end_of core file opened asked end.OutputFault) (t.none (tells_none leaks end.OutputFault tt))) (omega (arith, counts.1))
+
+  -- a run is served by its answers
+  pub serves_done : (MeansNone : Type 0) (x : End) (leaks : Bool) (events : List ℕ → List Event) (ends : List ℕ → Option End) (objects : List ℕ → List Object) →
+      RunCounts x before.input_faults after.input_faults before.out_faults after.out_faults →
+      ((left : List ℕ) → before.left ≡ Some left → Puts (Makes (events left) (ends left) left x after.left) before.taken after.taken) →
+      ((left : List ℕ) → before.left ≡ Some left → Telling (objects left) leaks x) →
+      (TellsNone leaks x → Plain x) → SaysCounts before after (status_of x) result → SaysOwn x before after →
+      Runs MeansNone (λ i a. AnswersProgram file opened core asked i.fails (done_of (events i.bytes) (ends i.bytes) (objects i.bytes) leaks) a) before after result
+  serves_done MeansNone x leaks events ends objects counts put telling none said own = record {
+    exact = λ left k same_out same_err.
+        let p = put left k in
+        gives_done left p.put p.took (events left) (ends left) (objects left) same_err leaks x p.is counts same_out (telling left k);
+    faults = λ t. program_faults before after result x t counts said;
+    input_fault = λ more. subst Plain (input_end before after result x counts more) (none (subst (TellsNone leaks) (sym (input_end before after result x counts more)) (tells_none leaks end.InputFault tt)));
+    output_fault = λ more. subst Plain (output_end before after result x counts more) (none (subst (TellsNone leaks) (sym (output_end before after result x counts more)) (tells_none leaks end.OutputFault tt)));
+    stays = λ never. absurd never;
+    broken = λ left k fails. record {
+      each = λ one a e more.
+          let p = put left k in
+          broken_done left p.put p.took (events left) (ends left) (objects left) leaks a x e counts p.is (telling left k);
+      some = λ no. absurd (no tt);
+    };
+    memory = λ is. inr ((λ n. n), own_end before after result x said own is);
+    cause = end_cause before after result x counts said own;
+    refused = λ is. inr ((λ n. n), end_refused before after result x said own is);
+  }
+
+-- so it is by the same texts and the same limits
+pub serves_alike : {I O E : Type 0} (file : List ℕ) (core : Core) (before after : Sight I O E) (result : ℕ) (MeansNone : Type 0) (done : Input → Done) (opened opened' : List Opened) (asked asked' : Option InForce) → opened ≡ opened' → asked ≡ asked' →
+    Runs MeansNone (λ i a. AnswersProgram file opened core asked i.fails (done i) a) before after result → Runs MeansNone (λ i a. AnswersProgram file opened' core asked' i.fails (done i) a) before after result
+serves_alike file core before after result MeansNone done opened opened' asked asked' texts limits served =
+    subst (λ (os : List Opened). Runs MeansNone (λ i a. AnswersProgram file os core asked' i.fails (done i) a) before after result) texts
+    (subst (λ (ask : Option InForce). Runs MeansNone (λ i a. AnswersProgram file opened core ask i.fails (done i) a) before after result) limits served)
+
+-- what was counted and written before a stretch that keeps input and output
+module _ {I O E : Type 0} (middle after : Sight I O E) (keeps : KeepsBoth middle after) where
+  pub kept_counts : (x : End) (i o : ℕ) → RunCounts x i middle.input_faults o middle.out_faults → RunCounts x i after.input_faults o after.out_faults
+  kept_counts x i o counts =
+      subst (λ i'. RunCounts x i i' o after.out_faults) (sym keeps.input.faults) (subst (λ o'. RunCounts x i middle.input_faults o o') (sym keeps.out.faults) counts)
+
+  pub kept_puts : (Is : Option (List ℕ) → Option (List ℕ) → Type 0) (o : Option (List ℕ)) → Puts (Is middle.left) o middle.taken → Puts (Is after.left) o after.taken
+  kept_puts Is o p =
+      subst (λ l. Puts (Is l) o after.taken) (sym keeps.input.left) (subst (λ o'. Puts (Is middle.left) o o') (sym keeps.out.taken) p)
+
+  pub kept_same : (i o : ℕ) → middle.input_faults ≡ i → middle.out_faults ≡ o → (after.input_faults ≡ i) × (after.out_faults ≡ o)
+  kept_same i o a b = (keeps.input.faults ∙ a, keeps.out.faults ∙ b)
+
+-- an evaluation wanted memory after a first part of the events
+pub serves_unfinished : {I O E : Type 0} (file : List ℕ) (opened : List Opened) (core : Core) (before middle after : Sight I O E) (result steps heap : ℕ) (explain : Bool) →
+    ((left : List ℕ) → before.left ≡ Some left → Puts (Stopped (meant core left steps heap).events left [] middle.left) before.taken middle.taken) →
+    middle.input_faults ≡ before.input_faults → middle.out_faults ≡ before.out_faults → middle.said ≡ before.said → middle.err_faults ≡ before.err_faults → SaysOnly no_memory middle after result →
+    Runs ⊥ (λ i a. AnswersWay file opened core i (Mean heap steps explain) a) before after result
+serves_unfinished file opened core before middle after result steps heap explain put same_in same_out quiet same said = record {
+  exact = λ left k _ same_err.
+      let p = kept_puts middle after said.keeps (Stopped (meant core left steps heap).events left []) before.taken (put left k) in
+      gives before after result (λ a. AnswersWay file opened core (input_of left before.input_faults after.input_faults) (Mean heap steps explain) a) (unfinished p.is.before) left p.is.left
+      (inl (inr (p.is.before, p.is.rest, p.is.is, refl))) p.is.is_left p.is.is_read (λ t h. p.took t h ∙ ap (λ (b : List ℕ). Some (t ++ b)) (same_some p.put (bytes_out p.is.before) p.is.is_taken)) same_err says;
+  faults = λ t. said_faults before after result t no_memory.err 134 stays.0 stays.1 says;
+  input_fault = λ more. absurd (omega (arith, more, stays.0));
+  output_fault = λ more. absurd (omega (arith, more, stays.1));
+  stays = λ never. absurd never;
+  broken = λ left k fails. record {
+    each = λ one a is more.
+        let p = kept_puts middle after said.keeps (Stopped (meant core left steps heap).events left []) before.taken (put left k) in
+        let e : Ended file opened core (explains_mean explain steps) (meant core left steps heap) a = ⊎_elim (λ h. h) (λ h. absurd (more (ap (λ (s : Shown). s.err) h.3))) is in
+        parted file opened core (explains_mean explain steps) before after result left p.put p.took (meant core left steps heap).events (meant core left steps heap).ends [] a p.is.before p.is.rest p.is.left e.how e.leaks p.is.is e.is p.is.is_left p.is.is_read p.is.is_taken
+        no_memory.err (inr (inr (stays.0, stays.1, inr refl))) (says_front before after result 134 no_memory.err says) (omega (arith, stays.1));
+    some = λ no. absurd (no tt);
+  };
+  memory = λ is. ⊎_elim (λ h. inl ((λ never. absurd never), h.2)) (λ h. absurd (omega (arith, h.1, is))) says;
+  cause = λ is. ⊎_elim (λ h. absurd (no_fault 134 (λ h. omega (arith, h)) (λ h. omega (arith, h)) (λ h. omega (arith, h)) (subst IsFault h.1 is))) (λ h. inl (inr (inr (omega (arith, h.0))))) says;
+  refused = never_refused before after result ⊥ 134 no_memory.err (omega arith) (omega arith) says;
+} where
+  says : Says before after no_memory.err 134 result
+  says = says_from before middle after no_memory.err 134 result quiet same said.says
+
+  stays : (after.input_faults ≡ before.input_faults) × (after.out_faults ≡ before.out_faults)
+  stays = kept_same middle after said.keeps before.input_faults before.out_faults same_in same_out

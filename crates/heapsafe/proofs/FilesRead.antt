@@ -1,5 +1,6 @@
 -- Files that are read in turn are answered by what was read.
-use Rattle.std.proofs.Common.{◌≡◌, ◌≤◌, ◌<◌, ◌↔◌, ℕ, ◌+◌, List, [], ◌∷◌, ◌++◌, All, Bor, drop, get_or, length, map, Result, Ok, Err, refl, sym, subst, ap, ◌∙◌, arith}
+use Rattle.std.proofs.Common.{◌≡◌, ◌≤◌, ◌<◌, ◌↔◌, ℕ, ◌+◌, List, [], ◌∷◌, ◌++◌, All, Bor, drop, get_or, length, map, Option, Some, None, cond, inl, inr, Result, Ok, Err, refl, sym, subst, ap, ◌∙◌, arith}
+use Rattle.hs_base.specs.declared.outside.Texts as reading
 use Rattle.std.specs.Prelude.{IfOk}
 use Rattle.std.proofs.lemmas.List.{drop-map, drop_more, length-append}
 use Rattle.std.proofs.lemmas.List.Sums.{sum_by-append}
@@ -26,11 +27,17 @@ use Rattle.heapsafe.specs.declared.units.ProgramError.TheVariants.{Text, Syntax,
 use Rattle.heapsafe.specs.declared.units.Reading.{Reading as Kept}
 use Rattle.core_soundness.specs.Texts.{AllNames, HaveTrees, IsMadeOf, IsOfTexts, all_joined, joined}
 use Rattle.core_tree.specs.Sound.{IsShort}
-use Rattle.command_words.specs.Commands.{Task}
+use Rattle.command_words.specs.Commands.{OnFiles, Task}
 use Rattle.heapsafe.specs.Answer.{AnswersFiles, Does, first_of}
 use Rattle.heapsafe.specs.Program.{Input}
-use Rattle.heapsafe.specs.Reads.{Finishes, IsOfFiles, IsRefused, ReadsAs, TakesFile, TakesUnit, reading_view}
-use Rattle.heapsafe.specs.Saying.{unmade}
+use Rattle.heapsafe.specs.Reads.{CountsText, FailsIn, Finishes, IsOfFiles, IsRefused, ReadsAs, TakesFile, TakesUnit, reading_view}
+use Rattle.heapsafe.specs.Saying.{SaysOnly, unmade}
+use Rattle.heapsafe.specs.Serving.{Obeys}
+use Rattle.heapsafe.specs.Sight.{Sight}
+use Rattle.heapsafe.proofs.Served.{IsLine, obeys_fault, obeys_said}
+use Rattle.heapsafe.proofs.Statuses.{unmade_cause, unmade_wants}
+use Rattle.heapsafe.proofs.Told.{Cause, Refusal, Memory, Fault, unmade_silent}
+use Rattle.std.proofs.lemmas.Bool.{lt-ltb}
 use Rattle.heapsafe.specs.Shown.{Shown, bad_syntax, conflicting, untokened}
 use Rattle.heapsafe.specs.Units.{AnswersMerged, AnswersRead, AnswersRest, Reading, with_unit}
 use Rattle.heapsafe.proofs.Trees.{tree_is, wrong_is}
@@ -182,10 +189,30 @@ module _ (told : List ℕ → List ℕ) (files : List (List ℕ)) (program : Pro
   Done input task a name texts = Does name texts (unit_view program.unit) input task a
 
   -- what is done with the program is the answer for its files
-  pub does_answers : (input : Input) (task : Task) (a : Shown) → Done input task a first opened → AnswersFiles files told input task a
-  does_answers input task a does =
+  pub does_answers : (task : Task) (input : Input) (a : Shown) → Done input task a first opened → AnswersFiles files told input task a
+  does_answers task input a does =
       (reads input task a).1 (subst (Done input task a (first_of files)) is_opened (subst (λ (name : List ℕ). Done input task a name opened) is_first does))
 
-  pub answers_does : (input : Input) (task : Task) (a : Shown) → AnswersFiles files told input task a → Done input task a first opened
-  answers_does input task a is =
+  pub answers_does : (task : Task) (input : Input) (a : Shown) → AnswersFiles files told input task a → Done input task a first opened
+  answers_does task input a is =
       subst (λ (name : List ℕ). Done input task a name opened) (sym is_first) (subst (Done input task a (first_of files)) (sym is_opened) ((reads input task a).0 is))
+
+-- a program that was not read: its line was said
+unmade_line : (error : ProgramError) (t t' : ℕ) → CountsText {T = Program} t t' (Err error) → t' ≡ t → IsLine (unmade error)
+unmade_line error t t' counts same = record {
+  silent = unmade_silent error;
+  wants = unmade_wants error;
+  fair = λ is. let more : t < t' = unmade_cause error t t' counts is in omega (arith, more, same);
+}
+
+module _ {T I O E : Type 0} (of : reading.Ghosts T) (texts texts' : T) (before after : Sight I O E) (result : ℕ) (files : List (List ℕ)) (task : Task) where
+  pub unmade_obeys : (error : ProgramError) → ((told : List ℕ → List ℕ) → of.texts texts ≡ Some told → ReadsAs told files (Err error)) → FailsIn files error → Cause error (of.faults texts) (of.faults texts') → CountsText {T = Program} (of.faults texts) (of.faults texts') (Err error) →
+      SaysOnly (unmade error) before after result → Obeys of (Some (OnFiles files task)) texts texts' before after result
+  unmade_obeys error reads below (Refusal is stays) counts said =
+      obeys_said of texts texts' before after result (Some (OnFiles files task)) (unmade error) (unmade_line error (of.faults texts) (of.faults texts') counts stays) stays
+      (λ told k i. inl ((reads told k is i task (unmade error)).1 refl)) (λ told k i a answers. inl ((reads told k is i task a).0 answers)) said
+  unmade_obeys error reads below (Memory is stays) counts said =
+      obeys_said of texts texts' before after result (Some (OnFiles files task)) (unmade error) (unmade_line error (of.faults texts) (of.faults texts') counts stays) stays (λ told k i. inr is) (λ told k i a answers. inr is) said
+  unmade_obeys error reads below (Fault name is rises) counts said =
+      obeys_fault of texts texts' before after result (Some (OnFiles files task)) name rises
+      (ap (λ b. cond b (Some files) None) (lt-ltb (of.faults texts) (of.faults texts') (omega (arith, rises)))) (subst (FailsIn files) is below) (subst (λ (e : ProgramError). SaysOnly (unmade e) before after result) is said)

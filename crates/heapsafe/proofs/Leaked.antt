@@ -1,12 +1,13 @@
 -- The leaks of a program, one after the other.
 use Rattle.std.proofs.Common.{◌≡◌, ◌<◌, ◌∙◌, ℕ, List, [], ◌∷◌, ◌++◌, Option, Some, None, option_map, true, inl, inr, Result, Ok, Err, IsErr, refl, sym, ap, subst, arith}
-use Rattle.std.specs.Prelude.{All, filter, fold, min, nat_lt}
+use Rattle.std.specs.Prelude.{All, IfOk, filter, fold, min, nat_lt}
 use Rattle.std.specs.List.{reduce}
 use Rattle.std.proofs.lemmas.Bool.{cases_lt, ltb-true}
 use Rattle.std.proofs.lemmas.Grind.{flat_map-append}
 use Rattle.std.proofs.lemmas.List.{append_assoc, append-nil}
 use Rattle.std.proofs.lemmas.List.Elements.{All-head, All-tail, filter_passes}
 use Rattle.hs_base.specs.Object.{Object}
+use Rattle.hs_base.specs.Outside.{CountsFaults}
 use Rattle.hs_base.specs.PutAll.{PutsAll}
 use Rattle.hs_base.specs.declared.outside.Failed.{Failed}
 use Rattle.hs_base.specs.declared.ends.Leak.{Leak}
@@ -15,6 +16,7 @@ use Rattle.bad_free_report.specs.Report.{leak_text}
 use Rattle.c_pre.specs.declared.answer.Opened.{Opened}
 use Rattle.heapsafe.specs.Leaks.{AreLeaks, leak_lines}
 use Rattle.heapsafe.specs.Places.{told_leak, told_leaks}
+use Rattle.heapsafe.specs.Saying.{TakesAll}
 use Rattle.std.proofs.lemmas.List.{map-append}
 use Rattle.std.specs.Prelude.{map}
 
@@ -126,3 +128,9 @@ failed_begun opened objects leaks above leak before between after (Err e) (Err e
     prefix_begun opened objects leaks above leak before between after found puts begun
 failed_begun opened objects leaks above leak before between after (Ok v) answer is is' found puts begun = absurd cc
 failed_begun opened objects leaks above leak before between after (Err e) (Ok v) is is' found puts begun = absurd cc
+
+-- where no write failed, the error stream took no line but those of leaks
+pub own_leaks : {T : Type 0} (opened : List Opened) (objects : List Object) (s t t' : Option (List ℕ)) (f f' : ℕ) (result : Result T Failed) → s ≡ t → CountsFaults f f' result → f' ≡ f → ((leaks : List Leak) → AreLeaks objects 0 leaks → PutsAll s t' (told_leaks opened leaks) result) → IfOk result (λ _. (leaks : List Leak) × AreLeaks objects 0 leaks) → (leaks : List Leak) × TakesAll t t' (leak_lines leaks)
+own_leaks opened objects s t t' f f' (Ok v) is counts same puts all =
+    (map (told_leak opened) all.0, subst (λ o. TakesAll o t' (told_leaks opened all.0)) is (puts all.0 all.1))
+own_leaks opened objects s t t' f f' (Err e) is counts same puts all = absurd (omega (arith, counts, same))

@@ -5,16 +5,17 @@ use Rattle.std.proofs.lemmas.List.{append-nil}
 use Rattle.c_tree.specs.Tree.{Trees}
 use Rattle.c_pre.specs.declared.answer.PreError.{PreError}
 use Rattle.c_pre.specs.declared.answer.PreError.TheVariants as pre
-use Rattle.command_words.specs.Commands.{Command, Task}
-use Rattle.heapsafe.specs.Shown.{Shown, usage, no_memory, bad_place, untokened}
+use Rattle.command_words.specs.Commands.{Task}
+use Rattle.heapsafe.specs.Shown.{Shown, no_memory, bad_place, untokened}
 use Rattle.heapsafe.specs.Program.{Input}
-use Rattle.heapsafe.specs.Answer.{AnswersText, AnswersFiles, AnswersCommand, Does, alone}
+use Rattle.heapsafe.specs.Answer.{AnswersText, AnswersFiles, Does, alone}
 use Rattle.heapsafe.specs.Units.{AnswersTokens}
 use Rattle.heapsafe.specs.Reads.{CountsText, IsRefused, ReadsAs}
 use Rattle.heapsafe.specs.declared.units.Program.{Program}
 use Rattle.heapsafe.specs.declared.units.ProgramError.{ProgramError}
 use Rattle.heapsafe.specs.declared.units.ProgramError.TheVariants.{Text, Syntax, Conflict, NoMemory}
-use Rattle.heapsafe.specs.Saying.{Says, Gives, Faults, TakesAll, unmade}
+use Rattle.heapsafe.specs.Saying.{Faults, Gives, Says, SaysOnly, TakesAll, unmade}
+use Rattle.heapsafe.specs.Sight.{Sight}
 use Rattle.c_lexer.specs.declared.token.Token.{Token}
 use Rattle.c_lexer.specs.declared.token.LexKind.{LexKind}
 use Rattle.c_lexer.specs.declared.token.LexError.{LexError}
@@ -26,46 +27,46 @@ pub record IsSilent (s : Shown) : Type 0 where
   pub read : s.read ≡ []
   pub out : s.out ≡ []
 
--- what was said is the answer's, where no write failed
-pub gives : (Is : Shown → Type 0) (s : Shown) (left rest : List ℕ) (left' o o' e e' : Option (List ℕ)) (f f' result : ℕ) → (Is s ⊎ (s ≡ no_memory)) → left' ≡ Some rest → s.read ++ rest ≡ left → TakesAll o o' s.out → f' ≡ f → Says e e' f f' s.err s.status result → Gives Is left left' o o' e e' result
-gives Is s left rest left' o o' e e' f f' result is is_left is_read took same said =
-    ⊎_elim
-    (λ h. record { shown = s; is = is; rest = rest; is_left = is_left; is_read = is_read; out_took = took; err_took = h.2; status = h.1 })
-    (λ h. absurd (omega (arith, same, h.0)))
-    said
-
 -- nothing was taken
 pub takes_none : (taken taken' : Option (List ℕ)) (bytes : List ℕ) → taken' ≡ taken → bytes ≡ [] → TakesAll taken taken' bytes
 takes_none taken taken' bytes same none = λ t h.
     same ∙ h ∙ ap Some (sym (append-nil t)) ∙ ap (λ (b : List ℕ). Some (t ++ b)) (sym none)
 
--- an answer that is said alone
-pub gives_said : (Is : Shown → Type 0) (s : Shown) (left : List ℕ) (left' o o' e e' : Option (List ℕ)) (f f' result : ℕ) → (Is s ⊎ (s ≡ no_memory)) → IsSilent s → left' ≡ Some left → o' ≡ o → f' ≡ f → Says e e' f f' s.err s.status result → Gives Is left left' o o' e e' result
-gives_said Is s left left' o o' e e' f f' result is silent is_left stays same said =
-    gives Is s left left left' o o' e e' f f' result is is_left (ap (λ r. r ++ left) silent.read) (takes_none o o' s.out stays silent.out) same said
+module _ {I O E : Type 0} (before after : Sight I O E) (result : ℕ) where
+  -- what was said is the answer's, where no write failed
+  pub gives : (Is : Shown → Type 0) (s : Shown) (left rest : List ℕ) → (Is s ⊎ (s ≡ no_memory)) → after.left ≡ Some rest → s.read ++ rest ≡ left → TakesAll before.taken after.taken s.out → after.err_faults ≡ before.err_faults → Says before after s.err s.status result → Gives Is left before after result
+  gives Is s left rest is is_left is_read took same said =
+      ⊎_elim
+      (λ h. record { shown = s; is = is; rest = rest; is_left = is_left; is_read = is_read; out_took = took; err_took = h.2; status = h.1 })
+      (λ h. absurd (omega (arith, same, h.0)))
+      said
 
--- faults: those of the error stream alone
-pub said_faults : (t i i' o o' e e' result : ℕ) (err err' : Option (List ℕ)) (bytes : List ℕ) (status : ℕ) → i' ≡ i → o' ≡ o → Says err err' e e' bytes status result → Faults t t i i' o o' e e' result
-said_faults t i i' o o' e e' result err err' bytes status input_stays out_stays said =
-    ⊎_elim
-    (λ h. inl (refl, input_stays, out_stays, h.0))
-    (λ h. inr (inl (omega arith, omega arith, omega arith, omega (arith, h.0), inr (omega (arith, h.0)), h.1)))
-    said
+  -- an answer that is said alone
+  pub gives_said : (Is : Shown → Type 0) (s : Shown) (left : List ℕ) → (Is s ⊎ (s ≡ no_memory)) → IsSilent s → before.left ≡ Some left → after.err_faults ≡ before.err_faults → SaysOnly s before after result → Gives Is left before after result
+  gives_said Is s left is silent is_left same said =
+      gives Is s left left is (said.keeps.input.left ∙ is_left) (ap (λ r. r ++ left) silent.read)
+      (takes_none before.taken after.taken s.out said.keeps.out.taken silent.out) same said.says
 
--- an answer of one sort that is one of another
-pub gives_more : (Is Is' : Shown → Type 0) → ((s : Shown) → Is s → Is' s) → (left : List ℕ) (left' o o' e e' : Option (List ℕ)) (result : ℕ) → Gives Is left left' o o' e e' result → Gives Is' left left' o o' e e' result
-gives_more Is Is' more left left' o o' e e' result g =
-    record { shown = g.shown; is = ⊎_elim (λ h. inl (more g.shown h)) (λ h. inr h) g.is; rest = g.rest; is_left = g.is_left; is_read = g.is_read; out_took = g.out_took; err_took = g.err_took; status = g.status }
+  -- faults: those of the error stream alone
+  pub said_faults : (t : ℕ) (bytes : List ℕ) (status : ℕ) → after.input_faults ≡ before.input_faults → after.out_faults ≡ before.out_faults → Says before after bytes status result → Faults t t before after result
+  said_faults t bytes status input_stays out_stays said =
+      ⊎_elim
+      (λ h. inl (refl, input_stays, out_stays, h.0))
+      (λ h. inr (inl (omega arith, omega (arith, input_stays), omega (arith, out_stays), omega (arith, h.0), inr (omega (arith, h.0)), h.1)))
+      said
 
--- an answer that is one, and so the same one in other words
-pub gives_same : (s s' : Shown) (left : List ℕ) (left' o o' e e' : Option (List ℕ)) (result : ℕ) → s ≡ s' → Gives (λ a. a ≡ s) left left' o o' e e' result → Gives (λ a. a ≡ s') left left' o o' e e' result
-gives_same s s' left left' o o' e e' result same g =
-    gives_more (λ a. a ≡ s) (λ a. a ≡ s') (λ a is. is ∙ same) left left' o o' e e' result g
+  -- an answer of one sort that is one of another
+  pub gives_more : (Is Is' : Shown → Type 0) → ((s : Shown) → Is s → Is' s) → (left : List ℕ) → Gives Is left before after result → Gives Is' left before after result
+  gives_more Is Is' more left g =
+      record { shown = g.shown; is = ⊎_elim (λ h. inl (more g.shown h)) (λ h. inr h) g.is; rest = g.rest; is_left = g.is_left; is_read = g.is_read; out_took = g.out_took; err_took = g.err_took; status = g.status }
 
--- an answer that left the input as it was
-pub gives_left : (Is : Shown → Type 0) (left : List ℕ) (left' o o' e e' : Option (List ℕ)) (result : ℕ) → left' ≡ Some left → Gives Is left (Some left) o o' e e' result → Gives Is left left' o o' e e' result
-gives_left Is left left' o o' e e' result same g =
-    subst (λ (l : Option (List ℕ)). Gives Is left l o o' e e' result) (sym same) g
+  -- the count of the texts stayed
+  pub faults_as : (t t' : ℕ) → t' ≡ t → Faults t t before after result → Faults t t' before after result
+  faults_as t t' same h = subst (λ n. Faults t n before after result) (sym same) h
+
+  -- the same in other words
+  pub said_as : (r s : Shown) → r ≡ s → SaysOnly r before after result → SaysOnly s before after result
+  said_as r s same h = subst (λ (x : Shown). SaysOnly x before after result) same h
 
 -- an answer of the lexer that is another
 abbrev given : List Token → Result (List Token) LexError
@@ -123,12 +124,6 @@ cause_of (Syntax texts line) before after counts = Refusal tt counts
 cause_of (Conflict texts name line) before after counts = Refusal tt counts
 cause_of NoMemory before after counts = Memory refl counts
 
--- a program that was not read, where no text failed
-pub unmade_is : (error : ProgramError) (files : List (List ℕ)) (told : List ℕ → List ℕ) (input : Input) (task : Task) (before after : ℕ) → ReadsAs told files (Err error) → Cause error before after → after ≡ before → AnswersFiles files told input task (unmade error) ⊎ (unmade error ≡ no_memory)
-unmade_is error files told input task before after reads (Refusal is stays) same = inl ((reads is input task (unmade error)).1 refl)
-unmade_is error files told input task before after reads (Memory is stays) same = inr is
-unmade_is error files told input task before after reads (Fault name is rises) same = absurd (omega (arith, rises, same))
-
 pub untokened_silent : (error : PreError) → IsSilent (untokened error)
 untokened_silent (pre.Bad kind at) = record { read = refl; out = refl }
 untokened_silent (pre.Lex kind at) = record { read = refl; out = refl }
@@ -141,18 +136,3 @@ unmade_silent (Text error) = untokened_silent error
 unmade_silent (Syntax texts line) = record { read = refl; out = refl }
 unmade_silent (Conflict texts name line) = record { read = refl; out = refl }
 unmade_silent NoMemory = record { read = refl; out = refl }
-
--- the count of the texts stayed
-pub faults_as : (t t' i i' o o' e e' result : ℕ) → t' ≡ t → Faults t t i i' o o' e e' result → Faults t t' i i' o o' e e' result
-faults_as t t' i i' o o' e e' result same h = subst (λ n. Faults t n i i' o o' e e' result) (sym same) h
-
--- the same in other words
-pub says_as : (r s : Shown) → r ≡ s → (err err' : Option (List ℕ)) (f f' result : ℕ) → Says err err' f f' r.err r.status result → Says err err' f f' s.err s.status result
-says_as r s e err err' f f' result h = subst (λ (x : Shown). Says err err' f f' x.err x.status result) e h
-
-pub usage_is : (command : Option Command) (told : List ℕ → List ℕ) (input : Input) → None ≡ command → AnswersCommand command told input usage
-usage_is command told input e = subst (λ (c : Option Command). AnswersCommand c told input usage) e refl
-
-pub gives_as : (command other : Option Command) (told : List ℕ → List ℕ) (input : Input) (left : List ℕ) (left' o o' e e' : Option (List ℕ)) (result : ℕ) → command ≡ other → Gives (AnswersCommand command told input) left left' o o' e e' result → Gives (AnswersCommand other told input) left left' o o' e e' result
-gives_as command other told input left left' o o' e e' result same h =
-    subst (λ (c : Option Command). Gives (AnswersCommand c told input) left left' o o' e e' result) same h

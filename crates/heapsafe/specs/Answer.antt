@@ -1,5 +1,6 @@
 -- What the program reads, writes and answers for its words.
-use Rattle.std.specs.Prelude.{◌≡◌, ◌-◌, ⊤, ℕ, false, List, [], ◌∷◌, length, Option, Some, None, Ok, Err}
+use Rattle.std.specs.Prelude.{◌≡◌, ◌-◌, ⊤, ℕ, false, List, [], ◌∷◌, length, map, Option, Some, None, Ok, Err}
+use Rattle.std.specs.Borrow.{Bor}
 use Rattle.hs_base.specs.declared.ends.Limits.{Limits}
 use Rattle.c_lexer.specs.declared.token.Token.{Token}
 use Rattle.c_lexer.specs.declared.token.LexKind.{LexKind}
@@ -14,7 +15,8 @@ use Rattle.core_tree.specs.declared.program.Core.{Core}
 use Rattle.flat_codegen.specs.Lasting.{cut_run}
 use Rattle.generated_text.specs.Summary.{summary_line}
 use Rattle.generated_text.specs.Text.{generated}
-use Rattle.command_words.specs.Commands.{Command, OnFiles, Execute, Generated, Task, Run, Mean, Print, Layout, List as ListCore, Live, Compile, command_of}
+use Rattle.command_words.specs.Commands.{Command, OnFiles, Execute, Generated, Task, Run, Mean, Print, Layout, List as ListCore, Live, Compile, command_of, task_shown}
+use Rattle.command_words.specs.declared.command.Task.{Task as Given}
 use Rattle.heapsafe.specs.declared.program.Way.{Way}
 use Rattle.heapsafe.specs.declared.program.Way.TheVariants as way
 use Rattle.heapsafe.specs.Shown.{Shown, usage, bad_place, bad_type, written, printed, layouts_shown, core_shown, live_shown}
@@ -96,6 +98,18 @@ AnswersCommand (Some (OnFiles files task)) texts input a = AnswersFiles files te
 AnswersCommand (Some (Execute file heap stack steps leaks explain)) texts input a =
     AnswersExecution file (texts file) input (record { limits = record { heap = heap; stack = stack }; steps = steps; leaks = leaks; explain = explain }) a
 AnswersCommand (Some (Generated number)) texts input a = AnswersGenerated number a
+
+-- the bytes of some words
+abbrev pub spelt : List (Bor (List ℕ)) → List (List ℕ)
+spelt words = map (λ word. word.now) words
+
+-- what they ask for
+abbrev pub asked_by : List (Bor (List ℕ)) → Option Command
+asked_by words = command_of (spelt words)
+
+-- a task with these files
+abbrev pub asked_for : List (Bor (List ℕ)) → Given → Option Command
+asked_for files task = Some (OnFiles (spelt files) (task_shown task))
 
 -- the answer for these words, where each name has this text and the input is this one
 abbrev pub Answers : List (List ℕ) → (List ℕ → List ℕ) → Input → Shown → Type 0

@@ -1,10 +1,11 @@
 -- What `compile` writes, and what `exec` reads, writes and answers for it.
-use Rattle.std.specs.Prelude.{◌≡◌, ◌≤◌, ℕ, Bool, cond, nat_lt, List, [], ◌∷◌, length, Some, None, Ok, Err, MatchBool}
+use Rattle.std.specs.Prelude.{◌≡◌, ◌≤◌, ℕ, Bool, cond, nat_lt, List, [], ◌∷◌, length, Option, Some, None, Ok, Err, MatchBool}
 use Rattle.hs_base.specs.declared.ends.Limits.{Limits}
 use Rattle.hs_base.specs.Cut.{cut, ending_of}
 use Rattle.c_decls.specs.Refusals.{Checked}
 use Rattle.c_pre.specs.declared.answer.Opened.{Opened}
 use Rattle.core_tree.specs.declared.program.Core.{Core}
+use Rattle.command_words.specs.Commands.{Command, Execute}
 use Rattle.flat_code.specs.declared.program.Code.{Code}
 use Rattle.flat_code.specs.WellFormed.{IsWellFormed}
 use Rattle.object_meaning.specs.code.CodeMeaning.{meaning}
@@ -15,6 +16,10 @@ use Rattle.meaning_run.specs.Meant.{end_in}
 use Rattle.heapsafe.specs.declared.executing.Asked.{Asked}
 use Rattle.heapsafe.specs.Program.{AnswersProgram, Done, Input, explains_run}
 use Rattle.heapsafe.specs.Shown.{Shown, bad_code, bad_type, text_too_long, unverified, written}
+
+-- the command to execute a file so
+abbrev pub asked_of : List ℕ → Asked → Option Command
+asked_of file asked = Some (Execute file asked.limits.heap asked.limits.stack asked.steps asked.leaks asked.explain)
 
 -- the most bytes that a code file may have
 abbrev pub most_bytes : ℕ

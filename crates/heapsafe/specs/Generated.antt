@@ -20,7 +20,7 @@ use Rattle.heapsafe.specs.declared.generated.Ran.{Ran}
 use Rattle.heapsafe.specs.declared.program.Way.TheVariants as way
 use Rattle.heapsafe.specs.Shown.{Shown, written}
 use Rattle.heapsafe.specs.Program.{Input, AnswersWay}
-use Rattle.heapsafe.specs.Answer.{AnswersGenerated, AnswersText, HasCore, RunMakes, RunsGenerated, alone}
+use Rattle.heapsafe.specs.Answer.{AnswersGenerated, AnswersText, HasCore, RunMakes, RunsGenerated, alone, no_input}
 
 -- a tree is prepared by its core, or refused for its types
 abbrev pub IsPreparedUnit : Checked Program → Prepared → Type 0
@@ -65,6 +65,14 @@ pub record Went (Is : Shown → Type 0) (ran : Ran) : Type 0 where
   pub output : ran.output ≡ length shown.out
   pub status : ran.status ≡ shown.status
   pub only : (other : Shown) → Is other → (length other.out ≡ ran.output) × (other.status ≡ ran.status)
+
+-- so goes the run of a core without input, whatever text it has
+abbrev pub WentCore : Program → Limits → ℕ → Ran → Type 0
+WentCore core room n ran = (text : List ℕ) → Went (AnswersWay [] (alone [] text) core no_input (way.Run room n false false)) ran
+
+-- and that of a text
+abbrev pub WentText : List ℕ → Limits → ℕ → Ran → Type 0
+WentText text room n ran = Went (AnswersText [] text no_input (Run room.heap room.stack n false false)) ran
 
 -- the run of a text without input makes so many steps, and no other number of them
 pub record MakesOnly (text : List ℕ) (room : Limits) (n made : ℕ) : Type 0 where

@@ -1,10 +1,11 @@
 -- How the code keeps what was read of a program, and what reading on answers and leaves.
-use Rattle.std.specs.Prelude.{◌≡◌, ◌≤◌, ◌↔◌, ⊤, ℕ, ◌+◌, ◌*◌, All, List, length, map, Result, Ok, Err}
+use Rattle.std.specs.Prelude.{◌≡◌, ◌≤◌, ◌↔◌, ⊤, ℕ, ◌+◌, ◌*◌, All, List, length, map, Some, Result, Ok, Err}
 use Rattle.std.specs.List.{sum_by}
+use Rattle.hs_base.specs.declared.outside.Texts as texts
 use Rattle.c_parser.specs.Parses.{IsOnlyTree}
 use Rattle.c_pre.specs.Answering.{CountsFault, Gives}
 use Rattle.c_pre.specs.Expansion.{most_work}
-use Rattle.c_pre.specs.Texts.{most_bytes}
+use Rattle.c_pre.specs.Texts.{most_bytes, preprocessed_behind}
 use Rattle.c_pre.specs.declared.answer.Sources.{Sources}
 use Rattle.c_lexer.specs.declared.token.Token.{Token}
 use Rattle.c_pre.specs.declared.answer.PreError.{PreError}
@@ -44,6 +45,12 @@ TakesFile before expected (Err NoMemory) = ⊤
 TakesFile before expected answer =
     (tokens : List Token) × (sources : Sources) × (expected ≡ Ok (tokens, sources)) × TakesUnit before tokens sources answer
 
+-- so it is taken, where texts tell their bytes
+abbrev pub ReadsFile : {T : Type 0} → texts.Ghosts T → T → Kept → List ℕ → Result Kept ProgramError → Type 0
+ReadsFile of given before file result =
+    (told : List ℕ → List ℕ) → of.texts given ≡ Some told →
+    TakesFile (reading_view before) (preprocessed_behind before.sources told file) result
+
 -- the units are merged, or refused; of want of memory nothing is said
 abbrev pub Finishes : Reading → Result Program ProgramError → Type 0
 Finishes before (Ok program) = (program.texts ≡ before.sources.texts) × (merged before.units ≡ Ok (unit_view program.unit))
@@ -67,6 +74,10 @@ ReadsAs told files (Ok program) =
 ReadsAs told files (Err error) =
     IsRefused error → (input : Input) (task : Task) (a : Shown) →
     AnswersFiles files told input task a ↔ (a ≡ unmade error)
+
+-- so it is, where texts tell their bytes
+abbrev pub ReadsFiles : {T : Type 0} → texts.Ghosts T → T → List (List ℕ) → Result Program ProgramError → Type 0
+ReadsFiles of given files result = (told : List ℕ → List ℕ) → of.texts given ≡ Some told → ReadsAs told files result
 
 -- the count of the texts rises, by one, exactly where a text failed
 abbrev pub CountsText : {T : Type 0} → ℕ → ℕ → Result T ProgramError → Type 0

@@ -1,16 +1,27 @@
 -- What is said of an answer, and what a fault of the outside leads to.
 use Rattle.std.specs.List.{list_all}
 use Rattle.c_pre.specs.Directives.{is_path_byte}
-use Rattle.std.specs.Prelude.{◌≡◌, ◌≢◌, ◌⊎◌, ◌<◌, ◌≤◌, ◌+◌, ℕ, true, nat_lt, cond, List, [], ◌∷◌, ◌++◌, Contains, Option, Some, None, codes}
+use Rattle.std.specs.Prelude.{◌≡◌, ◌≢◌, ◌⊎◌, ◌<◌, ◌≤◌, ◌+◌, ℕ, Bool, IsTrue, true, nat_lt, cond, List, [], ◌∷◌, ◌++◌, Contains, Option, Some, None, Result, IfOk, codes}
 use Rattle.command_words.specs.Commands.{Command, OnFiles, Execute}
+use Rattle.core_tree.specs.declared.program.Core.{Core}
+use Rattle.bad_free_report.specs.declared.explanation.InForce.{InForce}
 use Rattle.hs_base.specs.Object.{Object}
+use Rattle.hs_base.specs.PutAll.{PutsAll}
+use Rattle.hs_base.specs.declared.outside.Failed.{Failed}
+use Rattle.hs_base.specs.declared.outside.Sink as sink
+use Rattle.hs_base.specs.declared.ends.End.{End}
+use Rattle.hs_base.specs.declared.ends.End.TheVariants.{Exit}
 use Rattle.hs_base.specs.declared.ends.Leak.{Leak}
+use Rattle.flat_objects.specs.Keeping.{Keeps}
+use Rattle.flat_machine.specs.Machined.{Machined}
 use Rattle.c_pre.specs.declared.answer.Opened.{Opened}
 use Rattle.heapsafe.specs.Leaks.{AreLeaks, leak_lines}
-use Rattle.heapsafe.specs.Places.{told_leaks}
+use Rattle.heapsafe.specs.Program.{Input, TellsNone, input_of, status_of, steady}
+use Rattle.heapsafe.specs.Sight.{KeepsBoth, Sight}
+use Rattle.heapsafe.specs.Places.{line_in, told_end_of, told_leaks, told_report}
 use Rattle.heapsafe.specs.declared.refusal.Refusal.{Refusal}
 use Rattle.heapsafe.specs.declared.refusal.Refusal.TheVariants.{Usage, TextFault, TextTooLong, BadCode, Unverified, NoMemory, OutputFault}
-use Rattle.heapsafe.specs.Shown.{Shown, refusal, input_fault, output_fault, text_fault, text_too_long, no_memory, bad_syntax, bad_type, conflicting, untokened}
+use Rattle.heapsafe.specs.Shown.{Shown, place_of, refusal, refusal_at, input_fault, output_fault, text_fault, text_too_long, no_memory, bad_syntax, bad_type, conflicting, untokened}
 use Rattle.hs_base.specs.declared.reading.ReadError.{ReadError}
 use Rattle.hs_base.specs.declared.reading.ReadError.TheVariants.{Fault, TooLong}
 use Rattle.hs_base.specs.declared.reading.ReadError.TheVariants as reading
@@ -78,52 +89,130 @@ TakesFront taken taken' bytes =
 
 -- the error stream took these bytes and the status is this one, or a write to it failed, it took a front of them and the
 -- status is 133
-abbrev pub Says : Option (List ℕ) → Option (List ℕ) → ℕ → ℕ → List ℕ → ℕ → ℕ → Type 0
-Says taken taken' faults faults' bytes status result =
-    ((faults' ≡ faults) × (result ≡ status) × TakesAll taken taken' bytes)
-    ⊎ ((faults' ≡ faults + 1) × (result ≡ 133) × TakesFront taken taken' bytes)
+abbrev pub Says : {I O E : Type 0} → Sight I O E → Sight I O E → List ℕ → ℕ → ℕ → Type 0
+Says before after bytes status result =
+    ((after.err_faults ≡ before.err_faults) × (result ≡ status) × TakesAll before.said after.said bytes)
+    ⊎ ((after.err_faults ≡ before.err_faults + 1) × (result ≡ 133) × TakesFront before.said after.said bytes)
 
--- it took no line but those of leaks
-abbrev pub TakesLeaks : Option (List ℕ) → Option (List ℕ) → Type 0
-TakesLeaks taken taken' = (leaks : List Leak) × TakesAll taken taken' (leak_lines leaks)
+-- where the input failed, its line is said
+abbrev pub TellsInput : {I O E : Type 0} → Sight I O E → Sight I O E → ℕ → Type 0
+TellsInput before after result = before.input_faults < after.input_faults → Says before after input_fault.err 132 result
 
--- the status of want of memory: the error stream took its line, and the first of these holds; or the status is a program's own,
--- the second holds, and the error stream took no line but those of leaks
-abbrev pub Wants : Type 0 → Type 0 → Option (List ℕ) → Option (List ℕ) → ℕ → Type 0
-Wants Stays Own taken taken' result =
-    result ≡ 134 → (Stays × TakesAll taken taken' no_memory.err) ⊎ (Own × TakesLeaks taken taken')
+-- where the output failed, its line is
+abbrev pub TellsOutput : {I O E : Type 0} → Sight I O E → Sight I O E → ℕ → Type 0
+TellsOutput before after result = before.out_faults < after.out_faults → Says before after output_fault.err 133 result
+
+-- the line of this answer was said, with its status, and nothing was read or written
+pub record SaysOnly {I O E : Type 0} (s : Shown) (before after : Sight I O E) (result : ℕ) : Type 0 where
+  pub keeps : KeepsBoth before after
+  pub says : Says before after s.err s.status result
+
+-- so is a refusal at a line of a text, and at one that is counted over all texts
+abbrev pub SaysAt : {I O E : Type 0} → List ℕ → ℕ → List ℕ → List ℕ → ℕ → Sight I O E → Sight I O E → ℕ → Type 0
+SaysAt name line text words status before after result =
+    SaysOnly (refusal_at (place_of name line text) words status) before after result
+
+abbrev pub SaysIn : {I O E : Type 0} → List Opened → ℕ → List ℕ → ℕ → Sight I O E → Sight I O E → ℕ → Type 0
+SaysIn opened line words status before after result =
+    SaysOnly (refusal_at (line_in opened line) words status) before after result
+
+-- a sink took the report of an end, or a front of it where a write failed
+abbrev pub PutsReport : {E T : Type 0} → sink.Ghosts E → Core → List ℕ → List Opened → End → E → E → Result T Failed → Type 0
+PutsReport of core file opened end err err' result =
+    PutsAll (of.taken err) (of.taken err') (told_report core file opened end) result
+
+-- and the lines that explain it, where they are asked for
+abbrev pub PutsEnd : {E T : Type 0} → sink.Ghosts E → Core → List ℕ → List Opened → Option InForce → End → E → E → Result T Failed → Type 0
+PutsEnd of core file opened asked end err err' result =
+    PutsAll (of.taken err) (of.taken err') (told_end_of core file opened asked end) result
+
+-- or a line for each leak of the objects that a machine keeps
+abbrev pub PutsLeaks : {E T : Type 0} → sink.Ghosts E → Machined → List Opened → E → E → Result T Failed → Type 0
+PutsLeaks of machine opened err err' result =
+    (places : ℕ → ℕ) (objects : List Object) → Keeps machine.kept.memory places objects →
+    (leaks : List Leak) → AreLeaks objects 0 leaks → PutsAll (of.taken err) (of.taken err') (told_leaks opened leaks) result
+
+-- where all were told, there are such
+abbrev pub TellsLeaks : {T : Type 0} → Machined → Result T Failed → Type 0
+TellsLeaks machine result =
+    (places : ℕ → ℕ) (objects : List Object) → Keeps machine.kept.memory places objects →
+    IfOk result (λ _. (leaks : List Leak) × AreLeaks objects 0 leaks)
+
+-- the error stream took no line but those of leaks
+abbrev pub TakesLeaks : {I O E : Type 0} → Sight I O E → Sight I O E → Type 0
+TakesLeaks before after = (leaks : List Leak) × TakesAll before.said after.said (leak_lines leaks)
+
+-- where a command runs a program: the status is a program's own, and the error stream took no line but those of leaks
+abbrev pub IsOwn : {I O E : Type 0} → Type 0 → Sight I O E → Sight I O E → Type 0
+IsOwn RunsNone before after = (RunsNone → ⊥) × TakesLeaks before after
+
+-- the status of want of memory: the error stream took its line, and input and output are as before, but where a program is
+-- evaluated; or the status is a program's own
+abbrev pub Wants : {I O E : Type 0} → Type 0 → Type 0 → Sight I O E → Sight I O E → ℕ → Type 0
+Wants MeansNone RunsNone before after result =
+    result ≡ 134 →
+    ((MeansNone → KeepsBoth before after) × TakesAll before.said after.said no_memory.err) ⊎ IsOwn RunsNone before after
 
 -- a write to one of the two streams failed
-abbrev pub WriteFails : ℕ → ℕ → ℕ → ℕ → Type 0
-WriteFails o o' e e' = (o < o') ⊎ (e < e')
+abbrev pub WriteFails : {I O E : Type 0} → Sight I O E → Sight I O E → Type 0
+WriteFails before after = (before.out_faults < after.out_faults) ⊎ (before.err_faults < after.err_faults)
+
+-- a read of the input or a write failed
+abbrev pub StreamFails : {I O E : Type 0} → Sight I O E → Sight I O E → Type 0
+StreamFails before after = (before.input_faults < after.input_faults) ⊎ WriteFails before after
 
 -- a status for a failure of the outside
 abbrev pub IsFault : ℕ → Type 0
 IsFault status = (status ≡ 121) ⊎ (status ≡ 132) ⊎ (status ≡ 133)
 
--- such a status comes where the first of these holds; or it is a program's own, the second holds, and the error stream took no
--- line but those of leaks
-abbrev pub HasCause : Type 0 → Type 0 → Option (List ℕ) → Option (List ℕ) → ℕ → Type 0
-HasCause Fails Own taken taken' result = IsFault result → Fails ⊎ (Own × TakesLeaks taken taken')
+-- such a status comes where this holds, or is a program's own
+abbrev pub HasCause : {I O E : Type 0} → Type 0 → Type 0 → Sight I O E → Sight I O E → ℕ → Type 0
+HasCause Fails RunsNone before after result = IsFault result → Fails ⊎ IsOwn RunsNone before after
 
 -- a status of words, of a program or of a code file that are refused
 abbrev pub IsRefusal : ℕ → Type 0
 IsRefusal status = (status ≡ 120) ⊎ ((136 ≤ status) × (status ≤ 139)) ⊎ ((122 ≤ status) × (status ≤ 125))
 
--- with such a status the first of these holds; or it is a program's own, the second holds, and the error stream took no line but
--- those of leaks
-abbrev pub Refuses : Type 0 → Type 0 → Option (List ℕ) → Option (List ℕ) → ℕ → Type 0
-Refuses Stays Own taken taken' result = IsRefusal result → Stays ⊎ (Own × TakesLeaks taken taken')
+-- with such a status input and output are as before, or it is a program's own
+abbrev pub Refuses : {I O E : Type 0} → Type 0 → Sight I O E → Sight I O E → ℕ → Type 0
+Refuses RunsNone before after result = IsRefusal result → KeepsBoth before after ⊎ IsOwn RunsNone before after
 
 -- no write to the error stream failed, and the status is this one; or one did, and it is 133
-abbrev pub SaysCounts : ℕ → ℕ → ℕ → ℕ → Type 0
-SaysCounts faults faults' status result =
-    ((faults' ≡ faults) × (result ≡ status)) ⊎ ((faults' ≡ faults + 1) × (result ≡ 133))
+abbrev pub SaysCounts : {I O E : Type 0} → Sight I O E → Sight I O E → ℕ → ℕ → Type 0
+SaysCounts before after status result =
+    ((after.err_faults ≡ before.err_faults) × (result ≡ status))
+    ⊎ ((after.err_faults ≡ before.err_faults + 1) × (result ≡ 133))
 
 -- it took the lines of the leaks of these objects, or a front of them
-pub record SaysLeaks (opened : List Opened) (objects : List Object) (taken taken' : Option (List ℕ)) (faults faults' status result : ℕ) : Type 0 where
-  pub says : (leaks : List Leak) → AreLeaks objects 0 leaks → Says taken taken' faults faults' (told_leaks opened leaks) status result
-  pub all : faults' ≡ faults → (leaks : List Leak) × AreLeaks objects 0 leaks
+pub record SaysLeaks {I O E : Type 0} (opened : List Opened) (objects : List Object) (before after : Sight I O E) (status result : ℕ) : Type 0 where
+  pub says : (leaks : List Leak) → AreLeaks objects 0 leaks → Says before after (told_leaks opened leaks) status result
+  pub all : after.err_faults ≡ before.err_faults → (leaks : List Leak) × AreLeaks objects 0 leaks
+
+-- so it is for the objects that a machine keeps
+abbrev pub SaysLeft : {I O E : Type 0} → Machined → List Opened → Sight I O E → Sight I O E → ℕ → ℕ → Type 0
+SaysLeft machine opened before after status result =
+    (places : ℕ → ℕ) (objects : List Object) → Keeps machine.kept.memory places objects →
+    SaysLeaks opened objects before after status result
+
+-- so it is behind an exit, where leaks are asked for
+abbrev pub SaysExit : {I O E : Type 0} → Bool → End → Machined → List Opened → Sight I O E → Sight I O E → ℕ → Type 0
+SaysExit leaks end machine opened before after result =
+    (code : ℕ) → IsTrue leaks → end ≡ Exit code → SaysLeft machine opened before after code result
+
+-- the report of an end was said, and the lines that explain it, where they are asked for
+abbrev pub SaysEnd : {I O E : Type 0} → List ℕ → List Opened → Core → Option InForce → End → Sight I O E → Sight I O E → ℕ → Type 0
+SaysEnd file opened core asked end before after result =
+    Says before after (told_end_of core file opened asked end) (status_of end) result
+
+-- so it is where no leaks are told of
+abbrev pub SaysPlain : {I O E : Type 0} → Bool → List ℕ → List Opened → Core → Option InForce → End → Sight I O E → Sight I O E → ℕ → Type 0
+SaysPlain leaks file opened core asked end before after result =
+    TellsNone leaks end → SaysEnd file opened core asked end before after result
+
+-- behind an exit it took no line but those of leaks, where no write to it failed
+abbrev pub SaysOwn : {I O E : Type 0} → End → Sight I O E → Sight I O E → Type 0
+SaysOwn end before after =
+    (code : ℕ) → end ≡ Exit code → after.err_faults ≡ before.err_faults → TakesLeaks before after
 
 -- the output took some bytes, of which this holds
 pub record Puts (Is : Option (List ℕ) → Type 0) (o o' : Option (List ℕ)) : Type 0 where
@@ -133,23 +222,30 @@ pub record Puts (Is : Option (List ℕ) → Type 0) (o o' : Option (List ℕ)) :
 
 -- the input lost, and the streams took, the bytes of an answer that is as said, or of the one for want of memory; and the
 -- status is its own
-pub record Gives (Is : Shown → Type 0) (left : List ℕ) (left' o o' e e' : Option (List ℕ)) (result : ℕ) : Type 0 where
+pub record Gives {I O E : Type 0} (Is : Shown → Type 0) (left : List ℕ) (before after : Sight I O E) (result : ℕ) : Type 0 where
   pub shown : Shown
   pub is : Is shown ⊎ (shown ≡ no_memory)
   pub rest : List ℕ
-  pub is_left : left' ≡ Some rest
+  pub is_left : after.left ≡ Some rest
   pub is_read : shown.read ++ rest ≡ left
-  pub out_took : TakesAll o o' shown.out
-  pub err_took : TakesAll e e' shown.err
+  pub out_took : TakesAll before.taken after.taken shown.out
+  pub err_took : TakesAll before.said after.said shown.err
   pub status : result ≡ shown.status
+
+-- so it is where the input tells its bytes and no write failed, by the answers for these bytes
+abbrev pub Exactly : {I O E : Type 0} → (Input → Shown → Type 0) → Sight I O E → Sight I O E → ℕ → Type 0
+Exactly Answers before after result =
+    (left : List ℕ) → before.left ≡ Some left → after.out_faults ≡ before.out_faults → after.err_faults ≡ before.err_faults →
+    Gives (Answers (input_of left before.input_faults after.input_faults)) left before after result
 
 -- no count rose; or one of the output or of the error stream did, and the status is 133; or that of the texts alone, and
 -- it is 121; or that of the input alone, and it is 132
-abbrev pub Faults : ℕ → ℕ → ℕ → ℕ → ℕ → ℕ → ℕ → ℕ → ℕ → Type 0
-Faults t t' i i' o o' e e' result =
-    ((t' ≡ t) × (i' ≡ i) × (o' ≡ o) × (e' ≡ e)) ⊎ ((t ≤ t') × (i ≤ i') × (o ≤ o') × (e ≤ e') × ((o < o') ⊎ (e < e')) × (result ≡ 133))
-    ⊎ ((t < t') × (i' ≡ i) × (o' ≡ o) × (e' ≡ e) × (result ≡ 121))
-    ⊎ ((t' ≡ t) × (i < i') × (o' ≡ o) × (e' ≡ e) × (result ≡ 132))
+abbrev pub Faults : {I O E : Type 0} → ℕ → ℕ → Sight I O E → Sight I O E → ℕ → Type 0
+Faults t t' b a result =
+    ((t' ≡ t) × (a.input_faults ≡ b.input_faults) × (a.out_faults ≡ b.out_faults) × (a.err_faults ≡ b.err_faults))
+    ⊎ ((t ≤ t') × (b.input_faults ≤ a.input_faults) × (b.out_faults ≤ a.out_faults) × (b.err_faults ≤ a.err_faults) × WriteFails b a × (result ≡ 133))
+    ⊎ ((t < t') × (a.input_faults ≡ b.input_faults) × (a.out_faults ≡ b.out_faults) × (a.err_faults ≡ b.err_faults) × (result ≡ 121))
+    ⊎ ((t' ≡ t) × (b.input_faults < a.input_faults) × (a.out_faults ≡ b.out_faults) × (a.err_faults ≡ b.err_faults) × (result ≡ 132))
 
 -- the files of the words, where a text failed
 abbrev pub unread_files : Option Command → ℕ → ℕ → Option (List (List ℕ))
@@ -161,47 +257,55 @@ unread_files asked t t' = None
 abbrev pub IsTextOf : List (List ℕ) → List ℕ → Type 0
 IsTextOf files name = Contains files name ⊎ (list_all is_path_byte name ≡ true)
 
--- it is said of a text that it could not be read: of one of these files, or of one that an include can name
-pub record SaysUnread (files : List (List ℕ)) (taken taken' : Option (List ℕ)) (faults faults' result : ℕ) : Type 0 where
+-- it is said of a text that it could not be read: of one of these files, or of one that an include can name; nothing was read or
+-- written
+pub record SaysUnread {I O E : Type 0} (files : List (List ℕ)) (before after : Sight I O E) (result : ℕ) : Type 0 where
   pub name : List ℕ
   pub is_text : IsTextOf files name
-  pub says : Says taken taken' faults faults' (text_fault name).err 121 result
+  pub says : SaysOnly (text_fault name) before after result
 
 -- the line that is said where a write failed: that of the text that failed; else that of the input or of the output,
 -- where it failed; or, where neither did, that of the answer or of want of memory
-abbrev pub IsSaid : Option (List (List ℕ)) → Shown → ℕ → ℕ → ℕ → ℕ → List ℕ → Type 0
-IsSaid (Some files) a i i' o o' line = (name : List ℕ) × IsTextOf files name × (line ≡ (text_fault name).err)
-IsSaid None a i i' o o' line =
-    ((i < i') × (line ≡ input_fault.err)) ⊎ ((o < o') × (line ≡ output_fault.err))
-    ⊎ ((i' ≡ i) × (o' ≡ o) × ((line ≡ a.err) ⊎ (line ≡ no_memory.err)))
+abbrev pub IsSaid : {I O E : Type 0} → Option (List (List ℕ)) → Shown → Sight I O E → Sight I O E → List ℕ → Type 0
+IsSaid (Some files) a before after line = (name : List ℕ) × IsTextOf files name × (line ≡ (text_fault name).err)
+IsSaid None a before after line =
+    ((before.input_faults < after.input_faults) × (line ≡ input_fault.err))
+    ⊎ ((before.out_faults < after.out_faults) × (line ≡ output_fault.err))
+    ⊎ ((after.input_faults ≡ before.input_faults) × (after.out_faults ≡ before.out_faults) × ((line ≡ a.err) ⊎ (line ≡ no_memory.err)))
 
 -- a write failed: the input lost a front of what this answer reads, the output took a front of what it writes, the error stream
 -- a front of one line that may be said, and nothing more was written to a stream that failed
-pub record Breaks (unread : Option (List (List ℕ))) (a : Shown) (left : List ℕ) (left' o o' e e' : Option (List ℕ)) (i i' f f' g g' : ℕ) : Type 0 where
+pub record Breaks {I O E : Type 0} (unread : Option (List (List ℕ))) (a : Shown) (left : List ℕ) (before after : Sight I O E) : Type 0 where
   pub lost : List ℕ
   pub kept : List ℕ
   pub more : List ℕ
-  pub is_left : left' ≡ Some kept
+  pub is_left : after.left ≡ Some kept
   pub is_lost : lost ++ kept ≡ left
   pub is_read : lost ++ more ≡ a.read
-  pub out_took : TakesFront o o' a.out
+  pub out_took : TakesFront before.taken after.taken a.out
   pub line : List ℕ
-  pub is_said : IsSaid unread a i i' f f' line
-  pub err_took : TakesFront e e' line
-  pub out_stops : f' ≤ f + 1
-  pub err_stops : g' ≤ g + 1
+  pub is_said : IsSaid unread a before after line
+  pub err_took : TakesFront before.said after.said line
+  pub out_stops : after.out_faults ≤ before.out_faults + 1
+  pub err_stops : after.err_faults ≤ before.err_faults + 1
 
 -- an answer that is more than the line of want of memory
 abbrev pub SaysMore : Shown → Type 0
 SaysMore a = a.err ≢ no_memory.err
 
 -- it broke off an answer that is as said, or the line of want of memory
-pub record BreaksOne (Is : Shown → Type 0) (unread : Option (List (List ℕ))) (left : List ℕ) (left' o o' e e' : Option (List ℕ)) (i i' f f' g g' : ℕ) : Type 0 where
+pub record BreaksOne {I O E : Type 0} (Is : Shown → Type 0) (unread : Option (List (List ℕ))) (left : List ℕ) (before after : Sight I O E) : Type 0 where
   pub shown : Shown
   pub is : Is shown ⊎ (shown ≡ no_memory)
-  pub breaks : Breaks unread shown left left' o o' e e' i i' f f' g g'
+  pub breaks : Breaks unread shown left before after
 
 -- where there is one answer that is as said, it broke off that one; and else one of them
-pub record BreaksOff (One : Type 0) (Is : Shown → Type 0) (unread : Option (List (List ℕ))) (left : List ℕ) (left' o o' e e' : Option (List ℕ)) (i i' f f' g g' : ℕ) : Type 0 where
-  pub each : One → (a : Shown) → Is a → SaysMore a → Breaks unread a left left' o o' e e' i i' f f' g g'
-  pub some : (One → ⊥) → BreaksOne Is unread left left' o o' e e' i i' f f' g g'
+pub record BreaksOff {I O E : Type 0} (One : Type 0) (Is : Shown → Type 0) (unread : Option (List (List ℕ))) (left : List ℕ) (before after : Sight I O E) : Type 0 where
+  pub each : One → (a : Shown) → Is a → SaysMore a → Breaks unread a left before after
+  pub some : (One → ⊥) → BreaksOne Is unread left before after
+
+-- so it is where the input tells its bytes and a write failed, by the answers for an input that does not fail
+abbrev pub Broken : {I O E : Type 0} → Type 0 → (Input → Shown → Type 0) → Option (List (List ℕ)) → Sight I O E → Sight I O E → Type 0
+Broken One Answers unread before after =
+    (left : List ℕ) → before.left ≡ Some left → WriteFails before after →
+    BreaksOff One (Answers (steady left)) unread left before after

@@ -36,6 +36,10 @@ said lines status = record { read = []; out = []; err = lines; status = status }
 abbrev pub refusal : List ℕ → List ℕ → ℕ → Shown
 refusal name words status = said (complaint name words) status
 
+-- a line of a text with this name
+abbrev pub place_of : List ℕ → ℕ → List ℕ → Place
+place_of name line text = record { name = name; line = line; text = text }
+
 -- one at a line of a text, which is shown below it
 abbrev pub refusal_at : Place → List ℕ → ℕ → Shown
 refusal_at at words status = said (complaint_at at.name at.line words at.text) status

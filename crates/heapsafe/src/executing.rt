@@ -1,18 +1,18 @@
 //! Running the code of a code file.
 
-ghost use Rattle.std.specs.Prelude.{◌≡◌, ◌⊎◌, ◌+◌, ◌<◌, ◌≤◌, ◌^◌, ⊤, ℕ, List, [], ◌∷◌, Some, None, IfOk};
-ghost use Rattle.code_file.specs.CodeFile.{HasBytes, IsFileOf, IsRanged};
+ghost use Rattle.std.specs.Prelude.{◌≡◌, ◌+◌, ◌<◌, ◌^◌, ⊤, IfOk};
+ghost use Rattle.code_file.specs.CodeFile.{IsRanged};
 ghost use Rattle.meaning_laws.specs.code.Laws.{HoldsBytes};
 ghost use Rattle.flat_code.specs.WellFormed.{IsWellFormed};
-ghost use Rattle.command_words.specs.Commands.{Execute};
-ghost use Rattle.heapsafe.specs.Execution.{AnswersBytes, AnswersCode, AnswersExecution, AnswersVerified, IsWithin, code_text};
-ghost use Rattle.heapsafe.specs.Program.{input_of, steady};
-ghost use Rattle.heapsafe.specs.Saying.{Breaks, Faults, Gives, HasCause, Refuses, Says, SaysMore, SaysUnread, Wants, WriteFails, shown_of, unread, unread_files};
-ghost use Rattle.heapsafe.specs.Shown.{Shown, input_fault, output_fault};
+ghost use Rattle.heapsafe.specs.Execution.{AnswersBytes, AnswersCode, AnswersVerified, IsWithin, asked_of, code_text};
+ghost use Rattle.heapsafe.specs.Saying.{shown_of, unread};
+ghost use Rattle.heapsafe.specs.Serving.{Obeys, Runs};
+ghost use Rattle.heapsafe.specs.Sight.{HasRoom};
 
 use crate::program::{explains_run, finish_run};
 use crate::refusal::{Refusal, refuse};
 use crate::running::run_file;
+use crate::streams::Streams;
 use c_pre::Opened;
 use code_file::{CodeError, CodeFile, read_code, verify};
 use compiled_file::whole_runs_are_whole;
@@ -63,47 +63,24 @@ fn run_verified<I: Source, O: Sink, E: Sink>(
     opened: &[Opened],
     code: &CodeFile,
     asked: Asked,
-    input: &mut I,
-    out: &mut O,
-    err: &mut E,
+    io: &mut Streams<I, O, E>,
 ) -> u8
     requires formed { IsWellFormed code.now.code }
     requires bytes { HoldsBytes code.now.code }
     requires text { opened.now ≡ code_text file.now }
     requires limits { IsWithin asked }
-    requires input { I.faults input.old + 1 < 2 ^ 64 }
-    requires out { O.faults out.old + 1 < 2 ^ 64 }
-    requires err { E.faults err.old + 1 < 2 ^ 64 }
-    ensures exact { (left : List ℕ) → I.left input.old ≡ Some left →
-        O.faults out.new ≡ O.faults out.old → E.faults err.new ≡ E.faults err.old →
-        Gives
-        (AnswersCode file.now code.now (input_of left (I.faults input.old) (I.faults input.new))
-        asked) left (I.left input.new) (O.taken out.old) (O.taken out.new) (E.taken err.old)
-        (E.taken err.new) result }
-    ensures faults { (t : ℕ) → Faults t t (I.faults input.old) (I.faults input.new)
-        (O.faults out.old) (O.faults out.new) (E.faults err.old) (E.faults err.new) result }
-    ensures input_fault { I.faults input.old < I.faults input.new →
-        Says (E.taken err.old) (E.taken err.new) (E.faults err.old) (E.faults err.new)
-        input_fault.err 132 result }
-    ensures output_fault { O.faults out.old < O.faults out.new →
-        Says (E.taken err.old) (E.taken err.new) (E.faults err.old) (E.faults err.new)
-        output_fault.err 133 result }
-    ensures broken { (left : List ℕ) → I.left input.old ≡ Some left → WriteFails (O.faults out.old)
-        (O.faults out.new) (E.faults err.old) (E.faults err.new) → (a : Shown) →
-        AnswersCode file.now code.now (steady left) asked a → SaysMore a →
-        Breaks None a left (I.left input.new) (O.taken out.old) (O.taken out.new) (E.taken err.old)
-        (E.taken err.new) (I.faults input.old) (I.faults input.new) (O.faults out.old)
-        (O.faults out.new) (E.faults err.old) (E.faults err.new) }
-    ensures memory { Wants ((input.new ≡ input.old) × (out.new ≡ out.old)) ⊤ (E.taken err.old)
-        (E.taken err.new) result }
-    ensures cause { HasCause ((I.faults input.old < I.faults input.new) ⊎
-        WriteFails (O.faults out.old) (O.faults out.new) (E.faults err.old) (E.faults err.new)) ⊤
-        (E.taken err.old) (E.taken err.new) result }
-    ensures refused { Refuses ((input.new ≡ input.old) × (out.new ≡ out.old)) ⊤ (E.taken err.old)
-        (E.taken err.new) result }
+    requires room { HasRoom io.old }
+    ensures { Runs ⊤ (λ i. AnswersCode file.now code.now i asked) io.old io.new result }
 {
     whole_runs_are_whole();
-    match run_file(alloc, &code.code, asked.limits, asked.steps, input, out) {
+    match run_file(
+        alloc,
+        &code.code,
+        asked.limits,
+        asked.steps,
+        &mut io.input,
+        &mut io.out,
+    ) {
         Ok((end, machine)) => {
             let explains = explains_run(asked.explain, asked.steps, asked.limits);
             finish_run(
@@ -114,10 +91,10 @@ fn run_verified<I: Source, O: Sink, E: Sink>(
                 file,
                 opened,
                 explains,
-                err,
+                io,
             )
         }
-        Err(_) => refuse(err, Refusal::NoMemory),
+        Err(_) => refuse(io, Refusal::NoMemory),
     }
 }
 
@@ -127,50 +104,20 @@ fn with_code<I: Source, O: Sink, E: Sink>(
     file: &str,
     code: &CodeFile,
     asked: Asked,
-    input: &mut I,
-    out: &mut O,
-    err: &mut E,
+    io: &mut Streams<I, O, E>,
 ) -> u8
     requires ranged { IsRanged code.now }
     requires limits { IsWithin asked }
-    requires input { I.faults input.old + 1 < 2 ^ 64 }
-    requires out { O.faults out.old + 1 < 2 ^ 64 }
-    requires err { E.faults err.old + 1 < 2 ^ 64 }
-    ensures exact { (left : List ℕ) → I.left input.old ≡ Some left →
-        O.faults out.new ≡ O.faults out.old → E.faults err.new ≡ E.faults err.old →
-        Gives
-        (AnswersVerified file.now code.now (input_of left (I.faults input.old) (I.faults input.new))
-        asked) left (I.left input.new) (O.taken out.old) (O.taken out.new) (E.taken err.old)
-        (E.taken err.new) result }
-    ensures faults { (t : ℕ) → Faults t t (I.faults input.old) (I.faults input.new)
-        (O.faults out.old) (O.faults out.new) (E.faults err.old) (E.faults err.new) result }
-    ensures input_fault { I.faults input.old < I.faults input.new →
-        Says (E.taken err.old) (E.taken err.new) (E.faults err.old) (E.faults err.new)
-        input_fault.err 132 result }
-    ensures output_fault { O.faults out.old < O.faults out.new →
-        Says (E.taken err.old) (E.taken err.new) (E.faults err.old) (E.faults err.new)
-        output_fault.err 133 result }
-    ensures broken { (left : List ℕ) → I.left input.old ≡ Some left → WriteFails (O.faults out.old)
-        (O.faults out.new) (E.faults err.old) (E.faults err.new) → (a : Shown) →
-        AnswersVerified file.now code.now (steady left) asked a → SaysMore a →
-        Breaks None a left (I.left input.new) (O.taken out.old) (O.taken out.new) (E.taken err.old)
-        (E.taken err.new) (I.faults input.old) (I.faults input.new) (O.faults out.old)
-        (O.faults out.new) (E.faults err.old) (E.faults err.new) }
-    ensures memory { Wants ((input.new ≡ input.old) × (out.new ≡ out.old)) ⊤ (E.taken err.old)
-        (E.taken err.new) result }
-    ensures cause { HasCause ((I.faults input.old < I.faults input.new) ⊎
-        WriteFails (O.faults out.old) (O.faults out.new) (E.faults err.old) (E.faults err.new)) ⊤
-        (E.taken err.old) (E.taken err.new) result }
-    ensures refused { Refuses ((input.new ≡ input.old) × (out.new ≡ out.old)) ⊤ (E.taken err.old)
-        (E.taken err.new) result }
+    requires room { HasRoom io.old }
+    ensures { Runs ⊤ (λ i. AnswersVerified file.now code.now i asked) io.old io.new result }
 {
     let Ok(opened) = code_text(alloc, file) else {
-        return refuse(err, Refusal::NoMemory);
+        return refuse(io, Refusal::NoMemory);
     };
     match verify(alloc, code) {
-        Ok(true) => { run_verified(alloc, file, opened.as_slice(), code, asked, input, out, err) }
-        Ok(false) => refuse(err, Refusal::Unverified(file.as_bytes())),
-        Err(_) => refuse(err, Refusal::NoMemory),
+        Ok(true) => { run_verified(alloc, file, opened.as_slice(), code, asked, io) }
+        Ok(false) => refuse(io, Refusal::Unverified(file.as_bytes())),
+        Err(_) => refuse(io, Refusal::NoMemory),
     }
 }
 
@@ -180,45 +127,16 @@ fn with_bytes<I: Source, O: Sink, E: Sink>(
     file: &str,
     bytes: Items<u8>,
     asked: Asked,
-    input: &mut I,
-    out: &mut O,
-    err: &mut E,
+    io: &mut Streams<I, O, E>,
 ) -> u8
     requires limits { IsWithin asked }
-    requires input { I.faults input.old + 1 < 2 ^ 64 }
-    requires out { O.faults out.old + 1 < 2 ^ 64 }
-    requires err { E.faults err.old + 1 < 2 ^ 64 }
-    ensures exact { (left : List ℕ) → I.left input.old ≡ Some left →
-        O.faults out.new ≡ O.faults out.old → E.faults err.new ≡ E.faults err.old →
-        Gives (AnswersBytes file.now bytes (input_of left (I.faults input.old) (I.faults input.new))
-        asked) left (I.left input.new) (O.taken out.old) (O.taken out.new) (E.taken err.old)
-        (E.taken err.new) result }
-    ensures faults { (t : ℕ) → Faults t t (I.faults input.old) (I.faults input.new)
-        (O.faults out.old) (O.faults out.new) (E.faults err.old) (E.faults err.new) result }
-    ensures input_fault { I.faults input.old < I.faults input.new →
-        Says (E.taken err.old) (E.taken err.new) (E.faults err.old) (E.faults err.new)
-        input_fault.err 132 result }
-    ensures output_fault { O.faults out.old < O.faults out.new →
-        Says (E.taken err.old) (E.taken err.new) (E.faults err.old) (E.faults err.new)
-        output_fault.err 133 result }
-    ensures broken { (left : List ℕ) → I.left input.old ≡ Some left → WriteFails (O.faults out.old)
-        (O.faults out.new) (E.faults err.old) (E.faults err.new) → (a : Shown) →
-        AnswersBytes file.now bytes (steady left) asked a → SaysMore a →
-        Breaks None a left (I.left input.new) (O.taken out.old) (O.taken out.new) (E.taken err.old)
-        (E.taken err.new) (I.faults input.old) (I.faults input.new) (O.faults out.old)
-        (O.faults out.new) (E.faults err.old) (E.faults err.new) }
-    ensures memory { Wants ((input.new ≡ input.old) × (out.new ≡ out.old)) ⊤ (E.taken err.old)
-        (E.taken err.new) result }
-    ensures cause { HasCause ((I.faults input.old < I.faults input.new) ⊎
-        WriteFails (O.faults out.old) (O.faults out.new) (E.faults err.old) (E.faults err.new)) ⊤
-        (E.taken err.old) (E.taken err.new) result }
-    ensures refused { Refuses ((input.new ≡ input.old) × (out.new ≡ out.old)) ⊤ (E.taken err.old)
-        (E.taken err.new) result }
+    requires room { HasRoom io.old }
+    ensures { Runs ⊤ (λ i. AnswersBytes file.now bytes i asked) io.old io.new result }
 {
     match read_code(alloc, bytes.as_slice()) {
-        Ok(code) => with_code(alloc, file, &code, asked, input, out, err),
-        Err(CodeError::Form) => refuse(err, Refusal::BadCode(file.as_bytes())),
-        Err(CodeError::NoMemory) => refuse(err, Refusal::NoMemory),
+        Ok(code) => with_code(alloc, file, &code, asked, io),
+        Err(CodeError::Form) => refuse(io, Refusal::BadCode(file.as_bytes())),
+        Err(CodeError::NoMemory) => refuse(io, Refusal::NoMemory),
     }
 }
 
@@ -228,55 +146,15 @@ pub(crate) fn execute_file<T: Texts, I: Source, O: Sink, E: Sink>(
     file: &str,
     asked: Asked,
     texts: &mut T,
-    input: &mut I,
-    out: &mut O,
-    err: &mut E,
+    io: &mut Streams<I, O, E>,
 ) -> u8
     requires limits { IsWithin asked }
     requires texts { T.faults texts.old + 1 < 2 ^ 64 }
-    requires input { I.faults input.old + 1 < 2 ^ 64 }
-    requires out { O.faults out.old + 1 < 2 ^ 64 }
-    requires err { E.faults err.old + 1 < 2 ^ 64 }
-    ensures exact { (told : List ℕ → List ℕ) (left : List ℕ) → T.texts texts.old ≡ Some told →
-        I.left input.old ≡ Some left → T.faults texts.new ≡ T.faults texts.old →
-        O.faults out.new ≡ O.faults out.old → E.faults err.new ≡ E.faults err.old →
-        Gives (AnswersExecution file.now (told file.now)
-        (input_of left (I.faults input.old) (I.faults input.new)) asked) left (I.left input.new)
-        (O.taken out.old) (O.taken out.new) (E.taken err.old) (E.taken err.new) result }
-    ensures faults { Faults (T.faults texts.old) (T.faults texts.new) (I.faults input.old)
-        (I.faults input.new) (O.faults out.old) (O.faults out.new) (E.faults err.old)
-        (E.faults err.new) result }
-    ensures input_fault { I.faults input.old < I.faults input.new →
-        Says (E.taken err.old) (E.taken err.new) (E.faults err.old) (E.faults err.new)
-        input_fault.err 132 result }
-    ensures output_fault { O.faults out.old < O.faults out.new →
-        Says (E.taken err.old) (E.taken err.new) (E.faults err.old) (E.faults err.new)
-        output_fault.err 133 result }
-    ensures text_fault { T.faults texts.old < T.faults texts.new → (input.new ≡ input.old) ×
-        (out.new ≡ out.old) × SaysUnread (file.now ∷ []) (E.taken err.old) (E.taken err.new)
-        (E.faults err.old) (E.faults err.new) result }
-    ensures broken { (told : List ℕ → List ℕ) (left : List ℕ) → T.texts texts.old ≡ Some told →
-        I.left input.old ≡ Some left → WriteFails (O.faults out.old) (O.faults out.new)
-        (E.faults err.old) (E.faults err.new) → (a : Shown) →
-        AnswersExecution file.now (told file.now) (steady left) asked a → SaysMore a →
-        Breaks
-        (unread_files
-        (Some (Execute file.now asked.limits.heap asked.limits.stack asked.steps asked.leaks
-        asked.explain))
-        (T.faults texts.old) (T.faults texts.new)) a left (I.left input.new) (O.taken out.old)
-        (O.taken out.new) (E.taken err.old) (E.taken err.new) (I.faults input.old)
-        (I.faults input.new) (O.faults out.old) (O.faults out.new) (E.faults err.old)
-        (E.faults err.new) }
-    ensures memory { Wants ((input.new ≡ input.old) × (out.new ≡ out.old)) ⊤ (E.taken err.old)
-        (E.taken err.new) result }
-    ensures cause { HasCause ((T.faults texts.old < T.faults texts.new) ⊎
-        (I.faults input.old < I.faults input.new) ⊎ WriteFails (O.faults out.old) (O.faults out.new)
-        (E.faults err.old) (E.faults err.new)) ⊤ (E.taken err.old) (E.taken err.new) result }
-    ensures refused { Refuses ((input.new ≡ input.old) × (out.new ≡ out.old)) ⊤ (E.taken err.old)
-        (E.taken err.new) result }
+    requires room { HasRoom io.old }
+    ensures { Obeys T.Texts (asked_of file.now asked) texts.old texts.new io.old io.new result }
 {
     match read_all(alloc, texts, file, MOST_BYTES) {
-        Ok(bytes) => with_bytes(alloc, file, bytes, asked, input, out, err),
-        Err(error) => refuse(err, reading_refusal(error, file)),
+        Ok(bytes) => with_bytes(alloc, file, bytes, asked, io),
+        Err(error) => refuse(io, reading_refusal(error, file)),
     }
 }

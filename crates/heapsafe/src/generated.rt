@@ -1,25 +1,24 @@
 //! The command `self N`: a text with N functions is made and run, and the line of its run is written.
 
-ghost use Rattle.std.specs.Prelude.{◌≡◌, ◌≤◌, ◌+◌, ◌-◌, ◌<◌, ◌^◌, ℕ, All, List, [], Some, None, IfOk, false, length};
+ghost use Rattle.std.specs.Prelude.{◌≡◌, ◌≤◌, ⊤, All, IfOk, length};
 ghost use Rattle.c_elab.specs.Core.{core_in};
 ghost use Rattle.c_lexer.specs.Tokens.{IsLexed};
 ghost use Rattle.c_tree.specs.StatementView.{unit_view};
 ghost use Rattle.core_soundness.specs.Laws.{AreWithin};
 ghost use Rattle.core_soundness.specs.Texts.{IsOfTexts};
 ghost use Rattle.core_tree.specs.Sound.{IsSound};
-ghost use Rattle.command_words.specs.Commands.{Run};
 ghost use Rattle.generated_text.specs.Summary.{summary_line};
-ghost use Rattle.heapsafe.specs.Answer.{AnswersGenerated, AnswersText, alone, no_input};
-ghost use Rattle.heapsafe.specs.Generated.{IsPrepared, IsPreparedTokens, IsPreparedUnit, MakesOnly, SumsUp, Went, steps_of};
-ghost use Rattle.heapsafe.specs.Program.{AnswersWay};
+ghost use Rattle.heapsafe.specs.Answer.{AnswersGenerated};
+ghost use Rattle.heapsafe.specs.Generated.{IsPrepared, IsPreparedTokens, IsPreparedUnit, MakesOnly, SumsUp, WentCore, WentText, steps_of};
 ghost use Rattle.c_pre.specs.Texts.{most_bytes};
-ghost use Rattle.heapsafe.specs.Saying.{Breaks, Faults, Gives, HasCause, Refuses, Says, Wants, WriteFails};
-ghost use Rattle.heapsafe.specs.Shown.{Shown, output_fault, written};
-ghost use Rattle.heapsafe.specs.declared.program.Way.TheVariants as way;
+ghost use Rattle.heapsafe.specs.Serving.{Serves, Writes};
+ghost use Rattle.heapsafe.specs.Shown.{written};
+ghost use Rattle.heapsafe.specs.Sight.{HasRoom};
 
 use crate::program::status_of;
 use crate::refusal::{BAD_TOKENS, BAD_TREE, BAD_TYPES, Refusal, refuse};
 use crate::running::run_code;
+use crate::streams::Streams;
 use c_decls::TypeError;
 use c_elab::elab;
 use c_lexer::{LexError, Token, lex};
@@ -28,7 +27,7 @@ use c_tree::Unit;
 use core_soundness::tokens_are_within;
 use core_tree::Core;
 use generated_text::{Summary, generate, put_summary};
-use hs_base::{End, Items, Limits, MemSink, NoMemory, Sink, SureSource};
+use hs_base::{End, Items, Limits, MemSink, NoMemory, Sink, Source, SureSource};
 use std::alloc::Global;
 
 /// How many bytes the heap of the run has.
@@ -104,8 +103,7 @@ fn run_core(alloc: Global, core: &Core, limits: Limits, steps: u64) -> Result<Ra
     requires heap { limits.heap ≤ 268435456 }
     requires stack { limits.stack ≤ 67108864 }
     requires steps { steps ≤ 1000000000 }
-    ensures answers { IfOk result (λ ran. (text : List ℕ) →
-        Went (AnswersWay [] (alone [] text) core.now no_input (way.Run limits steps false false)) ran) }
+    ensures answers { IfOk result (WentCore core.now limits steps) }
     ensures made { IfOk result (λ ran. ran.steps ≡ steps_of core.now limits steps) }
 {
     let mut input = SureSource::new(Items::new(alloc));
@@ -129,8 +127,7 @@ fn run_text(alloc: Global, text: &[u8], limits: Limits, steps: u64) -> Result<Ra
     requires heap { limits.heap ≤ 268435456 }
     requires stack { limits.stack ≤ 67108864 }
     requires steps { steps ≤ 1000000000 }
-    ensures answers { IfOk result
-        (Went (AnswersText [] text.now no_input (Run limits.heap limits.stack steps false false))) }
+    ensures answers { IfOk result (WentText text.now limits steps) }
     ensures makes { IfOk result (λ ran. MakesOnly text.now limits steps ran.steps) }
 {
     match prepare(alloc, text)? {
@@ -167,63 +164,28 @@ fn sum_up(alloc: Global, number: u32) -> Result<Summary, NoMemory>
 }
 
 /// Writes the line of a summary.
-fn write_summary<O: Sink, E: Sink>(summary: Summary, out: &mut O, err: &mut E) -> u8
-    requires out { O.faults out.old + 1 < 2 ^ 64 }
-    requires err { E.faults err.old + 1 < 2 ^ 64 }
-    ensures exact { (left : List ℕ) → O.faults out.new ≡ O.faults out.old →
-        E.faults err.new ≡ E.faults err.old → Gives (λ a. a ≡ written (summary_line summary)) left
-        (Some left) (O.taken out.old) (O.taken out.new) (E.taken err.old) (E.taken err.new) result }
-    ensures faults { (t i : ℕ) → Faults t t i i (O.faults out.old) (O.faults out.new)
-        (E.faults err.old) (E.faults err.new) result }
-    ensures output_fault { O.faults out.old < O.faults out.new →
-        Says (E.taken err.old) (E.taken err.new) (E.faults err.old) (E.faults err.new)
-        output_fault.err 133 result }
-    ensures broken { (left : List ℕ) (i : ℕ) → WriteFails (O.faults out.old) (O.faults out.new)
-        (E.faults err.old) (E.faults err.new) → (a : Shown) → a ≡ written (summary_line summary) →
-        Breaks None a left (Some left) (O.taken out.old) (O.taken out.new) (E.taken err.old)
-        (E.taken err.new) i i (O.faults out.old) (O.faults out.new) (E.faults err.old)
-        (E.faults err.new) }
-    ensures memory { Wants (out.new ≡ out.old) ⊥ (E.taken err.old) (E.taken err.new) result }
-    ensures cause { HasCause (WriteFails (O.faults out.old) (O.faults out.new) (E.faults err.old)
-        (E.faults err.new)) ⊥ (E.taken err.old) (E.taken err.new) result }
-    ensures refused { Refuses (out.new ≡ out.old) ⊥ (E.taken err.old) (E.taken err.new) result }
+fn write_summary<I: Source, O: Sink, E: Sink>(summary: Summary, io: &mut Streams<I, O, E>) -> u8
+    requires { HasRoom io.old }
+    ensures { Writes (written (summary_line summary)) io.old io.new result }
 {
-    match put_summary(out, summary) {
+    match put_summary(&mut io.out, summary) {
         Ok(()) => 0,
-        Err(_) => refuse(err, Refusal::OutputFault),
+        Err(_) => refuse(io, Refusal::OutputFault),
     }
 }
 
 /// Makes the text with so many functions, runs it, and writes the line of its run.
-pub(crate) fn run_generated<O: Sink, E: Sink>(
+pub(crate) fn run_generated<I: Source, O: Sink, E: Sink>(
     alloc: Global,
     number: u32,
-    out: &mut O,
-    err: &mut E,
+    io: &mut Streams<I, O, E>,
 ) -> u8
     requires number { (1 ≤ number) × (number ≤ 2000) }
-    requires out { O.faults out.old + 1 < 2 ^ 64 }
-    requires err { E.faults err.old + 1 < 2 ^ 64 }
-    ensures exact { (left : List ℕ) → O.faults out.new ≡ O.faults out.old →
-        E.faults err.new ≡ E.faults err.old → Gives (AnswersGenerated number) left (Some left)
-        (O.taken out.old) (O.taken out.new) (E.taken err.old) (E.taken err.new) result }
-    ensures faults { (t i : ℕ) → Faults t t i i (O.faults out.old) (O.faults out.new)
-        (E.faults err.old) (E.faults err.new) result }
-    ensures output_fault { O.faults out.old < O.faults out.new →
-        Says (E.taken err.old) (E.taken err.new) (E.faults err.old) (E.faults err.new)
-        output_fault.err 133 result }
-    ensures broken { (left : List ℕ) (i : ℕ) → WriteFails (O.faults out.old) (O.faults out.new)
-        (E.faults err.old) (E.faults err.new) → (a : Shown) → AnswersGenerated number a →
-        Breaks None a left (Some left) (O.taken out.old) (O.taken out.new) (E.taken err.old)
-        (E.taken err.new) i i (O.faults out.old) (O.faults out.new) (E.faults err.old)
-        (E.faults err.new) }
-    ensures memory { Wants (out.new ≡ out.old) ⊥ (E.taken err.old) (E.taken err.new) result }
-    ensures cause { HasCause (WriteFails (O.faults out.old) (O.faults out.new) (E.faults err.old)
-        (E.faults err.new)) ⊥ (E.taken err.old) (E.taken err.new) result }
-    ensures refused { Refuses (out.new ≡ out.old) ⊥ (E.taken err.old) (E.taken err.new) result }
+    requires room { HasRoom io.old }
+    ensures { Serves ⊤ ⊤ ⊤ (λ _. AnswersGenerated number) io.old io.new result }
 {
     match sum_up(alloc, number) {
-        Ok(summary) => write_summary(summary, out, err),
-        Err(_) => refuse(err, Refusal::NoMemory),
+        Ok(summary) => write_summary(summary, io),
+        Err(_) => refuse(io, Refusal::NoMemory),
     }
 }

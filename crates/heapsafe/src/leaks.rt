@@ -1,14 +1,9 @@
 //! What a program leaves on the heap.
 
-ghost use Rattle.std.specs.Prelude.{◌+◌, ◌<◌, ◌^◌, ℕ, List, IfOk};
-ghost use Rattle.hs_base.specs.Object.{Object};
+ghost use Rattle.std.specs.Prelude.{◌+◌, ◌<◌, ◌^◌};
 ghost use Rattle.hs_base.specs.Outside.{CountsFaults};
-ghost use Rattle.hs_base.specs.PutAll.{PutsAll};
-ghost use Rattle.hs_base.specs.declared.ends.Leak.{Leak};
-ghost use Rattle.flat_objects.specs.Keeping.{Keeps};
 ghost use Rattle.flat_objects.specs.Leaks.{KeepsSome};
-ghost use Rattle.heapsafe.specs.Leaks.{AreLeaks};
-ghost use Rattle.heapsafe.specs.Places.{told_leaks};
+ghost use Rattle.heapsafe.specs.Saying.{PutsLeaks, TellsLeaks};
 
 use crate::places::told_leak;
 use bad_free_report::leak_line;
@@ -25,11 +20,8 @@ pub(crate) fn write_leaks<E: Sink>(
 ) -> Result<(), Failed>
     requires kept { KeepsSome machine.now.kept.memory }
     requires err { E.faults err.old + 1 < 2 ^ 64 }
-    ensures bytes { (places : ℕ → ℕ) (objects : List Object) → Keeps machine.now.kept.memory places
-        objects → (leaks : List Leak) → AreLeaks objects 0 leaks →
-        PutsAll (E.taken err.old) (E.taken err.new) (told_leaks opened.now leaks) result }
-    ensures all { (places : ℕ → ℕ) (objects : List Object) → Keeps machine.now.kept.memory places
-        objects → IfOk result (λ _. (leaks : List Leak) × AreLeaks objects 0 leaks) }
+    ensures puts { PutsLeaks E.Sink machine.now opened.now err.old err.new result }
+    ensures all { TellsLeaks machine.now result }
     ensures cause { CountsFaults (E.faults err.old) (E.faults err.new) result }
 {
     let mut above = 0;

@@ -3,28 +3,31 @@
 //! [`heapsafe`] takes the words, the texts by name, the input, and the two output streams, and answers the status. Its
 //! contract is the definition `Answers` in `specs/Answer.antt`: what is read from the input, written to both streams and
 //! answered, for every words, texts and input, whether a stream tells what it takes or not; that a status for a failure of the
-//! outside comes only where the outside failed; and what want of memory leaves as it was.
+//! outside comes only where the outside failed; and what want of memory leaves as it was. `specs/Sight.antt` says what clauses
+//! see of the streams, and `specs/Serving.antt` has the clauses that the functions below share.
 #![tactic(auto)]
 
-ghost use Rattle.std.specs.Prelude.{◌≡◌, ◌⊎◌, ◌+◌, ◌<◌, ◌≤◌, ◌^◌, ℕ, List, Some, None, length, map};
+ghost use Rattle.std.specs.Prelude.{◌≡◌, ◌+◌, ◌<◌, ◌≤◌, ◌^◌, None, length};
 ghost use Rattle.core_soundness.specs.Texts.{IsOfTexts};
-ghost use Rattle.command_words.specs.Commands.{OnFiles, command_of, task_shown, IsLimited};
+ghost use Rattle.command_words.specs.Commands.{task_shown, IsLimited};
 ghost use Rattle.c_tree.specs.StatementView.{unit_view};
-ghost use Rattle.heapsafe.specs.Answer.{Answers, AnswersFiles, AsksNoFile, AsksNoMeaning, AsksNone, AsksOne, Does, HasOne, MeansNone, RunsNone, files_asked, first_of};
-ghost use Rattle.heapsafe.specs.Shown.{input_fault, output_fault};
-ghost use Rattle.heapsafe.specs.Program.{input_of, steady};
-ghost use Rattle.heapsafe.specs.Saying.{BreaksOff, Faults, Gives, HasCause, Refuses, Says, SaysUnread, Wants, WriteFails, unread_files};
+ghost use Rattle.heapsafe.specs.Answer.{Answers, AsksNoFile, AsksNoMeaning, AsksNone, asked_by, asked_for, files_asked, first_of, spelt};
+ghost use Rattle.heapsafe.specs.Saying.{Faults, Refuses, SaysUnread, TellsInput, TellsOutput, Wants};
+ghost use Rattle.heapsafe.specs.Serving.{Answered, BrokenOff, Caused, DoesTask, Exact, Obeys};
+ghost use Rattle.heapsafe.specs.Sight.{HasRoom, see};
 
 mod executing;
 mod generated;
 mod laws;
 mod leaks;
 mod lent;
+mod loans;
 mod log;
 mod places;
 mod program;
 mod refusal;
 mod running;
+mod streams;
 mod units;
 mod written;
 
@@ -35,9 +38,12 @@ use executing::{Asked, execute_file};
 use generated::run_generated;
 use hs_base::{Limits, Sink, Source, Texts};
 pub use laws::executions_are_runs;
+use loans::{Borrowed, Loan};
 use program::{Way, run_program};
 use refusal::{Refusal, refuse, refuse_program};
 use std::alloc::Global;
+use std::marker::Brand;
+use streams::Streams;
 use units::read_program;
 use written::{core_compiled, core_list, core_live, layouts, print};
 
@@ -48,45 +54,12 @@ fn with_tree<I: Source, O: Sink, E: Sink>(
     task: Task,
     opened: &[Opened],
     unit: &Unit,
-    input: &mut I,
-    out: &mut O,
-    err: &mut E,
+    io: &mut Streams<I, O, E>,
 ) -> u8
     requires text { IsOfTexts (unit_view unit.now) }
     requires limits { IsLimited (task_shown task) }
-    requires input { I.faults input.old + 1 < 2 ^ 64 }
-    requires out { O.faults out.old + 1 < 2 ^ 64 }
-    requires err { E.faults err.old + 1 < 2 ^ 64 }
-    ensures exact { (left : List ℕ) → I.left input.old ≡ Some left →
-        O.faults out.new ≡ O.faults out.old → E.faults err.new ≡ E.faults err.old →
-        Gives (Does file.now opened.now (unit_view unit.now)
-        (input_of left (I.faults input.old) (I.faults input.new)) (task_shown task)) left
-        (I.left input.new) (O.taken out.old) (O.taken out.new) (E.taken err.old) (E.taken err.new)
-        result }
-    ensures faults { (t : ℕ) → Faults t t (I.faults input.old) (I.faults input.new)
-        (O.faults out.old) (O.faults out.new) (E.faults err.old) (E.faults err.new) result }
-    ensures input_fault { I.faults input.old < I.faults input.new →
-        Says (E.taken err.old) (E.taken err.new) (E.faults err.old) (E.faults err.new)
-        input_fault.err 132 result }
-    ensures output_fault { O.faults out.old < O.faults out.new →
-        Says (E.taken err.old) (E.taken err.new) (E.faults err.old) (E.faults err.new)
-        output_fault.err 133 result }
-    ensures stays { RunsNone (task_shown task) → input.new ≡ input.old }
-    ensures broken { (left : List ℕ) → I.left input.old ≡ Some left → WriteFails (O.faults out.old)
-        (O.faults out.new) (E.faults err.old) (E.faults err.new) →
-        BreaksOff (HasOne (task_shown task)) (Does file.now opened.now (unit_view unit.now)
-        (steady left) (task_shown task)) None left (I.left input.new) (O.taken out.old)
-        (O.taken out.new) (E.taken err.old) (E.taken err.new) (I.faults input.old)
-        (I.faults input.new) (O.faults out.old) (O.faults out.new) (E.faults err.old)
-        (E.faults err.new) }
-    ensures memory { Wants (MeansNone (task_shown task) → (input.new ≡ input.old) ×
-        (out.new ≡ out.old)) (RunsNone (task_shown task) → ⊥) (E.taken err.old) (E.taken err.new)
-        result }
-    ensures cause { HasCause ((I.faults input.old < I.faults input.new) ⊎
-        WriteFails (O.faults out.old) (O.faults out.new) (E.faults err.old) (E.faults err.new))
-        (RunsNone (task_shown task) → ⊥) (E.taken err.old) (E.taken err.new) result }
-    ensures refused { Refuses ((input.new ≡ input.old) × (out.new ≡ out.old))
-        (RunsNone (task_shown task) → ⊥) (E.taken err.old) (E.taken err.new) result }
+    requires room { HasRoom io.old }
+    ensures { DoesTask file.now opened.now (unit_view unit.now) (task_shown task) io.old io.new result }
 {
     match task {
         Task::Run {
@@ -103,7 +76,7 @@ fn with_tree<I: Source, O: Sink, E: Sink>(
                 leaks,
                 explain,
             };
-            run_program(alloc, file, opened, unit, way, input, out, err)
+            run_program(alloc, file, opened, unit, way, io)
         }
         Task::Mean {
             heap,
@@ -115,20 +88,20 @@ fn with_tree<I: Source, O: Sink, E: Sink>(
                 steps,
                 explain,
             };
-            run_program(alloc, file, opened, unit, way, input, out, err)
+            run_program(alloc, file, opened, unit, way, io)
         }
-        Task::Print => print(alloc, unit, out, err),
-        Task::Layout => layouts(alloc, opened, unit, out, err),
-        Task::List => core_list(alloc, opened, unit, out, err),
-        Task::Live => core_live(alloc, opened, unit, out, err),
-        Task::Compile => core_compiled(alloc, opened, unit, out, err),
+        Task::Print => print(alloc, unit, io),
+        Task::Layout => layouts(alloc, opened, unit, io),
+        Task::List => core_list(alloc, opened, unit, io),
+        Task::Live => core_live(alloc, opened, unit, io),
+        Task::Compile => core_compiled(alloc, opened, unit, io),
     }
 }
 
 /// The first of some files.
 fn first<'a>(files: &[&'a str]) -> &'a str
     requires { 0 < length files.now }
-    ensures { result.now ≡ first_of (map (λ w. w.now) files.entry.now) }
+    ensures { result.now ≡ first_of (spelt files.entry.now) }
 {
     files[0]
 }
@@ -139,53 +112,14 @@ fn with_files<T: Texts, I: Source, O: Sink, E: Sink>(
     files: &[&str],
     task: Task,
     texts: &mut T,
-    input: &mut I,
-    out: &mut O,
-    err: &mut E,
+    io: &mut Streams<I, O, E>,
 ) -> u8
     requires some { 0 < length files.now }
     requires few { length files.now ≤ 64 }
     requires limits { IsLimited (task_shown task) }
     requires texts { T.faults texts.old + 1 < 2 ^ 64 }
-    requires input { I.faults input.old + 1 < 2 ^ 64 }
-    requires out { O.faults out.old + 1 < 2 ^ 64 }
-    requires err { E.faults err.old + 1 < 2 ^ 64 }
-    ensures exact { (told : List ℕ → List ℕ) (left : List ℕ) → T.texts texts.old ≡ Some told →
-        I.left input.old ≡ Some left → T.faults texts.new ≡ T.faults texts.old →
-        O.faults out.new ≡ O.faults out.old → E.faults err.new ≡ E.faults err.old →
-        Gives (AnswersFiles (map (λ w. w.now) files.now) told
-        (input_of left (I.faults input.old) (I.faults input.new)) (task_shown task)) left (I.left input.new) (O.taken out.old) (O.taken out.new)
-        (E.taken err.old) (E.taken err.new) result }
-    ensures faults { Faults (T.faults texts.old) (T.faults texts.new) (I.faults input.old)
-        (I.faults input.new) (O.faults out.old) (O.faults out.new) (E.faults err.old)
-        (E.faults err.new) result }
-    ensures input_fault { I.faults input.old < I.faults input.new →
-        Says (E.taken err.old) (E.taken err.new) (E.faults err.old) (E.faults err.new)
-        input_fault.err 132 result }
-    ensures output_fault { O.faults out.old < O.faults out.new →
-        Says (E.taken err.old) (E.taken err.new) (E.faults err.old) (E.faults err.new)
-        output_fault.err 133 result }
-    ensures stays { RunsNone (task_shown task) → input.new ≡ input.old }
-    ensures text_fault { T.faults texts.old < T.faults texts.new → (input.new ≡ input.old) ×
-        (out.new ≡ out.old) × SaysUnread (map (λ w. w.now) files.now) (E.taken err.old) (E.taken err.new)
-        (E.faults err.old) (E.faults err.new) result }
-    ensures broken { (told : List ℕ → List ℕ) (left : List ℕ) → T.texts texts.old ≡ Some told →
-        I.left input.old ≡ Some left → WriteFails (O.faults out.old) (O.faults out.new)
-        (E.faults err.old) (E.faults err.new) → BreaksOff (HasOne (task_shown task))
-        (AnswersFiles (map (λ w. w.now) files.now) told (steady left) (task_shown task))
-        (unread_files (Some (OnFiles (map (λ w. w.now) files.now) (task_shown task))) (T.faults texts.old)
-        (T.faults texts.new)) left (I.left input.new) (O.taken out.old) (O.taken out.new)
-        (E.taken err.old) (E.taken err.new) (I.faults input.old) (I.faults input.new)
-        (O.faults out.old) (O.faults out.new) (E.faults err.old) (E.faults err.new) }
-    ensures memory { Wants (MeansNone (task_shown task) → (input.new ≡ input.old) ×
-        (out.new ≡ out.old)) (RunsNone (task_shown task) → ⊥) (E.taken err.old) (E.taken err.new)
-        result }
-    ensures cause { HasCause ((T.faults texts.old < T.faults texts.new) ⊎
-        (I.faults input.old < I.faults input.new) ⊎ WriteFails (O.faults out.old) (O.faults out.new)
-        (E.faults err.old) (E.faults err.new)) (RunsNone (task_shown task) → ⊥) (E.taken err.old)
-        (E.taken err.new) result }
-    ensures refused { Refuses ((input.new ≡ input.old) × (out.new ≡ out.old))
-        (RunsNone (task_shown task) → ⊥) (E.taken err.old) (E.taken err.new) result }
+    requires room { HasRoom io.old }
+    ensures { Obeys T.Texts (asked_for files.now task) texts.old texts.new io.old io.new result }
 {
     match read_program(alloc, texts, files) {
         Ok(program) => {
@@ -195,13 +129,83 @@ fn with_files<T: Texts, I: Source, O: Sink, E: Sink>(
                 task,
                 program.texts.as_slice(),
                 &program.unit,
-                input,
-                out,
-                err,
+                io,
             )
         }
-        Err(error) => refuse_program(err, &error),
+        Err(error) => refuse_program(io, &error),
     }
+}
+
+/// Does what the words say with three streams.
+fn serve<T: Texts, I: Source, O: Sink, E: Sink>(
+    alloc: Global,
+    words: &[&str],
+    texts: &mut T,
+    io: &mut Streams<I, O, E>,
+) -> u8
+    requires texts { T.faults texts.old + 1 < 2 ^ 64 }
+    requires room { HasRoom io.old }
+    ensures { Answered T.Texts (asked_by words.now) texts.old texts.new io.old io.new result }
+{
+    match command_words::read(alloc, words) {
+        Ok(Command::OnFiles { files, task }) => {
+            with_files(alloc, files.as_slice(), task, texts, io)
+        }
+        Ok(
+            Command::Execute {
+                file,
+                heap,
+                stack,
+                steps,
+                leaks,
+                explain,
+            },
+        ) => {
+            let asked = Asked {
+                limits: Limits { heap, stack },
+                steps,
+                leaks,
+                explain,
+            };
+            execute_file(alloc, file, asked, texts, io)
+        }
+        Ok(Command::Generated { number }) => run_generated(alloc, number, io),
+        Err(WordsError::Usage) => refuse(io, Refusal::Usage),
+        Err(WordsError::NoMemory) => refuse(io, Refusal::NoMemory),
+    }
+}
+
+/// Does what the words say with streams that were lent, and hands them back.
+fn serve_lent<'a, T: Texts, I: Source, O: Sink, E: Sink, A: Loan, B: Loan, C: Loan>(
+    alloc: Global,
+    words: &[&str],
+    texts: &mut T,
+    input: &'a mut I,
+    out: &'a mut O,
+    err: &'a mut E,
+) -> (u8, &'a mut I, &'a mut O, &'a mut E)
+    requires input_loan { input.ghost_name ≡ A.name }
+    requires out_loan { out.ghost_name ≡ B.name }
+    requires err_loan { err.ghost_name ≡ C.name }
+    requires texts { T.faults texts.old + 1 < 2 ^ 64 }
+    requires input { I.faults input.old + 1 < 2 ^ 64 }
+    requires out { O.faults out.old + 1 < 2 ^ 64 }
+    requires err { E.faults err.old + 1 < 2 ^ 64 }
+    ensures input_back { result.1.ghost_name ≡ input.entry.ghost_name }
+    ensures out_back { result.2.ghost_name ≡ out.entry.ghost_name }
+    ensures err_back { result.3.ghost_name ≡ err.entry.ghost_name }
+    ensures answered { let s = see I.Source O.Sink E.Sink in
+        Answered T.Texts (asked_by words.now) texts.old texts.new
+        (s input.old out.old err.old) (s result.1.now result.2.now result.3.now) result.0 }
+{
+    let mut io = Streams {
+        input: Borrowed::<I, A>::new(input),
+        out: Borrowed::<O, B>::new(out),
+        err: Borrowed::<E, C>::new(err),
+    };
+    let status = serve(alloc, words, texts, &mut io);
+    let Streams { input, out, err } = io;
+    (status, input.back(), out.back(), err.back())
 }
 
 /// Does what the words say, and answers the status.
@@ -245,74 +249,39 @@ pub fn heapsafe<T: Texts, I: Source, O: Sink, E: Sink>(
     requires input { I.faults input.old + 1 < 2 ^ 64 }
     requires out { O.faults out.old + 1 < 2 ^ 64 }
     requires err { E.faults err.old + 1 < 2 ^ 64 }
-    ensures exact { (told : List ℕ → List ℕ) (left : List ℕ) → T.texts texts.old ≡ Some told →
-        I.left input.old ≡ Some left → T.faults texts.new ≡ T.faults texts.old →
-        O.faults out.new ≡ O.faults out.old → E.faults err.new ≡ E.faults err.old →
-        Gives (Answers (map (λ w. w.now) words.now) told
-        (input_of left (I.faults input.old) (I.faults input.new))) left (I.left input.new)
-        (O.taken out.old) (O.taken out.new) (E.taken err.old) (E.taken err.new) result }
-    ensures faults { Faults (T.faults texts.old) (T.faults texts.new) (I.faults input.old)
-        (I.faults input.new) (O.faults out.old) (O.faults out.new) (E.faults err.old)
-        (E.faults err.new) result }
-    ensures input_fault { I.faults input.old < I.faults input.new →
-        Says (E.taken err.old) (E.taken err.new) (E.faults err.old) (E.faults err.new)
-        input_fault.err 132 result }
-    ensures output_fault { O.faults out.old < O.faults out.new →
-        Says (E.taken err.old) (E.taken err.new) (E.faults err.old) (E.faults err.new)
-        output_fault.err 133 result }
-    ensures usage { command_of (map (λ w. w.now) words.now) ≡ None → (texts.new ≡ texts.old) ×
-        (input.new ≡ input.old) × (out.new ≡ out.old) }
-    ensures no_file { AsksNoFile (command_of (map (λ w. w.now) words.now)) →
+    ensures exact { let s = see I.Source O.Sink E.Sink in
+        Exact T.Texts (Answers (spelt words.now)) texts.old texts.new
+        (s input.old out.old err.old) (s input.new out.new err.new) result }
+    ensures faults { let s = see I.Source O.Sink E.Sink in
+        Faults (T.faults texts.old) (T.faults texts.new)
+        (s input.old out.old err.old) (s input.new out.new err.new) result }
+    ensures input_fault { let s = see I.Source O.Sink E.Sink in
+        TellsInput (s input.old out.old err.old) (s input.new out.new err.new) result }
+    ensures output_fault { let s = see I.Source O.Sink E.Sink in
+        TellsOutput (s input.old out.old err.old) (s input.new out.new err.new) result }
+    ensures usage { asked_by words.now ≡ None →
+        (texts.new ≡ texts.old) × (input.new ≡ input.old) × (out.new ≡ out.old) }
+    ensures no_file { AsksNoFile (asked_by words.now) →
         (texts.new ≡ texts.old) × (input.new ≡ input.old) }
-    ensures stays { AsksNone (command_of (map (λ w. w.now) words.now)) → input.new ≡ input.old }
-    ensures text_fault { T.faults texts.old < T.faults texts.new → (input.new ≡ input.old) ×
-        (out.new ≡ out.old) × SaysUnread (files_asked (command_of (map (λ w. w.now) words.now)))
-        (E.taken err.old) (E.taken err.new) (E.faults err.old) (E.faults err.new) result }
-    ensures broken { (told : List ℕ → List ℕ) (left : List ℕ) → T.texts texts.old ≡ Some told →
-        I.left input.old ≡ Some left → WriteFails (O.faults out.old) (O.faults out.new)
-        (E.faults err.old) (E.faults err.new) →
-        BreaksOff (AsksOne (command_of (map (λ w. w.now) words.now)))
-        (Answers (map (λ w. w.now) words.now) told (steady left))
-        (unread_files (command_of (map (λ w. w.now) words.now)) (T.faults texts.old)
-        (T.faults texts.new)) left (I.left input.new) (O.taken out.old) (O.taken out.new)
-        (E.taken err.old) (E.taken err.new) (I.faults input.old) (I.faults input.new)
-        (O.faults out.old) (O.faults out.new) (E.faults err.old) (E.faults err.new) }
-    ensures memory { Wants (AsksNoMeaning (command_of (map (λ w. w.now) words.now)) →
-        (input.new ≡ input.old) × (out.new ≡ out.old))
-        (AsksNone (command_of (map (λ w. w.now) words.now)) → ⊥) (E.taken err.old) (E.taken err.new)
-        result }
-    ensures cause { HasCause ((T.faults texts.old < T.faults texts.new) ⊎
-        (I.faults input.old < I.faults input.new) ⊎ WriteFails (O.faults out.old) (O.faults out.new)
-        (E.faults err.old) (E.faults err.new)) (AsksNone (command_of (map (λ w. w.now) words.now)) →
-        ⊥) (E.taken err.old) (E.taken err.new) result }
-    ensures refused { Refuses ((input.new ≡ input.old) × (out.new ≡ out.old))
-        (AsksNone (command_of (map (λ w. w.now) words.now)) → ⊥) (E.taken err.old) (E.taken err.new)
-        result }
+    ensures stays { AsksNone (asked_by words.now) → input.new ≡ input.old }
+    ensures text_fault { let s = see I.Source O.Sink E.Sink in T.faults texts.old < T.faults texts.new →
+        SaysUnread (files_asked (asked_by words.now))
+        (s input.old out.old err.old) (s input.new out.new err.new) result }
+    ensures broken { let s = see I.Source O.Sink E.Sink in
+        BrokenOff T.Texts (asked_by words.now) (Answers (spelt words.now)) texts.old texts.new
+        (s input.old out.old err.old) (s input.new out.new err.new) }
+    ensures memory { let s = see I.Source O.Sink E.Sink in let asked = asked_by words.now in
+        Wants (AsksNoMeaning asked) (AsksNone asked)
+        (s input.old out.old err.old) (s input.new out.new err.new) result }
+    ensures cause { let s = see I.Source O.Sink E.Sink in
+        Caused T.Texts (asked_by words.now) texts.old texts.new
+        (s input.old out.old err.old) (s input.new out.new err.new) result }
+    ensures refused { let s = see I.Source O.Sink E.Sink in
+        Refuses (AsksNone (asked_by words.now))
+        (s input.old out.old err.old) (s input.new out.new err.new) result }
 {
-    match command_words::read(alloc, words) {
-        Ok(Command::OnFiles { files, task }) => {
-            with_files(alloc, files.as_slice(), task, texts, input, out, err)
-        }
-        Ok(
-            Command::Execute {
-                file,
-                heap,
-                stack,
-                steps,
-                leaks,
-                explain,
-            },
-        ) => {
-            let asked = Asked {
-                limits: Limits { heap, stack },
-                steps,
-                leaks,
-                explain,
-            };
-            execute_file(alloc, file, asked, texts, input, out, err)
-        }
-        Ok(Command::Generated { number }) => run_generated(alloc, number, out, err),
-        Err(WordsError::Usage) => refuse(err, Refusal::Usage),
-        Err(WordsError::NoMemory) => refuse(err, Refusal::NoMemory),
-    }
+    let (status, ..) = serve_lent::<T, I, O, E, Brand, Brand, Brand>(
+        alloc, words, texts, input, out, err,
+    );
+    status
 }

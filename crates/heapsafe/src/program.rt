@@ -1,26 +1,22 @@
 //! Running the program of a text: on a machine, or by the meaning of its core.
 
-ghost use Rattle.std.specs.Prelude.{◌≡◌, ◌⊎◌, ◌+◌, ◌<◌, ◌≤◌, ◌^◌, ⊤, ℕ, List, [], Some, None, false, IsTrue};
+ghost use Rattle.std.specs.Prelude.{◌≡◌, ◌+◌, ◌<◌, ◌≤◌, ◌^◌, [], false, IsTrue};
 ghost use Rattle.c_tree.specs.StatementView.{unit_view};
 ghost use Rattle.c_elab.specs.Core.{core_in};
 ghost use Rattle.core_soundness.specs.Texts.{IsOfTexts};
 ghost use Rattle.core_tree.specs.Sound.{IsSound};
-ghost use Rattle.flat_objects.specs.Keeping.{Keeps};
 ghost use Rattle.flat_objects.specs.Leaks.{KeepsSome};
-ghost use Rattle.hs_base.specs.Object.{Object};
 ghost use Rattle.hs_base.specs.Outside.{CountsFaults};
-ghost use Rattle.hs_base.specs.PutAll.{PutsAll};
-ghost use Rattle.hs_base.specs.declared.ends.End.TheVariants.{Exit};
-ghost use Rattle.heapsafe.specs.Shown.{Shown, input_fault, output_fault};
-ghost use Rattle.heapsafe.specs.Places.{told_end_of, told_report};
-ghost use Rattle.heapsafe.specs.Program.{AnswersWay, IsBounded, OnMachine, TellsNone, explains_mean, explains_run, input_of, status_of, steady};
-ghost use Rattle.heapsafe.specs.Answer.{AnswersTypes};
-ghost use Rattle.heapsafe.specs.Saying.{Breaks, Faults, Gives, HasCause, Refuses, Says, SaysCounts, SaysLeaks, SaysMore, TakesLeaks, Wants, WriteFails};
+ghost use Rattle.heapsafe.specs.Program.{IsBounded, explains_mean, explains_run, status_of};
+ghost use Rattle.heapsafe.specs.Saying.{PutsEnd, PutsReport, SaysCounts, SaysEnd, SaysExit, SaysLeft, SaysOwn, SaysPlain, Says, TakesLeaks};
+ghost use Rattle.heapsafe.specs.Serving.{RunsOn, RunsTyped, RunsWay};
+ghost use Rattle.heapsafe.specs.Sight.{HasRoom, KeepsBoth};
 
 use crate::leaks::write_leaks;
 use crate::places::{line_of_end, text_of, told_end};
 use crate::refusal::{OUTPUT_FAULT, Refusal, refuse, refuse_types};
 use crate::running::{evaluate, run_code};
+use crate::streams::Streams;
 use bad_free_report::{InForce, explain, report};
 use c_elab::elab;
 use c_pre::Opened;
@@ -100,8 +96,7 @@ fn put_report<E: Sink>(
     err: &mut E,
 ) -> Result<(), Failed>
     requires { E.faults err.old + 1 < 2 ^ 64 }
-    ensures bytes { PutsAll (E.taken err.old) (E.taken err.new)
-        (told_report core.now file.now opened.now end.now) result }
+    ensures puts { PutsReport E.Sink core.now file.now opened.now end.now err.old err.new result }
     ensures cause { CountsFaults (E.faults err.old) (E.faults err.new) result }
 {
     let told = told_end(opened, *end);
@@ -124,8 +119,7 @@ fn put_end<E: Sink>(
     err: &mut E,
 ) -> Result<(), Failed>
     requires { E.faults err.old + 1 < 2 ^ 64 }
-    ensures bytes { PutsAll (E.taken err.old) (E.taken err.new)
-        (told_end_of core.now file.now opened.now explains end.now) result }
+    ensures puts { PutsEnd E.Sink core.now file.now opened.now explains end.now err.old err.new result }
     ensures cause { CountsFaults (E.faults err.old) (E.faults err.new) result }
 {
     put_report(end, core, file, opened, err)?;
@@ -133,19 +127,19 @@ fn put_end<E: Sink>(
 }
 
 /// Reports how a program ended, and answers its status or that of a failed write.
-fn finish<E: Sink>(
+fn finish<I: Source, O: Sink, E: Sink>(
     end: &End,
     core: &Core,
     file: &str,
     opened: &[Opened],
     explains: Option<InForce>,
-    err: &mut E,
+    io: &mut Streams<I, O, E>,
 ) -> u8
-    requires { E.faults err.old + 1 < 2 ^ 64 }
-    ensures says { Says (E.taken err.old) (E.taken err.new) (E.faults err.old) (E.faults err.new)
-        (told_end_of core.now file.now opened.now explains end.now) (status_of end.now) result }
+    requires { io.old.err_faults + 1 < 2 ^ 64 }
+    ensures keeps { KeepsBoth io.old io.new }
+    ensures says { SaysEnd file.now opened.now core.now explains end.now io.old io.new result }
 {
-    match put_end(end, core, file, opened, explains, err) {
+    match put_end(end, core, file, opened, explains, &mut io.err) {
         Ok(()) => status_of(end),
         Err(_) => OUTPUT_FAULT,
     }
@@ -153,29 +147,25 @@ fn finish<E: Sink>(
 
 /// Writes the lines of the leaks behind an exit, where they are asked for, and answers the program's own status or that of a
 /// failed write.
-fn finish_exit<E: Sink>(
+fn finish_exit<I: Source, O: Sink, E: Sink>(
     code: u8,
     machine: &Machine,
     leaks: bool,
     opened: &[Opened],
-    err: &mut E,
+    io: &mut Streams<I, O, E>,
 ) -> u8
     requires kept { KeepsSome machine.now.kept.memory }
-    requires err { E.faults err.old + 1 < 2 ^ 64 }
-    ensures none { leaks ≡ false → Says (E.taken err.old) (E.taken err.new) (E.faults err.old)
-        (E.faults err.new) [] code result }
-    ensures leaks { IsTrue leaks → (places : ℕ → ℕ) (objects : List Object) →
-        Keeps machine.now.kept.memory places objects →
-        SaysLeaks opened.now objects (E.taken err.old) (E.taken err.new) (E.faults err.old)
-        (E.faults err.new) code result }
-    ensures counts { SaysCounts (E.faults err.old) (E.faults err.new) code result }
-    ensures own { E.faults err.new ≡ E.faults err.old →
-        TakesLeaks (E.taken err.old) (E.taken err.new) }
+    requires room { io.old.err_faults + 1 < 2 ^ 64 }
+    ensures keeps { KeepsBoth io.old io.new }
+    ensures none { leaks ≡ false → Says io.old io.new [] code result }
+    ensures leaks { IsTrue leaks → SaysLeft machine.now opened.now io.old io.new code result }
+    ensures counts { SaysCounts io.old io.new code result }
+    ensures own { io.new.err_faults ≡ io.old.err_faults → TakesLeaks io.old io.new }
 {
     if !leaks {
         return code;
     }
-    match write_leaks(machine, opened, err) {
+    match write_leaks(machine, opened, &mut io.err) {
         Ok(()) => code,
         Err(_) => OUTPUT_FAULT,
     }
@@ -183,7 +173,7 @@ fn finish_exit<E: Sink>(
 
 /// Reports how a run ended, or, behind an exit and where they are asked for, its leaks; and answers its status or that of a
 /// failed write.
-pub(crate) fn finish_run<E: Sink>(
+pub(crate) fn finish_run<I: Source, O: Sink, E: Sink>(
     end: &End,
     machine: &Machine,
     leaks: bool,
@@ -191,24 +181,19 @@ pub(crate) fn finish_run<E: Sink>(
     file: &str,
     opened: &[Opened],
     explains: Option<InForce>,
-    err: &mut E,
+    io: &mut Streams<I, O, E>,
 ) -> u8
     requires kept { KeepsSome machine.now.kept.memory }
-    requires err { E.faults err.old + 1 < 2 ^ 64 }
-    ensures says { TellsNone leaks end.now → Says (E.taken err.old) (E.taken err.new)
-        (E.faults err.old) (E.faults err.new)
-        (told_end_of core.now file.now opened.now explains end.now) (status_of end.now) result }
-    ensures leaks { (code : ℕ) → IsTrue leaks → end.now ≡ Exit code →
-        (places : ℕ → ℕ) (objects : List Object) → Keeps machine.now.kept.memory places objects →
-        SaysLeaks opened.now objects (E.taken err.old) (E.taken err.new) (E.faults err.old)
-        (E.faults err.new) code result }
-    ensures counts { SaysCounts (E.faults err.old) (E.faults err.new) (status_of end.now) result }
-    ensures own { (code : ℕ) → end.now ≡ Exit code → E.faults err.new ≡ E.faults err.old →
-        TakesLeaks (E.taken err.old) (E.taken err.new) }
+    requires room { io.old.err_faults + 1 < 2 ^ 64 }
+    ensures keeps { KeepsBoth io.old io.new }
+    ensures says { SaysPlain leaks file.now opened.now core.now explains end.now io.old io.new result }
+    ensures leaks { SaysExit leaks end.now machine.now opened.now io.old io.new result }
+    ensures counts { SaysCounts io.old io.new (status_of end.now) result }
+    ensures own { SaysOwn end.now io.old io.new }
 {
     match end {
-        End::Exit(code) => finish_exit(*code, machine, leaks, opened, err),
-        _ => finish(end, core, file, opened, explains, err),
+        End::Exit(code) => finish_exit(*code, machine, leaks, opened, io),
+        _ => finish(end, core, file, opened, explains, io),
     }
 }
 
@@ -222,52 +207,21 @@ fn run_core<I: Source, O: Sink, E: Sink>(
     steps: u64,
     leaks: bool,
     explain: bool,
-    input: &mut I,
-    out: &mut O,
-    err: &mut E,
+    io: &mut Streams<I, O, E>,
 ) -> u8
     requires sound { IsSound core.now }
     requires heap { limits.heap ≤ 268435456 }
     requires stack { limits.stack ≤ 67108864 }
     requires steps { steps ≤ 1000000000 }
-    requires input { I.faults input.old + 1 < 2 ^ 64 }
-    requires out { O.faults out.old + 1 < 2 ^ 64 }
-    requires err { E.faults err.old + 1 < 2 ^ 64 }
-    ensures exact { (left : List ℕ) → I.left input.old ≡ Some left →
-        O.faults out.new ≡ O.faults out.old → E.faults err.new ≡ E.faults err.old →
-        Gives (AnswersWay file.now opened.now core.now
-        (input_of left (I.faults input.old) (I.faults input.new)) (Way.Run limits steps leaks explain))
-        left
-        (I.left input.new) (O.taken out.old) (O.taken out.new) (E.taken err.old) (E.taken err.new)
-        result }
-    ensures faults { (t : ℕ) → Faults t t (I.faults input.old) (I.faults input.new)
-        (O.faults out.old) (O.faults out.new) (E.faults err.old) (E.faults err.new) result }
-    ensures input_fault { I.faults input.old < I.faults input.new →
-        Says (E.taken err.old) (E.taken err.new) (E.faults err.old) (E.faults err.new)
-        input_fault.err 132 result }
-    ensures output_fault { O.faults out.old < O.faults out.new →
-        Says (E.taken err.old) (E.taken err.new) (E.faults err.old) (E.faults err.new)
-        output_fault.err 133 result }
-    ensures broken { (left : List ℕ) → I.left input.old ≡ Some left → WriteFails (O.faults out.old)
-        (O.faults out.new) (E.faults err.old) (E.faults err.new) → (a : Shown) →
-        AnswersWay file.now opened.now core.now (steady left) (Way.Run limits steps leaks explain)
-        a → SaysMore a → Breaks None a left (I.left input.new) (O.taken out.old) (O.taken out.new)
-        (E.taken err.old) (E.taken err.new) (I.faults input.old) (I.faults input.new)
-        (O.faults out.old) (O.faults out.new) (E.faults err.old) (E.faults err.new) }
-    ensures memory { Wants ((input.new ≡ input.old) × (out.new ≡ out.old)) (⊤) (E.taken err.old)
-        (E.taken err.new) result }
-    ensures cause { HasCause ((I.faults input.old < I.faults input.new) ⊎
-        WriteFails (O.faults out.old) (O.faults out.new) (E.faults err.old) (E.faults err.new)) ⊤
-        (E.taken err.old) (E.taken err.new) result }
-    ensures refused { Refuses ((input.new ≡ input.old) × (out.new ≡ out.old)) ⊤ (E.taken err.old)
-        (E.taken err.new) result }
+    requires room { HasRoom io.old }
+    ensures { RunsOn file.now opened.now core.now limits steps leaks explain io.old io.new result }
 {
-    match run_code(alloc, core, limits, steps, input, out) {
+    match run_code(alloc, core, limits, steps, &mut io.input, &mut io.out) {
         Ok((end, machine)) => {
             let explains = explains_run(explain, steps, limits);
-            finish_run(&end, &machine, leaks, core, file, opened, explains, err)
+            finish_run(&end, &machine, leaks, core, file, opened, explains, io)
         }
-        Err(_) => refuse(err, Refusal::NoMemory),
+        Err(_) => refuse(io, Refusal::NoMemory),
     }
 }
 
@@ -280,45 +234,16 @@ fn mean_core<I: Source, O: Sink, E: Sink>(
     heap: u32,
     steps: u64,
     explain: bool,
-    input: &mut I,
-    out: &mut O,
-    err: &mut E,
+    io: &mut Streams<I, O, E>,
 ) -> u8
     requires sound { IsSound core.now }
     requires steps { steps ≤ 1000000000 }
-    requires input { I.faults input.old + 1 < 2 ^ 64 }
-    requires out { O.faults out.old + 1 < 2 ^ 64 }
-    requires err { E.faults err.old + 1 < 2 ^ 64 }
-    ensures exact { (left : List ℕ) → I.left input.old ≡ Some left →
-        O.faults out.new ≡ O.faults out.old → E.faults err.new ≡ E.faults err.old →
-        Gives (AnswersWay file.now opened.now core.now
-        (input_of left (I.faults input.old) (I.faults input.new)) (Way.Mean heap steps explain)) left
-        (I.left input.new) (O.taken out.old) (O.taken out.new) (E.taken err.old) (E.taken err.new)
-        result }
-    ensures faults { (t : ℕ) → Faults t t (I.faults input.old) (I.faults input.new)
-        (O.faults out.old) (O.faults out.new) (E.faults err.old) (E.faults err.new) result }
-    ensures input_fault { I.faults input.old < I.faults input.new →
-        Says (E.taken err.old) (E.taken err.new) (E.faults err.old) (E.faults err.new)
-        input_fault.err 132 result }
-    ensures output_fault { O.faults out.old < O.faults out.new →
-        Says (E.taken err.old) (E.taken err.new) (E.faults err.old) (E.faults err.new)
-        output_fault.err 133 result }
-    ensures broken { (left : List ℕ) → I.left input.old ≡ Some left → WriteFails (O.faults out.old)
-        (O.faults out.new) (E.faults err.old) (E.faults err.new) → (a : Shown) →
-        AnswersWay file.now opened.now core.now (steady left) (Way.Mean heap steps explain) a →
-        SaysMore a → Breaks None a left (I.left input.new) (O.taken out.old) (O.taken out.new) (E.taken err.old)
-        (E.taken err.new) (I.faults input.old) (I.faults input.new) (O.faults out.old)
-        (O.faults out.new) (E.faults err.old) (E.faults err.new) }
-    ensures memory { Wants (⊤) (⊤) (E.taken err.old) (E.taken err.new) result }
-    ensures cause { HasCause ((I.faults input.old < I.faults input.new) ⊎
-        WriteFails (O.faults out.old) (O.faults out.new) (E.faults err.old) (E.faults err.new)) ⊤
-        (E.taken err.old) (E.taken err.new) result }
-    ensures refused { Refuses ((input.new ≡ input.old) × (out.new ≡ out.old)) ⊤ (E.taken err.old)
-        (E.taken err.new) result }
+    requires room { HasRoom io.old }
+    ensures { RunsWay file.now opened.now core.now (Way.Mean heap steps explain) io.old io.new result }
 {
-    match evaluate(alloc, core, steps, heap, input, out) {
-        Ok(end) => finish(&end, core, file, opened, explains_mean(explain, steps), err),
-        Err(_) => refuse(err, Refusal::NoMemory),
+    match evaluate(alloc, core, steps, heap, &mut io.input, &mut io.out) {
+        Ok(end) => finish(&end, core, file, opened, explains_mean(explain, steps), io),
+        Err(_) => refuse(io, Refusal::NoMemory),
     }
 }
 
@@ -329,41 +254,12 @@ fn go<I: Source, O: Sink, E: Sink>(
     opened: &[Opened],
     core: &Core,
     way: Way,
-    input: &mut I,
-    out: &mut O,
-    err: &mut E,
+    io: &mut Streams<I, O, E>,
 ) -> u8
     requires sound { IsSound core.now }
     requires limits { IsBounded way }
-    requires input { I.faults input.old + 1 < 2 ^ 64 }
-    requires out { O.faults out.old + 1 < 2 ^ 64 }
-    requires err { E.faults err.old + 1 < 2 ^ 64 }
-    ensures exact { (left : List ℕ) → I.left input.old ≡ Some left →
-        O.faults out.new ≡ O.faults out.old → E.faults err.new ≡ E.faults err.old →
-        Gives (AnswersWay file.now opened.now core.now
-        (input_of left (I.faults input.old) (I.faults input.new)) way) left (I.left input.new)
-        (O.taken out.old) (O.taken out.new) (E.taken err.old) (E.taken err.new) result }
-    ensures faults { (t : ℕ) → Faults t t (I.faults input.old) (I.faults input.new)
-        (O.faults out.old) (O.faults out.new) (E.faults err.old) (E.faults err.new) result }
-    ensures input_fault { I.faults input.old < I.faults input.new →
-        Says (E.taken err.old) (E.taken err.new) (E.faults err.old) (E.faults err.new)
-        input_fault.err 132 result }
-    ensures output_fault { O.faults out.old < O.faults out.new →
-        Says (E.taken err.old) (E.taken err.new) (E.faults err.old) (E.faults err.new)
-        output_fault.err 133 result }
-    ensures broken { (left : List ℕ) → I.left input.old ≡ Some left → WriteFails (O.faults out.old)
-        (O.faults out.new) (E.faults err.old) (E.faults err.new) → (a : Shown) →
-        AnswersWay file.now opened.now core.now (steady left) way a → SaysMore a →
-        Breaks None a left (I.left input.new) (O.taken out.old) (O.taken out.new) (E.taken err.old)
-        (E.taken err.new) (I.faults input.old) (I.faults input.new) (O.faults out.old)
-        (O.faults out.new) (E.faults err.old) (E.faults err.new) }
-    ensures memory { Wants (OnMachine way → (input.new ≡ input.old) × (out.new ≡ out.old)) (⊤)
-        (E.taken err.old) (E.taken err.new) result }
-    ensures cause { HasCause ((I.faults input.old < I.faults input.new) ⊎
-        WriteFails (O.faults out.old) (O.faults out.new) (E.faults err.old) (E.faults err.new)) ⊤
-        (E.taken err.old) (E.taken err.new) result }
-    ensures refused { Refuses ((input.new ≡ input.old) × (out.new ≡ out.old)) ⊤ (E.taken err.old)
-        (E.taken err.new) result }
+    requires room { HasRoom io.old }
+    ensures { RunsWay file.now opened.now core.now way io.old io.new result }
 {
     match way {
         Way::Run {
@@ -371,16 +267,12 @@ fn go<I: Source, O: Sink, E: Sink>(
             steps,
             leaks,
             explain,
-        } => run_core(
-            alloc, file, opened, core, limits, steps, leaks, explain, input, out, err,
-        ),
+        } => run_core(alloc, file, opened, core, limits, steps, leaks, explain, io),
         Way::Mean {
             heap,
             steps,
             explain,
-        } => mean_core(
-            alloc, file, opened, core, heap, steps, explain, input, out, err,
-        ),
+        } => mean_core(alloc, file, opened, core, heap, steps, explain, io),
     }
 }
 
@@ -391,44 +283,15 @@ pub(crate) fn run_program<I: Source, O: Sink, E: Sink>(
     opened: &[Opened],
     unit: &Unit,
     way: Way,
-    input: &mut I,
-    out: &mut O,
-    err: &mut E,
+    io: &mut Streams<I, O, E>,
 ) -> u8
     requires text { IsOfTexts (unit_view unit.now) }
     requires limits { IsBounded way }
-    requires input { I.faults input.old + 1 < 2 ^ 64 }
-    requires out { O.faults out.old + 1 < 2 ^ 64 }
-    requires err { E.faults err.old + 1 < 2 ^ 64 }
-    ensures exact { (left : List ℕ) → I.left input.old ≡ Some left →
-        O.faults out.new ≡ O.faults out.old → E.faults err.new ≡ E.faults err.old →
-        Gives (AnswersTypes file.now opened.now (core_in (unit_view unit.now))
-        (input_of left (I.faults input.old) (I.faults input.new)) way) left (I.left input.new)
-        (O.taken out.old) (O.taken out.new) (E.taken err.old) (E.taken err.new) result }
-    ensures faults { (t : ℕ) → Faults t t (I.faults input.old) (I.faults input.new)
-        (O.faults out.old) (O.faults out.new) (E.faults err.old) (E.faults err.new) result }
-    ensures input_fault { I.faults input.old < I.faults input.new →
-        Says (E.taken err.old) (E.taken err.new) (E.faults err.old) (E.faults err.new)
-        input_fault.err 132 result }
-    ensures output_fault { O.faults out.old < O.faults out.new →
-        Says (E.taken err.old) (E.taken err.new) (E.faults err.old) (E.faults err.new)
-        output_fault.err 133 result }
-    ensures broken { (left : List ℕ) → I.left input.old ≡ Some left → WriteFails (O.faults out.old)
-        (O.faults out.new) (E.faults err.old) (E.faults err.new) → (a : Shown) →
-        AnswersTypes file.now opened.now (core_in (unit_view unit.now)) (steady left) way a →
-        SaysMore a → Breaks None a left (I.left input.new) (O.taken out.old) (O.taken out.new)
-        (E.taken err.old) (E.taken err.new) (I.faults input.old) (I.faults input.new)
-        (O.faults out.old) (O.faults out.new) (E.faults err.old) (E.faults err.new) }
-    ensures memory { Wants (OnMachine way → (input.new ≡ input.old) × (out.new ≡ out.old)) (⊤)
-        (E.taken err.old) (E.taken err.new) result }
-    ensures cause { HasCause ((I.faults input.old < I.faults input.new) ⊎
-        WriteFails (O.faults out.old) (O.faults out.new) (E.faults err.old) (E.faults err.new)) ⊤
-        (E.taken err.old) (E.taken err.new) result }
-    ensures refused { Refuses ((input.new ≡ input.old) × (out.new ≡ out.old)) ⊤ (E.taken err.old)
-        (E.taken err.new) result }
+    requires room { HasRoom io.old }
+    ensures { RunsTyped file.now opened.now (core_in (unit_view unit.now)) way io.old io.new result }
 {
     match elab(alloc, unit) {
-        Ok(core) => go(alloc, file, opened, &core, way, input, out, err),
-        Err(error) => refuse_types(err, error, opened),
+        Ok(core) => go(alloc, file, opened, &core, way, io),
+        Err(error) => refuse_types(io, error, opened),
     }
 }

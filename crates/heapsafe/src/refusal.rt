@@ -1,16 +1,16 @@
 //! Answers that are not of a run: each has a line on the error stream and a status.
 
 ghost use Rattle.std.specs.Prelude.{◌≡◌, ◌+◌, ◌<◌, ◌^◌, ◌++◌};
-ghost use Rattle.heapsafe.specs.Places.{line_in};
-ghost use Rattle.heapsafe.specs.Shown.{refusal_at, untokened};
-ghost use Rattle.heapsafe.specs.Saying.{Says, name_of, words_of, status_in, shown_of, unmade, untyped};
+ghost use Rattle.heapsafe.specs.Shown.{untokened};
+ghost use Rattle.heapsafe.specs.Saying.{SaysAt, SaysIn, SaysOnly, name_of, words_of, status_in, shown_of, unmade, untyped};
 
 use crate::places::text_of;
+use crate::streams::Streams;
 use crate::units::ProgramError;
 use bad_free_report::{complain, complain_labelled};
 use c_decls::TypeError;
 use c_pre::{Opened, PreError};
-use hs_base::{Line, Sink};
+use hs_base::{Line, Sink, Source};
 
 /// Why nothing is run, or why nothing is written.
 #[derive(Clone, Copy)]
@@ -95,12 +95,14 @@ pub(crate) const BAD_TYPES: u8 = 125;
 pub(crate) const CONFLICT: u8 = 139;
 
 /// Writes the line of a refusal and answers its status, or that of a failed write.
-pub(crate) fn refuse<E: Sink>(err: &mut E, refusal: Refusal<'_>) -> u8
-    requires { E.faults err.old + 1 < 2 ^ 64 }
-    ensures says { Says (E.taken err.old) (E.taken err.new) (E.faults err.old) (E.faults err.new)
-        (shown_of refusal.entry).err (shown_of refusal.entry).status result }
+pub(crate) fn refuse<I: Source, O: Sink, E: Sink>(
+    io: &mut Streams<I, O, E>,
+    refusal: Refusal<'_>,
+) -> u8
+    requires { io.old.err_faults + 1 < 2 ^ 64 }
+    ensures { SaysOnly (shown_of refusal.entry) io.old io.new result }
 {
-    match complain(err, refusal.name(), refusal.words()) {
+    match complain(&mut io.err, refusal.name(), refusal.words()) {
         Ok(()) => refusal.status(),
         Err(_) => OUTPUT_FAULT,
     }
@@ -108,8 +110,8 @@ pub(crate) fn refuse<E: Sink>(err: &mut E, refusal: Refusal<'_>) -> u8
 
 /// Writes the line of a refusal at a line of a text, with that line below it, and answers this status, or that of a failed
 /// write.
-fn refuse_at<E: Sink>(
-    err: &mut E,
+fn refuse_at<I: Source, O: Sink, E: Sink>(
+    io: &mut Streams<I, O, E>,
     name: &[u8],
     line: Line,
     text: &[u8],
@@ -117,34 +119,31 @@ fn refuse_at<E: Sink>(
     words: &[u8],
     status: u8,
 ) -> u8
-    requires { E.faults err.old + 1 < 2 ^ 64 }
-    ensures says { Says (E.taken err.old) (E.taken err.new) (E.faults err.old) (E.faults err.new)
-        (refusal_at (record { name = name.now; line = line; text = text.now })
-        (label.now ++ words.now) status).err status result }
+    requires { io.old.err_faults + 1 < 2 ^ 64 }
+    ensures { SaysAt name.now line text.now (label.now ++ words.now) status io.old io.new result }
 {
-    match complain_labelled(err, name, line, label, words, text) {
+    match complain_labelled(&mut io.err, name, line, label, words, text) {
         Ok(()) => status,
         Err(_) => OUTPUT_FAULT,
     }
 }
 
 /// The same at a line that is counted over all texts.
-fn refuse_in<E: Sink>(
-    err: &mut E,
+fn refuse_in<I: Source, O: Sink, E: Sink>(
+    io: &mut Streams<I, O, E>,
     opened: &[Opened],
     line: Line,
     label: &[u8],
     words: &[u8],
     status: u8,
 ) -> u8
-    requires { E.faults err.old + 1 < 2 ^ 64 }
-    ensures says { Says (E.taken err.old) (E.taken err.new) (E.faults err.old) (E.faults err.new)
-        (refusal_at (line_in opened.now line) (label.now ++ words.now) status).err status result }
+    requires { io.old.err_faults + 1 < 2 ^ 64 }
+    ensures { SaysIn opened.now line (label.now ++ words.now) status io.old io.new result }
 {
     match text_of(opened, line) {
         Some(text) => {
             refuse_at(
-                err,
+                io,
                 text.name.as_slice(),
                 line.saturating_sub(text.base),
                 text.text.as_slice(),
@@ -153,20 +152,22 @@ fn refuse_in<E: Sink>(
                 status,
             )
         }
-        None => refuse_at(err, b"", line, b"", label, words, status),
+        None => refuse_at(io, b"", line, b"", label, words, status),
     }
 }
 
 /// Says why a text has no tokens, and answers the status of that.
-pub(crate) fn refuse_text<E: Sink>(err: &mut E, error: &PreError) -> u8
-    requires { E.faults err.old + 1 < 2 ^ 64 }
-    ensures says { Says (E.taken err.old) (E.taken err.new) (E.faults err.old) (E.faults err.new)
-        (untokened error.now).err (untokened error.now).status result }
+pub(crate) fn refuse_text<I: Source, O: Sink, E: Sink>(
+    io: &mut Streams<I, O, E>,
+    error: &PreError,
+) -> u8
+    requires { io.old.err_faults + 1 < 2 ^ 64 }
+    ensures { SaysOnly (untokened error.now) io.old io.new result }
 {
     match error {
         PreError::Bad { kind, at } => {
             refuse_at(
-                err,
+                io,
                 at.name.as_slice(),
                 at.line,
                 at.text.as_slice(),
@@ -177,7 +178,7 @@ pub(crate) fn refuse_text<E: Sink>(err: &mut E, error: &PreError) -> u8
         }
         PreError::Lex { kind, at } => {
             refuse_at(
-                err,
+                io,
                 at.name.as_slice(),
                 at.line,
                 at.text.as_slice(),
@@ -186,22 +187,25 @@ pub(crate) fn refuse_text<E: Sink>(err: &mut E, error: &PreError) -> u8
                 BAD_TOKENS,
             )
         }
-        PreError::Fault { name } => refuse(err, Refusal::TextFault(name.as_slice())),
-        PreError::TooLong { name } => refuse(err, Refusal::TextTooLong(name.as_slice())),
-        PreError::NoMemory => refuse(err, Refusal::NoMemory),
+        PreError::Fault { name } => refuse(io, Refusal::TextFault(name.as_slice())),
+        PreError::TooLong { name } => refuse(io, Refusal::TextTooLong(name.as_slice())),
+        PreError::NoMemory => refuse(io, Refusal::NoMemory),
     }
 }
 
 /// Says why the types of a text are refused, and answers the status of that.
-pub(crate) fn refuse_types<E: Sink>(err: &mut E, error: TypeError, opened: &[Opened]) -> u8
-    requires { E.faults err.old + 1 < 2 ^ 64 }
-    ensures says { Says (E.taken err.old) (E.taken err.new) (E.faults err.old) (E.faults err.new)
-        (untyped error opened.now).err (untyped error opened.now).status result }
+pub(crate) fn refuse_types<I: Source, O: Sink, E: Sink>(
+    io: &mut Streams<I, O, E>,
+    error: TypeError,
+    opened: &[Opened],
+) -> u8
+    requires { io.old.err_faults + 1 < 2 ^ 64 }
+    ensures { SaysOnly (untyped error opened.now) io.old io.new result }
 {
     match error {
         TypeError::Bad { kind, line } => {
             refuse_in(
-                err,
+                io,
                 opened,
                 line,
                 b"type: ",
@@ -209,24 +213,26 @@ pub(crate) fn refuse_types<E: Sink>(err: &mut E, error: TypeError, opened: &[Ope
                 BAD_TYPES,
             )
         }
-        TypeError::NoMemory => refuse(err, Refusal::NoMemory),
+        TypeError::NoMemory => refuse(io, Refusal::NoMemory),
     }
 }
 
 /// Says why a program was not read, and answers the status of that.
-pub(crate) fn refuse_program<E: Sink>(err: &mut E, error: &ProgramError) -> u8
-    requires { E.faults err.old + 1 < 2 ^ 64 }
-    ensures says { Says (E.taken err.old) (E.taken err.new) (E.faults err.old) (E.faults err.new)
-        (unmade error.now).err (unmade error.now).status result }
+pub(crate) fn refuse_program<I: Source, O: Sink, E: Sink>(
+    io: &mut Streams<I, O, E>,
+    error: &ProgramError,
+) -> u8
+    requires { io.old.err_faults + 1 < 2 ^ 64 }
+    ensures { SaysOnly (unmade error.now) io.old io.new result }
 {
     match error {
-        ProgramError::Text(error) => refuse_text(err, error),
+        ProgramError::Text(error) => refuse_text(io, error),
         ProgramError::Syntax { texts, line } => {
-            refuse_in(err, texts.as_slice(), *line, b"", b"syntax", BAD_TREE)
+            refuse_in(io, texts.as_slice(), *line, b"", b"syntax", BAD_TREE)
         }
         ProgramError::Conflict { texts, name, line } => {
             refuse_in(
-                err,
+                io,
                 texts.as_slice(),
                 *line,
                 b"conflict: ",
@@ -234,6 +240,6 @@ pub(crate) fn refuse_program<E: Sink>(err: &mut E, error: &ProgramError) -> u8
                 CONFLICT,
             )
         }
-        ProgramError::NoMemory => refuse(err, Refusal::NoMemory),
+        ProgramError::NoMemory => refuse(io, Refusal::NoMemory),
     }
 }

@@ -3,23 +3,13 @@
 //! What both do is known where the input and the output tell their bytes. The output is lent to them by way of [`Told`], so that
 //! it is known for every output.
 
-ghost use Rattle.std.specs.Prelude.{◌≡◌, ◌+◌, ◌<◌, ◌≤◌, ◌^◌, ℕ, List, [], None, Some, IfOk, OnErr};
+ghost use Rattle.std.specs.Prelude.{◌≡◌, ◌+◌, ◌<◌, ◌≤◌, ◌^◌, None, IfOk, OnErr};
 ghost use Rattle.meaning_laws.specs.code.Laws.{HoldsBytes};
-ghost use Rattle.object_meaning.specs.compiled.Compiled.{IsCompiled};
-ghost use Rattle.object_meaning.specs.compiled.Sites.{AreAscending};
 ghost use Rattle.core_tree.specs.Sound.{IsSound};
-ghost use Rattle.core_tree.specs.declared.program.Core.{Core};
-ghost use Rattle.object_meaning.specs.counted.Pinning.{AreExact, Pins};
 ghost use Rattle.flat_code.specs.WellFormed.{IsWellFormed};
-ghost use Rattle.flat_codegen.specs.Lasting.{LeavesImage, MakesSteps};
-ghost use Rattle.flat_codegen.specs.Running.{RunAnswers};
-ghost use Rattle.flat_machine.specs.Machined.{IsOf, steps_made};
-ghost use Rattle.flat_machine.specs.Lasting as machine_lasts;
-ghost use Rattle.flat_machine.specs.Running as machine_runs;
-ghost use Rattle.flat_machine.specs.Running.{RunCounts};
+ghost use Rattle.flat_machine.specs.Machined.{IsOf};
 ghost use Rattle.flat_objects.specs.Leaks.{KeepsSome};
-ghost use Rattle.meaning_run.specs.Meant.{MeanAnswers, MeanCounts};
-ghost use Rattle.heapsafe.specs.Saying.{Puts};
+ghost use Rattle.heapsafe.specs.Running.{Counts, CountsMeant, CountsRun, MeansCore, RunsAsCore, RunsCode, RunsCore, room_of};
 
 use crate::lent::{Lent, Told};
 use core_tree::Core;
@@ -50,28 +40,10 @@ fn execute_lent<'a, I: Source, O: Sink, K: Lent>(
     requires same_loan { out.ghost_name ≡ K.name }
     requires taken { O.taken out.old ≡ K.taken }
     ensures same_reference { result.0.ghost_name ≡ out.entry.ghost_name }
-    ensures told { (core : Core) (pins : Pins) → IsSound core → AreExact core pins →
-        AreAscending pins → IsCompiled core pins code.now → (left : List ℕ) →
-        I.left input.old ≡ Some left →
-        Puts
-        (RunAnswers core left steps
-        (record { heap = machine.old.kept.memory.heap.len; stack = machine.old.stack }) [] result.1
-        (I.left input.new)) (O.taken out.old) (O.taken result.0.now) }
-    ensures made { (core : Core) (pins : Pins) → IsSound core → AreExact core pins →
-        AreAscending pins → IsCompiled core pins code.now → (left : List ℕ) →
-        I.left input.old ≡ Some left →
-        MakesSteps core left steps
-        (record { heap = machine.old.kept.memory.heap.len; stack = machine.old.stack }) result.1
-        (steps_made machine.new) }
+    ensures ran { RunsAsCore code.now steps machine.old result.1 machine.new (I.left input.old)
+        (I.left input.new) (O.taken out.old) (O.taken result.0.now) }
     ensures kept { KeepsSome machine.new.kept.memory }
-    ensures left { (core : Core) (pins : Pins) → IsSound core → AreExact core pins →
-        AreAscending pins → IsCompiled core pins code.now → (left : List ℕ) →
-        I.left input.old ≡ Some left →
-        LeavesImage core pins left steps
-        (record { heap = machine.old.kept.memory.heap.len; stack = machine.old.stack }) result.1
-        machine.new.kept }
-    ensures faults { RunCounts result.1 (I.faults input.old) (I.faults input.new) (O.faults out.old)
-        (O.faults result.0.now) }
+    ensures faults { Counts I.faults O.faults result.1 input.old input.new out.old result.0.now }
 {
     let mut told = Told::<O, K>::new(out);
     let end = execute(machine, code, input, &mut told, steps);
@@ -96,17 +68,10 @@ pub(crate) fn run_code<I: Source, O: Sink>(
     requires steps { steps ≤ 1000000000 }
     requires input { I.faults input.old + 1 < 2 ^ 64 }
     requires out { O.faults out.old + 1 < 2 ^ 64 }
-    ensures told { IfOk result (λ ran. (left : List ℕ) → I.left input.old ≡ Some left →
-        Puts (RunAnswers core.now left steps limits [] ran.0 (I.left input.new)) (O.taken out.old)
-        (O.taken out.new)) }
-    ensures made { IfOk result (λ ran. (left : List ℕ) → I.left input.old ≡ Some left →
-        MakesSteps core.now left steps limits ran.0 (steps_made ran.1)) }
-    ensures kept { IfOk result (λ ran. KeepsSome ran.1.kept.memory) }
-    ensures left { IfOk result (λ ran. (left : List ℕ) → I.left input.old ≡ Some left →
-        (pins : Pins) × AreExact core.now pins × LeavesImage core.now pins left steps limits ran.0
-        ran.1.kept) }
-    ensures faults { IfOk result (λ ran. RunCounts ran.0 (I.faults input.old) (I.faults input.new)
-        (O.faults out.old) (O.faults out.new)) }
+    ensures ran { IfOk result (λ r. RunsCore core.now limits steps r.0 r.1 (I.left input.old)
+        (I.left input.new) (O.taken out.old) (O.taken out.new)) }
+    ensures kept { IfOk result (λ r. KeepsSome r.1.kept.memory) }
+    ensures faults { IfOk result (CountsRun I.faults O.faults input.old input.new out.old out.new) }
     ensures input_stays { OnErr result (input.new ≡ input.old) }
     ensures out_stays { OnErr result (out.new ≡ out.old) }
 {
@@ -137,17 +102,10 @@ fn run_lent<'a, I: Source, O: Sink, K: Lent>(
     requires same_loan { out.ghost_name ≡ K.name }
     requires taken { O.taken out.old ≡ K.taken }
     ensures same_reference { result.0.ghost_name ≡ out.entry.ghost_name }
-    ensures told { (left : List ℕ) → I.left input.old ≡ Some left →
-        Puts (machine_runs.RunAnswers code.now left steps
-        (record { heap = machine.old.kept.memory.heap.len; stack = machine.old.stack }) [] result.1
-        (I.left input.new)) (O.taken out.old) (O.taken result.0.now) }
+    ensures ran { RunsCode code.now (room_of machine.old) steps result.1 machine.new (I.left input.old)
+        (I.left input.new) (O.taken out.old) (O.taken result.0.now) }
     ensures kept { KeepsSome machine.new.kept.memory }
-    ensures left { (left : List ℕ) → I.left input.old ≡ Some left →
-        machine_lasts.LeavesImage code.now left steps
-        (record { heap = machine.old.kept.memory.heap.len; stack = machine.old.stack }) result.1
-        machine.new.kept }
-    ensures faults { RunCounts result.1 (I.faults input.old) (I.faults input.new) (O.faults out.old)
-        (O.faults result.0.now) }
+    ensures faults { Counts I.faults O.faults result.1 input.old input.new out.old result.0.now }
 {
     let mut told = Told::<O, K>::new(out);
     let end = machine.run(code, input, &mut told, steps);
@@ -173,14 +131,10 @@ pub(crate) fn run_file<I: Source, O: Sink>(
     requires steps { steps ≤ 1000000000 }
     requires input { I.faults input.old + 1 < 2 ^ 64 }
     requires out { O.faults out.old + 1 < 2 ^ 64 }
-    ensures told { IfOk result (λ ran. (left : List ℕ) → I.left input.old ≡ Some left →
-        Puts (machine_runs.RunAnswers code.now left steps limits [] ran.0 (I.left input.new))
-        (O.taken out.old) (O.taken out.new)) }
-    ensures kept { IfOk result (λ ran. KeepsSome ran.1.kept.memory) }
-    ensures left { IfOk result (λ ran. (left : List ℕ) → I.left input.old ≡ Some left →
-        machine_lasts.LeavesImage code.now left steps limits ran.0 ran.1.kept) }
-    ensures faults { IfOk result (λ ran. RunCounts ran.0 (I.faults input.old) (I.faults input.new)
-        (O.faults out.old) (O.faults out.new)) }
+    ensures ran { IfOk result (λ r. RunsCode code.now limits steps r.0 r.1 (I.left input.old)
+        (I.left input.new) (O.taken out.old) (O.taken out.new)) }
+    ensures kept { IfOk result (λ r. KeepsSome r.1.kept.memory) }
+    ensures faults { IfOk result (CountsRun I.faults O.faults input.old input.new out.old out.new) }
     ensures input_stays { OnErr result (input.new ≡ input.old) }
     ensures out_stays { OnErr result (out.new ≡ out.old) }
 {
@@ -205,11 +159,9 @@ fn mean_lent<'a, I: Source, O: Sink, K: Lent>(
     requires same_loan { out.ghost_name ≡ K.name }
     requires taken { O.taken out.old ≡ K.taken }
     ensures same_reference { result.0.ghost_name ≡ out.entry.ghost_name }
-    ensures told { (left : List ℕ) → I.left input.old ≡ Some left →
-        Puts (MeanAnswers core.now left steps heap [] result.1 (I.left input.new)) (O.taken out.old)
-        (O.taken result.0.now) }
-    ensures faults { MeanCounts result.1 (I.faults input.old) (I.faults input.new)
-        (O.faults out.old) (O.faults result.0.now) }
+    ensures told { MeansCore core.now steps heap result.1 (I.left input.old) (I.left input.new)
+        (O.taken out.old) (O.taken result.0.now) }
+    ensures faults { CountsMeant I.faults O.faults result.1 input.old input.new out.old result.0.now }
 {
     let mut told = Told::<O, K>::new(out);
     let ended = mean(alloc, core, input, &mut told, steps, heap);
@@ -231,11 +183,9 @@ pub(crate) fn evaluate<I: Source, O: Sink>(
     requires steps { steps ≤ 1000000000 }
     requires input { I.faults input.old + 1 < 2 ^ 64 }
     requires out { O.faults out.old + 1 < 2 ^ 64 }
-    ensures told { (left : List ℕ) → I.left input.old ≡ Some left →
-        Puts (MeanAnswers core.now left steps heap [] result (I.left input.new)) (O.taken out.old)
-        (O.taken out.new) }
-    ensures faults { MeanCounts result (I.faults input.old) (I.faults input.new) (O.faults out.old)
-        (O.faults out.new) }
+    ensures told { MeansCore core.now steps heap result (I.left input.old) (I.left input.new)
+        (O.taken out.old) (O.taken out.new) }
+    ensures faults { CountsMeant I.faults O.faults result input.old input.new out.old out.new }
 {
     let (_, ended) = mean_lent::<I, O, Brand>(alloc, core, steps, heap, input, out);
     ended

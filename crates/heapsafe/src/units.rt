@@ -1,10 +1,10 @@
 //! The program that files make: each is preprocessed and parsed by itself, and their units are merged.
 
-ghost use Rattle.std.specs.Prelude.{◌≡◌, ℕ, ◌+◌, ◌<◌, ◌≤◌, ◌^◌, ◌++◌, ◌∷◌, [], List, Some, length, map, IfOk, IfErr};
+ghost use Rattle.std.specs.Prelude.{◌≡◌, ◌+◌, ◌<◌, ◌≤◌, ◌^◌, ◌∷◌, [], length, IfOk, IfErr};
 ghost use Rattle.core_soundness.specs.Texts.{IsOfTexts};
-ghost use Rattle.c_pre.specs.Texts.{preprocessed_behind};
 ghost use Rattle.c_tree.specs.StatementView.{unit_view};
-ghost use Rattle.heapsafe.specs.Reads.{CountsText, FailsIn, Finishes, IsOfFiles, ReadsAs, TakesFile, TakesUnit, reading_view};
+ghost use Rattle.heapsafe.specs.Answer.{spelt};
+ghost use Rattle.heapsafe.specs.Reads.{CountsText, FailsIn, Finishes, IsOfFiles, ReadsFile, ReadsFiles, TakesUnit, reading_view};
 ghost use Rattle.heapsafe.specs.Units.{nothing_read};
 
 use c_lexer::Token;
@@ -97,8 +97,7 @@ impl Reading {
         requires texts { T.faults texts.old + 1 < 2 ^ 64 }
         requires within { IsOfFiles (reading_view self) }
         requires few { length self.units < 64 }
-        ensures told { (told : List ℕ → List ℕ) → T.texts texts.old ≡ Some told →
-            TakesFile (reading_view self) (preprocessed_behind self.sources told file.now) result }
+        ensures told { ReadsFile T.Texts texts.old self file.now result }
         ensures within { IfOk result (λ after. IsOfFiles (reading_view after)) }
         ensures count { IfOk result (λ after. length after.units ≡ length self.units + 1) }
         ensures named { IfErr result (FailsIn (file.now ∷ [])) }
@@ -160,9 +159,8 @@ pub(crate) fn read_program<T: Texts>(
     requires texts { T.faults texts.old + 1 < 2 ^ 64 }
     requires some { 0 < length files.now }
     requires few { length files.now ≤ 64 }
-    ensures told { (told : List ℕ → List ℕ) → T.texts texts.old ≡ Some told →
-        ReadsAs told (map (λ w. w.now) files.now) result }
-    ensures named { IfErr result (FailsIn (map (λ w. w.now) files.now)) }
+    ensures told { ReadsFiles T.Texts texts.old (spelt files.now) result }
+    ensures named { IfErr result (FailsIn (spelt files.now)) }
     ensures cause { CountsText (T.faults texts.old) (T.faults texts.new) result }
     ensures texts { IfOk result (λ program. IsOfTexts (unit_view program.unit)) }
 {

@@ -1,36 +1,17 @@
-use Rattle.std.proofs.Common.{◌≡◌, ◌∙◌, inr, refl, ap, inl}
+use Rattle.std.proofs.Common.{◌≡◌, ◌∙◌, ap}
 use Rattle.generated_text.specs.Summary.{summary_line}
 use Rattle.generated_text.specs.declared.summary.Summary.{Summary}
 use Rattle.heapsafe.specs.Answer.{AnswersGenerated}
-use Rattle.heapsafe.specs.Shown.{Shown, written, no_memory}
-use Rattle.heapsafe.proofs.Told.{gives_more, gives_said}
-use Rattle.heapsafe.proofs.Broken.{broken_own}
-use Rattle.heapsafe.proofs.Statuses.{wanted, caused, no_fault_134}
+use Rattle.heapsafe.specs.Shown.{written}
+use Rattle.heapsafe.proofs.Served.{serves_as, serves_none}
 use Rattle.heapsafe.proofs.generated.run_generated.Goals as goal
 
-pub returns-in-Ok-clause-exact : goal.returns-in-Ok-clause-exact
-returns-in-Ok-clause-exact g c = λ left same_out same_err.
+pub returns-in-Ok : goal.returns-in-Ok
+returns-in-Ok g c =
     let sums = c.in-Ok.ensures in
-    gives_more (λ (a : Shown). a ≡ written (summary_line c.in-Ok.summary)) (AnswersGenerated c.args.number)
-    (λ a is. record { run = sums.run; made = sums.made; runs = sums.runs; shows = is ∙ ap (λ (s : Summary). written (summary_line s)) sums.is })
-    left _ _ _ _ _ _ (c.write_summary.ensures.exact left same_out same_err)
+    serves_as _ _ _ _ _ _ (λ _ a. a ≡ written (summary_line c.in-Ok.summary)) (λ _ a. AnswersGenerated c.args.number a)
+    (λ _ a is. record { run = sums.run; made = sums.made; runs = sums.runs; shows = is ∙ ap (λ (s : Summary). written (summary_line s)) sums.is })
+    (λ _ a is _. sums.only a is) c.write_summary.ensures
 
-pub returns-in-Err-clause-exact : goal.returns-in-Err-clause-exact
-returns-in-Err-clause-exact g c = λ left same_out same_err.
-    gives_said (AnswersGenerated c.args.number) no_memory left _ _ _ _ _ _ _ _ (inr refl) (record { read = refl; out = refl }) refl refl same_err c.refuse.ensures.says
-
-pub returns-in-Ok-clause-broken : goal.returns-in-Ok-clause-broken
-returns-in-Ok-clause-broken g c = λ left i fails a is. c.write_summary.ensures.broken left i fails a (c.in-Ok.ensures.only a is)
-
-pub returns-in-Err-clause-broken : goal.returns-in-Err-clause-broken
-returns-in-Err-clause-broken g c = λ left i fails a is.
-    broken_own no_memory a left _ _ _ _ _ _ _ _ _ _ _ _ (inr refl) refl refl refl refl c.refuse.ensures.says
-
-pub returns-in-Err-clause-memory : goal.returns-in-Err-clause-memory
-returns-in-Err-clause-memory g c = wanted _ _ no_memory _ _ _ _ _ refl (λ h. refl) c.refuse.ensures.says
-
-pub returns-in-Err-clause-cause : goal.returns-in-Err-clause-cause
-returns-in-Err-clause-cause g c = caused _ _ _ _ _ _ 134 _ no_memory.err (λ h. inr h) (λ h. absurd (no_fault_134 h)) c.refuse.ensures.says
-
-pub returns-in-Err-clause-refused : goal.returns-in-Err-clause-refused
-returns-in-Err-clause-refused g c = λ is. inl refl
+pub returns-in-Err : goal.returns-in-Err
+returns-in-Err g c = serves_none _ _ _ _ _ _ _ c.refuse.ensures

@@ -6,8 +6,8 @@ use Rattle.heapsafe.specs.Saying.{TakesAll}
 use Rattle.heapsafe.proofs.Leaked.{all_begun, failed_begun, leak_is_above, one_begun}
 use Rattle.heapsafe.proofs.leaks.write_leaks.Goals as goal
 
-pub returns-in_err-leak_line-clause-bytes : goal.returns-in_err-leak_line-clause-bytes
-returns-in_err-leak_line-clause-bytes g c = λ places objects keeps leaks are.
+pub returns-in_err-leak_line-clause-puts : goal.returns-in_err-leak_line-clause-puts
+returns-in_err-leak_line-clause-puts g c = λ places objects keeps leaks are.
     failed_begun c.args.opened.now objects leaks c.lines.above c.in-Some.leak _ _ _ c.leak_line.result c.from_residual.result
     (search rules) c.from_residual.ensures.0 (sym (c.leak.ensures places objects keeps) ∙ c.in-Some.is)
     (subst (λ (l : Leak). PutsAll (g.E.Sink.taken c.lines.err) (g.E.Sink.taken c.leak_line.new.err) (leak_text l) c.leak_line.result) c.told_leak.ensures c.leak_line.ensures.bytes)
@@ -30,8 +30,8 @@ lines-preserved g c = record {
   count = c.in_ok-leak_line.ensures.cause ∙ c.lines.invariant.count;
 }
 
-pub returns-clause-bytes : goal.returns-clause-bytes
-returns-clause-bytes g c = λ places objects keeps leaks are.
+pub returns-clause-puts : goal.returns-clause-puts
+returns-clause-puts g c = λ places objects keeps leaks are.
     all_begun c.args.opened.now objects leaks c.lines.above _ _ (sym (c.leak.ensures places objects keeps) ∙ c.in_default.is) (c.lines.invariant.begun places objects keeps leaks are)
 
 pub returns-clause-all : goal.returns-clause-all

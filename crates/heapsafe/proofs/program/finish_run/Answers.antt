@@ -5,5 +5,5 @@ use Rattle.heapsafe.proofs.program.finish_run.Goals as goal
 
 pub returns-in-Exit-clause-leaks : goal.returns-in-Exit-clause-leaks
 returns-in-Exit-clause-leaks g c = λ code asked exits places objects keeps.
-    subst (λ n. SaysLeaks c.args.opened.now objects (g.E.Sink.taken c.args.err.now) (g.E.Sink.taken c.finish_exit.new.err) (g.E.Sink.faults c.args.err.now) (g.E.Sink.faults c.finish_exit.new.err) n c.finish_exit.result)
+    subst (λ n. SaysLeaks c.args.opened.now objects c.args.io.now c.finish_exit.new.io n c.finish_exit.result)
     (one_exit c.in-Exit.code code (sym c.in-Exit.is ∙ exits)) (c.finish_exit.ensures.leaks asked places objects keeps)

@@ -1,77 +1,60 @@
-use Rattle.std.proofs.Common.{false, Option, refl, inr, subst, arith}
-use Rattle.heapsafe.proofs.Told.{said_faults}
-use Rattle.heapsafe.proofs.Ended.{gives_mean, gives_unfinished, input_said, mean_counts, output_said, program_faults}
-use Rattle.heapsafe.proofs.Broken.{broken_mean, broken_unfinished}
-use Rattle.heapsafe.proofs.Statuses.{wanted, caused, counts_of, end_cause, no_fault_134, own_end, own_of, end_refused, never_refused}
+use Rattle.std.proofs.Common.{◌≡◌, ℕ, List, [], Option, Some, ap, false, inl, refl, ⊎_elim}
+use Rattle.std.specs.Prelude.{IsTrue}
+use Rattle.hs_base.specs.declared.ends.End.{End}
+use Rattle.hs_base.specs.Trace.{Event}
+use Rattle.c_pre.specs.declared.answer.Opened.{Opened}
+use Rattle.core_tree.specs.declared.program.Core.{Core}
 use Rattle.bad_free_report.specs.declared.explanation.InForce.{InForce}
+use Rattle.flat_machine.specs.Running.{RunCounts}
+use Rattle.heapsafe.specs.declared.program.Way.TheVariants.{Mean}
 use Rattle.heapsafe.specs.Places.{told_end_of}
-use Rattle.heapsafe.specs.Program.{explains_mean, status_of}
-use Rattle.heapsafe.specs.Saying.{Says}
-use Rattle.heapsafe.specs.Shown.{no_memory}
+use Rattle.heapsafe.specs.Program.{AnswersProgram, AnswersWay, Input, explains_mean, meant, status_of}
+use Rattle.heapsafe.specs.Saying.{Puts, SaysEnd}
+use Rattle.heapsafe.specs.Serving.{Runs}
+use Rattle.heapsafe.specs.Shown.{Shown}
+use Rattle.heapsafe.specs.Sight.{Sight}
+use Rattle.heapsafe.proofs.Ended.{mean_counts}
+use Rattle.heapsafe.proofs.Executed.{Makes, done_of, kept_counts, kept_puts, mean_makes, serves_alike, serves_done, serves_unfinished}
+use Rattle.heapsafe.proofs.Served.{seen_from, serves_as}
+use Rattle.heapsafe.proofs.Statuses.{counts_of, own_of}
 use Rattle.heapsafe.proofs.program.mean_core.Goals as goal
 
-pub returns-in-Ok-clause-exact : goal.returns-in-Ok-clause-exact
-returns-in-Ok-clause-exact g c = λ left k same_out same_err.
-    let told = c.in-Ok.ensures.told left k in
-    gives_mean c.args.file.now c.args.opened.now c.args.core.now (explains_mean c.args.explain c.args.steps) left told.put _ _ _ _ _ _ _ _ _ _ _ _ told.took same_err c.args.steps c.args.heap c.in-Ok.end
-    told.is c.in-Ok.ensures.faults same_out (subst (λ (a : Option InForce). Says (g.E.Sink.taken c.args.err.now) (g.E.Sink.taken c.finish.new.err) (g.E.Sink.faults c.args.err.now) (g.E.Sink.faults c.finish.new.err) (told_end_of c.args.core.now c.args.file.now c.args.opened.now a c.in-Ok.end) (status_of c.in-Ok.end) c.finish.result) c.explains_mean.ensures c.finish.ensures.says)
+-- a run that tells of no leaks
+serves_plain : {I O E : Type 0} (file : List ℕ) (opened : List Opened) (core : Core) (asked : Option InForce) (before after : Sight I O E) (result : ℕ) (x : End) (events : List ℕ → List Event) (ends : List ℕ → Option End) →
+    RunCounts x before.input_faults after.input_faults before.out_faults after.out_faults →
+    ((left : List ℕ) → before.left ≡ Some left → Puts (Makes (events left) (ends left) left x after.left) before.taken after.taken) →
+    SaysEnd file opened core asked x before after result →
+    Runs ⊥ (λ i a. AnswersProgram file opened core asked i.fails (done_of (events i.bytes) (ends i.bytes) [] false) a) before after result
+serves_plain file opened core asked before after result x events ends counts put said =
+    serves_done file opened core asked before after result ⊥ x false events ends (λ left. []) counts put
+    (λ left k. record { none = λ _. said; some = λ code (asks : IsTrue false) is. absurd cc })
+    (λ _. said) (counts_of before after result (status_of x) (told_end_of core file opened asked x) said) (own_of before after result file opened core asked x said)
 
-pub returns-in-Ok-clause-faults : goal.returns-in-Ok-clause-faults
-returns-in-Ok-clause-faults g c = λ t.
-    program_faults c.in-Ok.end t _ _ _ _ _ _ _ _ _ _ (mean_counts c.in-Ok.end _ _ _ _ c.in-Ok.ensures.faults) (subst (λ (a : Option InForce). Says (g.E.Sink.taken c.args.err.now) (g.E.Sink.taken c.finish.new.err) (g.E.Sink.faults c.args.err.now) (g.E.Sink.faults c.finish.new.err) (told_end_of c.args.core.now c.args.file.now c.args.opened.now a c.in-Ok.end) (status_of c.in-Ok.end) c.finish.result) c.explains_mean.ensures c.finish.ensures.says)
+pub returns-in-Ok : goal.returns-in-Ok
+returns-in-Ok g c =
+    let core = c.args.core.now in
+    let heap = c.args.heap in
+    let steps = c.args.steps in
+    let keeps = c.finish.ensures.keeps in
+    let said = c.finish.ensures.says in
+    let after = c.finish.new.io in
+    let result = c.finish.result in
+    let events : List ℕ → List Event = λ left. (meant core left steps heap).events in
+    let ends : List ℕ → Option End = λ left. (meant core left steps heap).ends in
+    seen_from (λ b a r. Runs ⊥ (λ i s. AnswersWay c.args.file.now c.args.opened.now core i (Mean heap steps c.args.explain) s) b a r) _ _ _ _ c.io.view_is
+    (serves_as _ _ _ _ _ _ (λ (i : Input) a. AnswersProgram c.args.file.now c.args.opened.now core (explains_mean c.args.explain steps) i.fails (meant core i.bytes steps heap) a) (λ i a. AnswersWay c.args.file.now c.args.opened.now core i (Mean heap steps c.args.explain) a)
+    (λ i a is. inl is)
+    (λ i a is more. ⊎_elim (λ h. h) (λ h. absurd (more (ap (λ (s : Shown). s.err) h.3))) is)
+    (serves_alike c.args.file.now core _ after result ⊥ (λ (i : Input). meant core i.bytes steps heap) _ _ _ _ refl c.explains_mean.ensures
+    (serves_plain c.args.file.now c.args.opened.now core c.explains_mean.result _ after result c.in-Ok.end events ends
+    (kept_counts _ _ keeps c.in-Ok.end _ _ (mean_counts c.in-Ok.end _ _ _ _ c.in-Ok.ensures.faults))
+    (λ left k.
+    let p = c.in-Ok.ensures.told left k in
+    kept_puts _ _ keeps (Makes (events left) (ends left) left c.in-Ok.end) _ (record { put = p.put; is = mean_makes core left steps heap _ _ c.in-Ok.end p.is; took = p.took }))
+    said)))
 
-pub returns-in-Ok-clause-input_fault : goal.returns-in-Ok-clause-input_fault
-returns-in-Ok-clause-input_fault g c = λ more.
-    input_said false c.in-Ok.end c.args.file.now c.args.opened.now c.args.core.now (explains_mean c.args.explain c.args.steps) _ _ _ _ _ _ _ _ _ (mean_counts c.in-Ok.end _ _ _ _ c.in-Ok.ensures.faults) more (λ _. (subst (λ (a : Option InForce). Says (g.E.Sink.taken c.args.err.now) (g.E.Sink.taken c.finish.new.err) (g.E.Sink.faults c.args.err.now) (g.E.Sink.faults c.finish.new.err) (told_end_of c.args.core.now c.args.file.now c.args.opened.now a c.in-Ok.end) (status_of c.in-Ok.end) c.finish.result) c.explains_mean.ensures c.finish.ensures.says))
-
-pub returns-in-Ok-clause-output_fault : goal.returns-in-Ok-clause-output_fault
-returns-in-Ok-clause-output_fault g c = λ more.
-    output_said false c.in-Ok.end c.args.file.now c.args.opened.now c.args.core.now (explains_mean c.args.explain c.args.steps) _ _ _ _ _ _ _ _ _ (mean_counts c.in-Ok.end _ _ _ _ c.in-Ok.ensures.faults) more (λ _. (subst (λ (a : Option InForce). Says (g.E.Sink.taken c.args.err.now) (g.E.Sink.taken c.finish.new.err) (g.E.Sink.faults c.args.err.now) (g.E.Sink.faults c.finish.new.err) (told_end_of c.args.core.now c.args.file.now c.args.opened.now a c.in-Ok.end) (status_of c.in-Ok.end) c.finish.result) c.explains_mean.ensures c.finish.ensures.says))
-
-pub returns-in-Err-clause-exact : goal.returns-in-Err-clause-exact
-returns-in-Err-clause-exact g c = λ left k same_out same_err.
-    let told = c.in-Err.ensures.told left k in
-    gives_unfinished c.args.file.now c.args.opened.now c.args.core.now (explains_mean c.args.explain c.args.steps) left told.put _ _ _ _ _ _ _ 0 0 _ _ _ told.took same_err c.args.steps c.args.heap
-    told.is c.refuse.ensures.says
-
-pub returns-in-Err-clause-faults : goal.returns-in-Err-clause-faults
-returns-in-Err-clause-faults g c = λ t.
-    said_faults t _ _ _ _ _ _ _ _ _ _ 134 c.in-Err.ensures.faults.0 c.in-Err.ensures.faults.1 c.refuse.ensures.says
-
-pub returns-in-Ok-clause-broken : goal.returns-in-Ok-clause-broken
-returns-in-Ok-clause-broken g c = λ left k fails a is more.
-    let told = c.in-Ok.ensures.told left k in
-    broken_mean c.args.file.now c.args.opened.now c.args.core.now (explains_mean c.args.explain c.args.steps) left told.put _ _ _ _ _ _ _ _ _ _ _ _ told.took c.args.steps c.args.heap a c.in-Ok.end more is c.in-Ok.ensures.faults told.is (subst (λ (a : Option InForce). Says (g.E.Sink.taken c.args.err.now) (g.E.Sink.taken c.finish.new.err) (g.E.Sink.faults c.args.err.now) (g.E.Sink.faults c.finish.new.err) (told_end_of c.args.core.now c.args.file.now c.args.opened.now a c.in-Ok.end) (status_of c.in-Ok.end) c.finish.result) c.explains_mean.ensures c.finish.ensures.says)
-
-pub returns-in-Err-clause-broken : goal.returns-in-Err-clause-broken
-returns-in-Err-clause-broken g c = λ left k fails a is more.
-    let told = c.in-Err.ensures.told left k in
-    broken_unfinished c.args.file.now c.args.opened.now c.args.core.now (explains_mean c.args.explain c.args.steps) left told.put _ _ _ _ _ _ _ _ _ _ _ _ told.took c.args.steps c.args.heap a more is c.in-Err.ensures.faults told.is c.refuse.ensures.says
-
-pub returns-in-Ok-clause-memory : goal.returns-in-Ok-clause-memory
-returns-in-Ok-clause-memory g c = λ is.
-    inr (
-      tt,
-      own_end _ _ _ _ _ c.in-Ok.end (counts_of _ _ _ _ _ _ _ (subst (λ (a : Option InForce). Says (g.E.Sink.taken c.args.err.now) (g.E.Sink.taken c.finish.new.err) (g.E.Sink.faults c.args.err.now) (g.E.Sink.faults c.finish.new.err) (told_end_of c.args.core.now c.args.file.now c.args.opened.now a c.in-Ok.end) (status_of c.in-Ok.end) c.finish.result) c.explains_mean.ensures c.finish.ensures.says)) (own_of _ _ _ _ _ c.args.file.now c.args.opened.now c.args.core.now (explains_mean c.args.explain c.args.steps) c.in-Ok.end (subst (λ (a : Option InForce). Says (g.E.Sink.taken c.args.err.now) (g.E.Sink.taken c.finish.new.err) (g.E.Sink.faults c.args.err.now) (g.E.Sink.faults c.finish.new.err) (told_end_of c.args.core.now c.args.file.now c.args.opened.now a c.in-Ok.end) (status_of c.in-Ok.end) c.finish.result) c.explains_mean.ensures c.finish.ensures.says)) is,
-    )
-
-pub returns-in-Err-clause-memory : goal.returns-in-Err-clause-memory
-returns-in-Err-clause-memory g c = wanted _ _ no_memory _ _ _ _ _ tt (λ h. refl) c.refuse.ensures.says
-
-pub returns-in-Ok-clause-cause : goal.returns-in-Ok-clause-cause
-returns-in-Ok-clause-cause g c =
-    end_cause _ _ _ _ _ _ _ _ _ c.in-Ok.end (mean_counts c.in-Ok.end _ _ _ _ c.in-Ok.ensures.faults)
-    (counts_of _ _ _ _ _ _ _ (subst (λ (a : Option InForce). Says (g.E.Sink.taken c.args.err.now) (g.E.Sink.taken c.finish.new.err) (g.E.Sink.faults c.args.err.now) (g.E.Sink.faults c.finish.new.err) (told_end_of c.args.core.now c.args.file.now c.args.opened.now a c.in-Ok.end) (status_of c.in-Ok.end) c.finish.result) c.explains_mean.ensures c.finish.ensures.says)) (own_of _ _ _ _ _ c.args.file.now c.args.opened.now c.args.core.now (explains_mean c.args.explain c.args.steps) c.in-Ok.end (subst (λ (a : Option InForce). Says (g.E.Sink.taken c.args.err.now) (g.E.Sink.taken c.finish.new.err) (g.E.Sink.faults c.args.err.now) (g.E.Sink.faults c.finish.new.err) (told_end_of c.args.core.now c.args.file.now c.args.opened.now a c.in-Ok.end) (status_of c.in-Ok.end) c.finish.result) c.explains_mean.ensures c.finish.ensures.says))
-
-pub returns-in-Err-clause-cause : goal.returns-in-Err-clause-cause
-returns-in-Err-clause-cause g c = caused _ _ _ _ _ _ 134 _ no_memory.err (λ h. inr (inr h)) (λ h. absurd (no_fault_134 h)) c.refuse.ensures.says
-
-pub returns-in-Ok-clause-refused : goal.returns-in-Ok-clause-refused
-returns-in-Ok-clause-refused g c = λ is.
-    inr (
-      tt,
-      end_refused _ _ _ _ _ c.in-Ok.end (counts_of _ _ _ _ _ _ _ (subst (λ (a : Option InForce). Says (g.E.Sink.taken c.args.err.now) (g.E.Sink.taken c.finish.new.err) (g.E.Sink.faults c.args.err.now) (g.E.Sink.faults c.finish.new.err) (told_end_of c.args.core.now c.args.file.now c.args.opened.now a c.in-Ok.end) (status_of c.in-Ok.end) c.finish.result) c.explains_mean.ensures c.finish.ensures.says)) (own_of _ _ _ _ _ c.args.file.now c.args.opened.now c.args.core.now (explains_mean c.args.explain c.args.steps) c.in-Ok.end (subst (λ (a : Option InForce). Says (g.E.Sink.taken c.args.err.now) (g.E.Sink.taken c.finish.new.err) (g.E.Sink.faults c.args.err.now) (g.E.Sink.faults c.finish.new.err) (told_end_of c.args.core.now c.args.file.now c.args.opened.now a c.in-Ok.end) (status_of c.in-Ok.end) c.finish.result) c.explains_mean.ensures c.finish.ensures.says)) is,
-    )
-
-pub returns-in-Err-clause-refused : goal.returns-in-Err-clause-refused
-returns-in-Err-clause-refused g c = never_refused _ _ _ _ _ _ 134 _ no_memory.err (omega arith) (omega arith) c.refuse.ensures.says
+pub returns-in-Err : goal.returns-in-Err
+returns-in-Err g c =
+    seen_from (λ b a r. Runs ⊥ (λ i s. AnswersWay c.args.file.now c.args.opened.now c.args.core.now i (Mean c.args.heap c.args.steps c.args.explain) s) b a r) _ _ _ _ c.io.view_is
+    (serves_unfinished c.args.file.now c.args.opened.now c.args.core.now _ _ c.refuse.new.io c.refuse.result c.args.steps c.args.heap c.args.explain
+    (λ left k. c.in-Err.ensures.told left k) c.in-Err.ensures.faults.0 c.in-Err.ensures.faults.1 refl refl c.refuse.ensures)

@@ -4,12 +4,12 @@ use Rattle.heapsafe.specs.Places.{told_report}
 use Rattle.heapsafe.proofs.Joined.{failed_first, joined}
 use Rattle.heapsafe.proofs.program.put_end.Goals as goal
 
-pub returns-in_err-put_report-clause-bytes : goal.returns-in_err-put_report-clause-bytes
-returns-in_err-put_report-clause-bytes g c =
+pub returns-in_err-put_report-clause-puts : goal.returns-in_err-put_report-clause-puts
+returns-in_err-put_report-clause-puts g c =
     failed_first _ _ (told_report c.args.core.now c.args.file.now c.args.opened.now c.args.end.now) (explanation c.args.end.now c.args.explains)
-    c.put_report.result c.from_residual.result (search rules) c.from_residual.ensures.0 c.put_report.ensures.bytes
+    c.put_report.result c.from_residual.result (search rules) c.from_residual.ensures.0 c.put_report.ensures.puts
 
-pub returns-clause-bytes : goal.returns-clause-bytes
-returns-clause-bytes g c =
+pub returns-clause-puts : goal.returns-clause-puts
+returns-clause-puts g c =
     joined _ _ _ (told_report c.args.core.now c.args.file.now c.args.opened.now c.args.end.now) (explanation c.args.end.now c.args.explains) _
-    c.in_ok-put_report.ensures.bytes c.explain.ensures.bytes
+    c.in_ok-put_report.ensures.puts c.explain.ensures.bytes

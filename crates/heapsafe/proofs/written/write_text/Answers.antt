@@ -1,44 +1,15 @@
-use Rattle.std.proofs.Common.{[], inl, refl, ⊎_elim, arith}
-use Rattle.heapsafe.specs.Shown.{written, output_fault}
-use Rattle.heapsafe.proofs.Told.{takes_none}
-use Rattle.heapsafe.proofs.Broken.{broken_text}
-use Rattle.heapsafe.proofs.Statuses.{unwanted, no_fault_0, never_refused, refusal_low}
+use Rattle.std.proofs.Common.{refl}
+use Rattle.heapsafe.specs.Serving.{Writes}
+use Rattle.heapsafe.specs.Shown.{written}
+use Rattle.heapsafe.proofs.Served.{seen_from, serves_cut, serves_written}
 use Rattle.heapsafe.proofs.written.write_text.Goals as goal
 
-pub returns-in-Ok-clause-exact : goal.returns-in-Ok-clause-exact
-returns-in-Ok-clause-exact g c = λ left same_out same_err. record {
-  shown = written c.args.text.now;
-  is = inl refl;
-  rest = left;
-  is_left = refl;
-  is_read = refl;
-  out_took = c.in-Ok.ensures.bytes;
-  err_took = takes_none _ _ [] refl refl;
-  status = refl;
-}
+pub returns-in-Ok : goal.returns-in-Ok
+returns-in-Ok g c =
+    seen_from (Writes (written c.args.text.now)) _ _ _ _ c.io.view_is
+    (serves_written _ _ _ c.args.text.now (record { input = refl; left = refl; faults = refl }) c.in-Ok.ensures.cause c.in-Ok.ensures.bytes refl refl refl)
 
-pub returns-in-Ok-clause-broken : goal.returns-in-Ok-clause-broken
-returns-in-Ok-clause-broken g c = λ left i fails a is.
-    absurd (⊎_elim (λ h. omega (arith, h, c.in-Ok.ensures.cause)) (λ h. omega (arith, h)) fails)
-
-pub returns-in-Err-clause-broken : goal.returns-in-Err-clause-broken
-returns-in-Err-clause-broken g c = λ left i fails a is.
-    broken_text c.args.text.now a left _ _ _ _ _ _ _ _ _ _ is c.in-Err.ensures.cause c.in-Err.ensures.bytes c.refuse.ensures.says
-
-pub returns-in-Ok-clause-memory : goal.returns-in-Ok-clause-memory
-returns-in-Ok-clause-memory g c = λ is. absurd (omega (arith, is))
-
-pub returns-in-Err-clause-memory : goal.returns-in-Err-clause-memory
-returns-in-Err-clause-memory g c = unwanted _ _ _ _ _ _ 133 _ output_fault.err (λ h. omega (arith, h)) c.refuse.ensures.says
-
-pub returns-in-Ok-clause-cause : goal.returns-in-Ok-clause-cause
-returns-in-Ok-clause-cause g c = λ is. absurd (no_fault_0 is)
-
-pub returns-in-Err-clause-cause : goal.returns-in-Err-clause-cause
-returns-in-Err-clause-cause g c = λ is. inl (inl (omega (arith, c.in-Err.ensures.cause)))
-
-pub returns-in-Ok-clause-refused : goal.returns-in-Ok-clause-refused
-returns-in-Ok-clause-refused g c = λ is. absurd (omega (arith, refusal_low 0 is))
-
-pub returns-in-Err-clause-refused : goal.returns-in-Err-clause-refused
-returns-in-Err-clause-refused g c = never_refused _ _ _ _ _ _ 133 _ output_fault.err (omega arith) (omega arith) c.refuse.ensures.says
+pub returns-in-Err : goal.returns-in-Err
+returns-in-Err g c =
+    seen_from (Writes (written c.args.text.now)) _ _ _ _ c.io.view_is
+    (serves_cut _ _ c.refuse.new.io c.refuse.result c.args.text.now (record { input = refl; left = refl; faults = refl }) c.in-Err.ensures.cause c.in-Err.ensures.bytes refl refl c.refuse.ensures)

@@ -1,0 +1,23 @@
+//! The three streams of a program.
+
+ghost use Rattle.heapsafe.specs.Sight.{Sight, see};
+
+use hs_base::{Sink, Source};
+use std::marker::Model;
+
+/// The three streams of a program. Contracts see each, what it tells, and how often it failed.
+#[derive(Drop)]
+pub(crate) struct Streams<I: Source, O: Sink, E: Sink> {
+    /// Where input is read.
+    pub(crate) input: I,
+    /// Where output is written.
+    pub(crate) out: O,
+    /// Where errors and leaks are reported.
+    pub(crate) err: E,
+}
+
+impl<I: Source, O: Sink, E: Sink> Model for Streams<I, O, E> {
+    ghost Value = { Sight I O E };
+
+    ghost view = { λ streams. see I.Source O.Sink E.Sink streams.input streams.out streams.err };
+}
