@@ -1,7 +1,8 @@
 -- A list that is read item by item.
 use Rattle.std.proofs.Common.{◌≡◌, ◌<◌, ◌+◌, ◌^◌, ℕ, zero, suc, List, [], ◌∷◌, ◌++◌, length, take, drop, refl, sym, ap, ◌∙◌, append_assoc, add-one, arith}
 use Rattle.std.specs.List.{All, flat_map}
-use Rattle.std.proofs.lemmas.List.{flat_map_more, length_push}
+use Rattle.std.proofs.lemmas.List.{append-nil, flat_map_more, length_push}
+use Rattle.std.proofs.lemmas.List.Concat.{flat_map-append}
 use Rattle.std.proofs.lemmas.List.Elements.{All-head, All-nil, All-push, All-tail}
 use Rattle.code_file.specs.Spelling.{Begins, IsNumber, IsShortList, list_of, number}
 use Rattle.code_file.proofs.Reading.{BeginsNone}
@@ -100,3 +101,22 @@ pub no_count : {X : Type 0} (Fits : X → Type 0) (item : X → List ℕ) (bytes
 unfolding list_of
 no_count Fits item bytes none ys others fit is =
     none (length ys) (flat_map item ys ++ others) fit.0 (is ∙ append_assoc (number (length ys)) (flat_map item ys) others)
+
+-- A loop over registers
+
+-- what it has gone through, and what is left
+pub all_done : (all done left : List ℕ) → all ≡ done ++ left → left ≡ [] → all ≡ done
+all_done all done left split none = split ∙ ap (λ rs. done ++ rs) none ∙ append-nil done
+
+pub one_done : (all done left : List ℕ) (r : ℕ) (rest : List ℕ) → all ≡ done ++ left → left ≡ r ∷ rest → all ≡ (done ++ r ∷ []) ++ rest
+one_done all done left r rest split first = split ∙ ap (λ rs. done ++ rs) first ∙ sym (append_assoc done (r ∷ []) rest)
+
+-- what is written of one more
+pub written_more : (start head done : List ℕ) (r : ℕ) (text new : List ℕ) → text ≡ start ++ (head ++ flat_map number done) → new ≡ text ++ number r → new ≡ start ++ (head ++ flat_map number (done ++ r ∷ []))
+written_more start head done r text new so_far h =
+    let bytes = flat_map number done in
+    let more : flat_map number (done ++ r ∷ []) ≡ bytes ++ number r = flat_map-append number done (r ∷ []) ∙ ap (λ bs. bytes ++ bs) (append-nil (number r)) in
+    h
+    ∙ ap (λ t. t ++ number r) so_far
+    ∙ append_assoc start (head ++ bytes) (number r)
+    ∙ ap (λ bs. start ++ bs) (append_assoc head bytes (number r) ∙ ap (λ bs. head ++ bs) (sym more))

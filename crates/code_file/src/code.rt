@@ -1,7 +1,7 @@
 //! The parts of code.
 
-ghost use Rattle.std.specs.Prelude.{◌≡◌, true, false};
-ghost use Rattle.code_file.specs.Spelling.{Any, byte};
+ghost use Rattle.std.specs.Prelude.{◌≡◌, All, true, false};
+ghost use Rattle.code_file.specs.Spelling.{Any, IsNumber, IsShort, IsShortList, byte, list_of, number};
 ghost use Rattle.code_file.specs.Ops.{op_number};
 ghost use Rattle.code_file.specs.CodeFile.{EndsOtherwise, IsRangedCode, IsRangedEntry, IsRangedInstr, IsRangedLayout, IsRangedPointer, IsRangedSite, IsRangedStatic, IsShortCode, IsShortEntry, IsShortStatic, code_bytes, entry_bytes, instr_bytes, layout_bytes, pointer_bytes, site_bytes, static_bytes};
 ghost use Rattle.code_file.specs.Parts.{FitsCode, FitsEntry, FitsInstr, FitsLayout, FitsPointer, FitsSite, FitsStatic};
@@ -11,7 +11,7 @@ use crate::ops::{op_number, op_of};
 use crate::part::{Part, Spelled};
 use crate::reader::Reader;
 use c_types::Layout;
-use flat_code::{Code, Entry, Instr, Op, Site, StaticInit};
+use flat_code::{Code, Entry, Instr, Op, Registers, Site, StaticInit};
 use hs_base::{Items, Line, NoMemory};
 
 impl Spelled for Op {
@@ -190,6 +190,35 @@ impl Part for Layout {
     }
 }
 
+impl Spelled for Registers {
+    ghost spelling = { list_of number };
+
+    ghost is_short = { IsShort };
+
+    ghost is_ranged = { All IsNumber };
+
+    fn write(&self, text: &mut Vec<u8>) -> Result<(), NoMemory> {
+        (self.len() as u32).write(text)?;
+        for register in self.iter() {
+            register.write(text)?;
+        }
+        Ok(())
+    }
+}
+
+impl Part for Registers {
+    ghost fits = { IsShortList IsNumber };
+
+    fn read(reader: &mut Reader) -> Result<Registers, CodeError> {
+        let count = u32::read(reader)?;
+        let mut registers = Registers::new(reader.alloc());
+        for _done in 0..count {
+            registers.push(u32::read(reader)?)?;
+        }
+        Ok(registers)
+    }
+}
+
 impl Spelled for Site {
     ghost use Rattle.flat_code.specs.declared.program.Site.{Site};
     ghost use Rattle.code_file.specs.Spelling.{IsShort};
@@ -210,7 +239,7 @@ impl Part for Site {
     ghost fits = { FitsSite };
 
     fn read(reader: &mut Reader) -> Result<Site, CodeError> {
-        let (instr, pins) = <(u32, Items<u32>)>::read(reader)?;
+        let (instr, pins) = <(u32, Registers)>::read(reader)?;
         Ok(Site { instr, pins })
     }
 }

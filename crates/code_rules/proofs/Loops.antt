@@ -36,15 +36,6 @@ ascend sites step d i (suc j) less inside =
     (λ (past : j ≤ i). let same : i ≡ j = omega arith in subst (λ n. (get_or sites n d).instr < (get_or sites (suc j) d).instr) (sym same) last)
     (cases_lt i j)
 
-pub numbers_ascend : (xs : List ℕ) → ((k : ℕ) (d : ℕ) → k + 1 < length xs → get_or xs k d < get_or xs (k + 1) d) → (d : ℕ) (i j : ℕ) → i < j → j < length xs → get_or xs i d < get_or xs j d
-numbers_ascend xs step d i zero less inside = absurd (omega arith)
-numbers_ascend xs step d i (suc j) less inside =
-    let last : get_or xs j d < get_or xs (suc j) d = subst (λ n. get_or xs j d < get_or xs n d) (add-one j) (step j d (omega arith)) in
-    ⊎_elim
-    (λ (before : i < j). let first = numbers_ascend xs step d i j before (omega arith) in omega arith)
-    (λ (past : j ≤ i). let same : i ≡ j = omega arith in subst (λ n. get_or xs n d < get_or xs (suc j) d) (sym same) last)
-    (cases_lt i j)
-
 pub whole : {X : Type 0} (P : X → Type 0) (xs : List X) (i : ℕ) → length xs ≤ i → All P (take i xs) → All P xs
 whole P xs i end so_far = subst (λ (l : List _). All P l) (take_all xs i end) so_far
 

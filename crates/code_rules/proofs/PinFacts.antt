@@ -1,9 +1,8 @@
 -- Sites, from their lists and from each register.
-use Rattle.std.proofs.Common.{◌≡◌, ◌<◌, ◌≤◌, ◌↔◌, ℕ, Bool, true, false, List, Option, Some, None, length, map, get_or, refl, sym, ap, ◌∙◌, subst, ⊎_elim, arith, IsTrue}
-use Rattle.std.specs.List.{All, AllPairs, Contains}
+use Rattle.std.proofs.Common.{◌≡◌, ◌<◌, ◌≤◌, ◌↔◌, ℕ, Bool, true, false, List, Option, Some, None, length, map, get_or, refl, sym, subst, ⊎_elim, arith, IsTrue}
+use Rattle.std.specs.List.{All, Contains}
 use Rattle.std.specs.Option.{MatchOption}
 use Rattle.std.proofs.lemmas.Bool.{cases_lt}
-use Rattle.std.proofs.lemmas.Grind.{get_or_default_zero}
 use Rattle.std.proofs.lemmas.List.{length-map}
 use Rattle.std.proofs.lemmas.List.Elements.{All-contains, Contains-get_or}
 use Rattle.std.proofs.lemmas.Option.{slice_get_within}
@@ -117,25 +116,3 @@ sites_right code most long listed b both = (
       (λ r less. both.0 yes r less f entry point i here),
   λ each. both.1 (λ r less f entry point i here. exact_of_site code entry point i r (has_site i.op) (each f entry point i here)),
 )
-
--- A register among pins that ascend
-
-pub never_falls : (pins : List ℕ) → AllPairs (λ one other. one < other) pins → (i j : ℕ) → i ≤ j → j < length pins → get_or pins i 0 ≤ get_or pins j 0
-never_falls pins ascend i j le inside =
-    ⊎_elim
-    (λ (less : i < j). let up = ascend i j 0 less inside in omega arith)
-    (λ (past : j ≤ i). let same : i ≡ j = omega arith in omega (arith, ap (λ n. get_or pins n 0) same))
-    (cases_lt i j)
-
-pub there_at : (pins : List ℕ) (r k : ℕ) → k < length pins → get_or pins k 0 ≡ r → Contains pins r
-there_at pins r k inside is = subst (Contains pins) is (Contains-get_or pins k 0 inside)
-
-pub not_there : (pins : List ℕ) (r i : ℕ) → ((k : ℕ) → k < i → get_or pins k 0 < r) → ((k : ℕ) → i ≤ k → k < length pins → r < get_or pins k 0) → Contains pins r → ⊥
-not_there pins r i below above there =
-    let is : get_or pins there.0 0 ≡ r = get_or_default_zero_of pins there.0 r there.1 there.2 in
-    ⊎_elim
-    (λ (less : there.0 < i). omega (arith, below there.0 less, is))
-    (λ (past : i ≤ there.0). omega (arith, above there.0 past there.1, is))
-    (cases_lt there.0 i) where
-      get_or_default_zero_of : (pins : List ℕ) (k r : ℕ) → k < length pins → get_or pins k r ≡ r → get_or pins k 0 ≡ r
-      get_or_default_zero_of pins k r inside is = sym (get_or_default_zero pins k r inside) ∙ is

@@ -12,7 +12,7 @@ ghost use Rattle.code_rules.specs.Answers.{AreListed, ArePlaces, ArePlacesUpTo, 
 use crate::instrs::chosen;
 use crate::live::live_points;
 use crate::rules::{Rule, each_instr};
-use flat_code::{Code, Entry, Instr, Op};
+use flat_code::{Code, Entry, Instr, Op, Registers};
 use hs_base::NoMemory;
 use std::alloc::Global;
 
@@ -50,14 +50,14 @@ fn site_places(alloc: Global, code: &Code) -> Result<Vec<Option<usize>>, NoMemor
 }
 
 /// The pins of the first site of an instruction.
-fn site_of<'a>(code: &'a Code, places: &[Option<usize>], point: usize) -> Option<&'a [u32]>
+fn site_of<'a>(code: &'a Code, places: &[Option<usize>], point: usize) -> Option<&'a Registers>
     requires places { ArePlaces code.now places.now }
     requires inside { point < length code.now.instrs }
     ensures { option_map (λ pins. pins.now) result ≡ site_of code.now.sites point }
 {
     let place = (*places.get(point)?)?;
     let site = code.sites.get(place)?;
-    Some(site.pins.as_slice())
+    Some(&site.pins)
 }
 
 /// The register that takes the answer of a call.
@@ -80,34 +80,11 @@ fn counts(entry: &Entry, instr: Instr, is_live: bool, register: u32) -> bool
     }
 }
 
-/// Says whether numbers ascend.
-fn ascend(numbers: &[u32]) -> bool
-    ensures { IsTrue result ↔ AllPairs (λ one other. one < other) numbers.now }
-{
-    for i in 1..numbers.len() {
-        if numbers[i - 1] >= numbers[i] {
-            return false;
-        }
-    }
-    true
-}
-
 /// Says whether pins ascend, and are registers.
-fn are_registers(entry: &Entry, pins: &[u32]) -> bool
+fn are_registers(entry: &Entry, pins: &Registers) -> bool
     ensures { IsTrue result ↔ AreRegisters entry.now pins.now }
 {
-    ascend(pins) && pins.iter().all(|pin| (*pin as usize) < entry.kinds.len())
-}
-
-/// Says whether pins that ascend have a register.
-fn has_pin(pins: &[u32], register: u32) -> bool
-    requires { AllPairs (λ one other. one < other) pins.now }
-    ensures { IsTrue result ↔ Contains pins.now register }
-{
-    match pins.binary_search(&register) {
-        Ok(_) => true,
-        Err(_) => false,
-    }
+    pins.ascend() && pins.are_below(entry.kinds.len())
 }
 
 /// Each site is listed.
@@ -165,7 +142,7 @@ impl<'a> Rule for Pins<'a> {
         Ok(match site_of(code, self.places, point) {
             Some(pins) => {
                 let is_live = mark_at(self.marks, point);
-                counts(entry, instr, is_live, self.register) == has_pin(pins, self.register)
+                counts(entry, instr, is_live, self.register) == pins.contains(self.register)
             }
             None => true,
         })

@@ -1,2 +1,5 @@
 pub mod Listing
 pub mod Exactness
+pub mod Points
+mod Runs
+mod Collecting

@@ -1,5 +1,5 @@
 -- The pins of a core, in order.
-use Rattle.std.specs.Prelude.{ℕ, Bool, true, false, List, [], map, filter, length, Option, Some, None, slice_get}
+use Rattle.std.specs.Prelude.{ℕ, ◌-◌, Bool, true, false, List, [], map, filter, length, Option, Some, None, slice_get}
 use Rattle.std.specs.List.{flat_map, range_with_len, AllZip}
 use Rattle.core_tree.specs.declared.program.Func.{Func}
 use Rattle.core_tree.specs.declared.statements.Stm.{Stm}
@@ -10,7 +10,7 @@ use Rattle.object_meaning.specs.counted.Pinning.{counts_at}
 use Rattle.local_liveness.specs.Tables.{IsTableOf}
 
 -- there is a table of each function
-abbrev pub AreTables : List (List (List Bool)) → List Func → Type 0
+abbrev pub AreTables : List (List (List ℕ)) → List Func → Type 0
 AreTables tables funcs = AllZip IsTableOf tables funcs
 
 -- a register is pinned at a point
@@ -41,3 +41,13 @@ pins_before func n = flat_map (λ point. pins_at func point (slice_get func.body
 -- those of a function
 abbrev pub func_pins : Func → List Pin
 func_pins func = pins_before func (length func.body)
+
+-- the registers that count at a point that may not be there, ascending
+abbrev pub registers_at : Func → ℕ → Option Stm → List ℕ
+registers_at func point None = []
+registers_at func point (Some stm) = filter (counts_at func point stm.kind) (range_with_len 0 (length func.regs))
+
+-- those of the points of a function from one on
+abbrev pub registers_from : Func → ℕ → List (List ℕ)
+registers_from func first =
+    map (λ point. registers_at func point (slice_get func.body point)) (range_with_len first (length func.body - first))

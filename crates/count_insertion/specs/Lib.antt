@@ -1,2 +1,4 @@
+pub mod Counting
 pub mod Inserted
 pub mod Laws
+pub mod Points

@@ -1,22 +1,27 @@
 //! Which registers are pinned at which points.
 
-ghost use Rattle.std.specs.Prelude.{◌≡◌, ◌<◌, ◌++◌, Some, IfOk, length, map, slice_get};
-ghost use Rattle.object_meaning.specs.counted.Pinning.{AreExact, counts_at, holds_on};
-ghost use Rattle.local_liveness.specs.Tables.{IsTableOf};
-ghost use Rattle.count_insertion.specs.Inserted.{AreTables, may_count, pins_below, func_pins};
+ghost use Rattle.std.specs.Prelude.{◌≡◌, ◌==◌, ◌<◌, ◌*◌, ◌&&◌, ℕ, Some, IfOk, not, filter, length, map, reverse, slice_get};
+ghost use Rattle.std.specs.List.{range_with_len};
+ghost use Rattle.object_meaning.specs.counted.Pinning.{AreExact};
+ghost use Rattle.object_meaning.specs.objects.Holding.{takes_answer};
+ghost use Rattle.local_liveness.specs.Sets.{has, Adds};
+ghost use Rattle.local_liveness.specs.Tables.{HasLive, IsTableOf, words_of};
+ghost use Rattle.count_insertion.specs.Counting.{HasPointers, is_there};
+ghost use Rattle.count_insertion.specs.Inserted.{AreTables, may_count, func_pins, registers_at, registers_from};
 
 use crate::copies::core_copy;
-use core_tree::{Core, Func, Stm, StmKind, live_by_paths};
+use crate::listed::FuncPins;
+use core_tree::{Core, Func, Reg, StmKind, live_by_paths};
+use flat_code::Registers;
 use hs_base::{Items, NoMemory};
-use local_liveness::{LiveTable, live_at};
-use object_meaning::Pin;
+use local_liveness::{LiveTable, RegisterSet, live_at, none_live};
 use std::alloc::Global;
 
 /// A core with its pins: for each of its functions, the registers that count at its points.
 #[derive(Debug, Drop)]
 pub struct Counted {
     pub core: Core,
-    pub pins: Items<Items<Pin>>,
+    pub pins: Items<FuncPins>,
 }
 
 /// The number of what comes next in a list. No memory holds a list whose numbers do not fit.
@@ -26,31 +31,24 @@ fn fit(number: usize) -> Result<u32, NoMemory>
     u32::try_from(number).map_err(|_| NoMemory)
 }
 
-/// Says whether a register is one for pointers that is live after a point.
-fn holds_on(func: &Func, table: &LiveTable, point: u32, reg: u32) -> bool
-    requires table { IsTableOf table.now func.now }
-    requires point { point < length func.now.body }
-    requires reg { reg < length func.now.regs }
-    ensures { result ≡ holds_on func.now point reg }
+/// Adds a register to those for pointers, if it is one.
+fn mark(pointers: &mut RegisterSet, register: u32, reg: &Reg)
+    ensures { Adds (λ r. reg.now.pointer && register == r) pointers.old pointers.new }
 {
-    live_by_paths();
-    func.regs.as_slice()[reg as usize].pointer && table.is_live(point, reg)
+    if reg.pointer {
+        pointers.insert(register);
+    }
 }
 
-/// Says whether a register counts at a statement.
-fn counts_at(func: &Func, table: &LiveTable, point: u32, kind: &StmKind, reg: u32) -> bool
-    requires table { IsTableOf table.now func.now }
-    requires point { point < length func.now.body }
-    requires reg { reg < length func.now.regs }
-    ensures { result ≡ counts_at func.now point kind.now reg }
+/// The registers of a function that are for pointers.
+fn pointers_of(alloc: Global, func: &Func) -> Result<RegisterSet, NoMemory>
+    ensures { IfOk result (λ pointers. HasPointers pointers func.now) }
 {
-    match kind {
-        StmKind::Call(_, None, _) | StmKind::Realloc(..) | StmKind::Free(_) | StmKind::Leave => {
-            holds_on(func, table, point, reg)
-        }
-        StmKind::Call(_, Some(answer), _) => holds_on(func, table, point, reg) && *answer != reg,
-        _ => false,
+    let mut pointers = RegisterSet::empty(alloc, func.regs.len())?;
+    for (place, reg) in func.regs.as_slice().iter().enumerate() {
+        mark(&mut pointers, fit(place)?, reg);
     }
+    Ok(pointers)
 }
 
 /// Says whether registers may count at a statement.
@@ -63,48 +61,108 @@ fn may_count(kind: &StmKind) -> bool
     )
 }
 
-/// Adds the pins of a point.
-fn add_pins(
-    pins: &mut Vec<Pin>,
-    func: &Func,
-    table: &LiveTable,
-    point: u32,
-    stm: &Stm,
-) -> Result<(), NoMemory>
-    requires table { IsTableOf table.now func.now }
-    requires point { point < length func.now.body }
-    ensures { IfOk result (λ _. pins.new.items ≡ pins.old.items ++ pins_below func.now point stm.now.kind (length func.now.regs)) }
+/// Makes a set of the registers that count at a statement: those for pointers that are live behind it, without the one that
+/// takes the answer of a call. All sets have as many words.
+fn find_counting(
+    counting: &mut RegisterSet,
+    pointers: &RegisterSet,
+    live: &RegisterSet,
+    kind: &StmKind,
+)
+    requires pointers { length pointers.now ≡ length counting.old }
+    requires live { length live.now ≡ length counting.old }
+    ensures words { length counting.new ≡ length counting.old }
+    ensures bits { (r : ℕ) → r < 64 * length counting.old → has counting.new r ≡ (is_there kind.now r && (has pointers.now r && has live.now r)) }
 {
-    if !may_count(&stm.kind) {
-        return Ok(());
+    counting.become_common(pointers, live);
+    match answer_of(kind) {
+        Some(answer) => counting.remove(answer),
+        None => (),
     }
-    for number in 0..func.regs.len() {
-        let reg = fit(number)?;
-        if counts_at(func, table, point, &stm.kind, reg) {
-            pins.push(Pin { point, reg })?;
-        }
+}
+
+/// The register that takes the answer of a call.
+fn answer_of(kind: &StmKind) -> Option<u32>
+    ensures { (r : ℕ) → is_there kind.now r ≡ not (takes_answer result r) }
+{
+    match kind {
+        StmKind::Call(_, answer, _) => *answer,
+        _ => None,
     }
-    Ok(())
+}
+
+/// The registers of a set that are below a bound.
+fn registers_in(alloc: Global, set: &RegisterSet, bound: u32) -> Result<Registers, NoMemory>
+    ensures { IfOk result (λ registers. registers ≡ filter (has set.now) (range_with_len 0 bound)) }
+{
+    let mut registers = Registers::new(alloc);
+    let mut from = 0;
+    while let Some(run) = set.next_run(from, bound) {
+        registers.push_run(run.first, run.end - 1)?;
+        from = run.end;
+    }
+    Ok(registers)
+}
+
+/// The registers that count at a point behind which `live` is live. `counting` is overwritten; it has room for the registers of the function.
+fn registers_at(
+    alloc: Global,
+    func: &Func,
+    point: usize,
+    pointers: &RegisterSet,
+    live: &RegisterSet,
+    counting: &mut RegisterSet,
+) -> Result<Registers, NoMemory>
+    requires point { point < length func.now.body }
+    requires pointers { HasPointers pointers.now func.now }
+    requires live { HasLive live.now func.now point }
+    requires counting { length counting.old ≡ words_of func.now }
+    ensures words { length counting.new ≡ words_of func.now }
+    ensures registers { IfOk result (λ registers. registers ≡ registers_at func.now point (slice_get func.now.body point)) }
+{
+    live_by_paths();
+    let kind = &func.body.as_slice()[point].kind;
+    if !may_count(kind) {
+        return Ok(Registers::new(alloc));
+    }
+    find_counting(counting, pointers, live, kind);
+    registers_in(alloc, counting, fit(func.regs.len())?)
+}
+
+/// The registers that count at each point of a function, from the last point to the first.
+fn registers_back(alloc: Global, func: &Func, table: &LiveTable) -> Result<Vec<Registers>, NoMemory>
+    requires { IsTableOf table.now func.now }
+    ensures { IfOk result (λ lists. lists.items ≡ reverse (registers_from func.now 0)) }
+{
+    let pointers = pointers_of(alloc, func)?;
+    let mut live = none_live(alloc, func)?;
+    let mut counting = RegisterSet::empty(alloc, func.regs.len())?;
+    let mut lists = Vec::with_capacity(alloc, func.body.len())?;
+    for point in (0..func.body.len()).rev() {
+        table.step_back(func, &mut live, point);
+        lists.push(registers_at(alloc, func, point, &pointers, &live, &mut counting)?)?;
+    }
+    Ok(lists)
 }
 
 /// The pins of a function.
-fn pins_of(alloc: Global, func: &Func, table: &LiveTable) -> Result<Items<Pin>, NoMemory>
+fn pins_of(alloc: Global, func: &Func, table: &LiveTable) -> Result<FuncPins, NoMemory>
     requires { IsTableOf table.now func.now }
     ensures { IfOk result (λ pins. pins ≡ func_pins func.now) }
 {
-    let mut pins = Vec::new(alloc);
-    for (place, stm) in func.body.as_slice().iter().enumerate() {
-        add_pins(&mut pins, func, table, fit(place)?, stm)?;
+    let mut lists = registers_back(alloc, func, table)?;
+    let mut pins = FuncPins::new(alloc);
+    for place in 0..func.body.len() {
+        let Some(registers) = lists.pop() else {
+            unreachable!()
+        };
+        pins.push(fit(place)?, registers)?;
     }
-    Ok(Items::from(pins))
+    Ok(pins)
 }
 
 /// The pins of all functions.
-fn all_pins(
-    alloc: Global,
-    funcs: &[Func],
-    live: &[LiveTable],
-) -> Result<Items<Items<Pin>>, NoMemory>
+fn all_pins(alloc: Global, funcs: &[Func], live: &[LiveTable]) -> Result<Items<FuncPins>, NoMemory>
     requires { AreTables live.now funcs.now }
     ensures { IfOk result (λ pins. pins ≡ map func_pins funcs.now) }
 {

@@ -1,3 +1,4 @@
+pub mod Runs
 pub mod Table
 pub mod Lives
 pub mod Sites

@@ -12,6 +12,8 @@
 
 mod instructions;
 mod program;
+mod registers;
 
 pub use instructions::{Instr, Op};
 pub use program::{Code, Entry, Site, StaticInit};
+pub use registers::{RegisterIter, Registers};

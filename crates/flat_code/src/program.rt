@@ -1,6 +1,7 @@
 //! Code: its instructions and its tables.
 
 use crate::instructions::Instr;
+use crate::registers::Registers;
 use c_types::Layout;
 use hs_base::{Items, Line};
 
@@ -46,5 +47,5 @@ pub struct StaticInit {
 #[derive(Debug, Drop)]
 pub struct Site {
     pub instr: u32,
-    pub pins: Items<u32>,
+    pub pins: Registers,
 }

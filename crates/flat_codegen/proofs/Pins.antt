@@ -1,10 +1,9 @@
 -- The pins of each point stand first among those that are left.
-use Rattle.std.proofs.Common.{◌≡◌, ℕ, zero, suc, ◌+◌, ◌-◌, ◌<◌, Bool, List, [], ◌∷◌, ◌++◌, cond, length, map, take, drop, Option, Some, None, refl, sym, ◌∙◌, ap, length-drop, arith}
+use Rattle.std.proofs.Common.{◌≡◌, ℕ, zero, suc, ◌+◌, ◌-◌, ◌<◌, Bool, List, [], ◌∷◌, ◌++◌, cond, length, map, take, drop, Option, Some, None, refl, sym, ◌∙◌, ap, arith}
 use Rattle.std.specs.Prelude.{filter, nat_eq, slice_get}
 use Rattle.std.specs.List.{flat_map, prefix_len, range_with_len}
 use Rattle.std.proofs.Math.Seq.{take-append_seam}
 use Rattle.std.proofs.lemmas.Bool.{eq-eqb, ne_eqb}
-use Rattle.std.proofs.lemmas.List.{take_all}
 use Rattle.std.proofs.lemmas.List.Prefix.{front_rest}
 use Rattle.std.proofs.lemmas.Option.{slice_get_within}
 use Rattle.core_tree.specs.declared.program.Func.{Func}
@@ -25,10 +24,6 @@ pins_from func n =
 -- a point by another name
 pub same_point : (pins : List Pin) (point n : ℕ) → point ≡ n → (count : ℕ) → count ≡ prefix_len (is_of_point point) pins → count ≡ prefix_len (is_of_point n) pins
 same_point pins point n e count h = h ∙ ap (λ k. prefix_len (is_of_point k) pins) e
-
--- all behind the first pins
-pub rest_is : (pins : List Pin) (count : ℕ) → take (length pins - count) (drop count pins) ≡ drop count pins
-rest_is pins count = take_all (length pins - count) (drop count pins) (omega (arith, length-drop count pins))
 
 -- pins of a point, before others
 same_first : (point : ℕ) (registers : List ℕ) (rest : List Pin) → prefix_len (is_of_point point) rest ≡ 0 → prefix_len (is_of_point point) (map (pin_of point) registers ++ rest) ≡ length (map (pin_of point) registers)

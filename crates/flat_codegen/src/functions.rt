@@ -15,12 +15,11 @@ ghost use Rattle.flat_codegen.specs.Placing.{place_in};
 use crate::doing::Names;
 use crate::emitter::{Emitter, fit};
 use crate::places::Places;
-use crate::sites::{count_at, registers_of};
 use c_types::Layout;
 use core_tree::{Func, Mem, Reg, Stm, StmKind};
-use flat_code::Entry;
+use count_insertion::FuncPins;
+use flat_code::{Entry, Registers};
 use hs_base::{Items, NoMemory};
-use object_meaning::Pin;
 use std::alloc::Global;
 
 /// The layout of the elements of a new object.
@@ -92,7 +91,7 @@ impl Emitter {
         func: &Func,
         places: &Places,
         stm: &Stm,
-        pins: Items<u32>,
+        pins: Registers,
     ) -> Result<(), NoMemory>
         requires { HasNumbers stm.now.kind }
         ensures { IfOk result (λ _. self.new.code ≡ with_statement (place_in places.now) func.now self.old.code stm.now pins) }
@@ -115,23 +114,21 @@ impl Emitter {
 
     /// Adds the statements of a function. Its pins stand in the order of its points, so those of each point are the first
     /// that are left.
-    fn body(&mut self, func: &Func, places: &Places, pins: &[Pin]) -> Result<(), NoMemory>
+    fn body(&mut self, func: &Func, places: &Places, pins: &FuncPins) -> Result<(), NoMemory>
         requires numbers { EachStatement func.now.body (λ point stm. HasNumbers stm.kind) }
         requires listed { pins.now ≡ func_pins func.now }
         ensures { IfOk result (λ _. self.new.code ≡ fold (with_point (place_in places.now) func.now) self.old.code (enumerate_from 0 func.now.body)) }
     {
-        let mut left = pins;
+        let mut left = pins.left();
         for (point, stm) in func.body.as_slice().iter().enumerate() {
-            let count = count_at(left, fit(point)?);
-            let registers = registers_of(self.alloc, &left[..count])?;
+            let registers = left.take(self.alloc, fit(point)?)?;
             self.statement(func, places, stm, registers)?;
-            left = &left[count..];
         }
         Ok(())
     }
 
     /// Adds a function with its pins.
-    fn function(&mut self, func: &Func, pins: &[Pin]) -> Result<(), NoMemory>
+    fn function(&mut self, func: &Func, pins: &FuncPins) -> Result<(), NoMemory>
         requires numbers { EachStatement func.now.body (λ point stm. HasNumbers stm.kind) }
         requires listed { pins.now ≡ func_pins func.now }
         ensures { IfOk result (λ _. self.new.code ≡ with_function self.old.code func.now) }
@@ -143,13 +140,13 @@ impl Emitter {
     }
 
     /// Adds functions, each with its pins.
-    pub(crate) fn functions(&mut self, funcs: &[Func], pins: &[Items<Pin>]) -> Result<(), NoMemory>
+    pub(crate) fn functions(&mut self, funcs: &[Func], pins: &[FuncPins]) -> Result<(), NoMemory>
         requires numbers { All (λ (func : CoreFunc). EachStatement func.body (λ point stm. HasNumbers stm.kind)) funcs.now }
         requires listed { pins.now ≡ map func_pins funcs.now }
         ensures { IfOk result (λ _. self.new.code ≡ fold with_function self.old.code funcs.now) }
     {
         for (place, func) in funcs.iter().enumerate() {
-            self.function(func, pins[place].as_slice())?;
+            self.function(func, &pins[place])?;
         }
         Ok(())
     }

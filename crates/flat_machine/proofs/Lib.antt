@@ -54,3 +54,4 @@ pub mod Working
 pub mod Joined
 pub mod Onward
 pub mod Links
+pub mod Yielded

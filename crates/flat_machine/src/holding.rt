@@ -11,6 +11,7 @@ use crate::calls::Calls;
 use crate::state::State;
 use crate::words::address_in;
 use byte_memory::Steps;
+use flat_code::RegisterIter;
 use flat_objects::{FlatObjects, Holding};
 use hs_base::Holder;
 use std::sync::ledger::Ledger;
@@ -70,17 +71,17 @@ pub(crate) fn first_register<L: Ledger>(
     objects: &FlatObjects,
     calls: &Calls,
     k: usize,
-    registers: &[u32],
+    registers: RegisterIter<'_>,
     start: u32,
     steps: &mut Steps<L>,
 ) -> Option<u32>
-    requires { IsHolding objects.now (call_number calls.now k) registers.now start }
-    ensures { IsFirstRegister objects.now (call_number calls.now k) registers.now start result }
+    requires { IsHolding objects.now (call_number calls.now k) registers start }
+    ensures { IsFirstRegister objects.now (call_number calls.now k) registers.entry start result }
 {
-    for i in 0..registers.len() {
-        let addr = address_in(calls.word_of(k, registers[i]));
+    for register in registers {
+        let addr = address_in(calls.word_of(k, register));
         if leads_to(objects, addr, start, steps) {
-            return Some(registers[i]);
+            return Some(register);
         }
     }
     None
