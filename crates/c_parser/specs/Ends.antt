@@ -1,15 +1,10 @@
 -- The end of a scope behind what was read in it.
 use Rattle.std.specs.Prelude.{◌≡◌, Result, Ok, Err}
 use Rattle.grammar_reading.specs.State.{State}
-use Rattle.parser_parts.specs.Names.{oldest}
+use Rattle.parser_parts.specs.States.{outside}
 use Rattle.parser_parts.specs.declared.reader.Outer.{Outer}
 use Rattle.parser_parts.specs.declared.error.ReadError.{ReadError}
 use Rattle.parser_parts.specs.declared.error.ReadError.TheVariants as errors
-
--- behind a scope: of the names those that were declared outside of it
-abbrev pub outside : Outer → State → State
-outside outer state =
-    record { words = state.words; scope = record { names = oldest outer.count state.scope.names; typedef = outer.typedef }; params = state.params }
 
 -- what was read in a scope is given behind it, and so is why nothing was read; want of memory is free
 abbrev pub Ends : {X : Type 0} → Outer → Result X ReadError → Result X ReadError → State → State → Type 0

@@ -5,3 +5,5 @@ pub mod Pieces
 pub mod Nodes
 pub mod Ends
 pub mod Growing
+pub mod Readers
+pub mod Rests

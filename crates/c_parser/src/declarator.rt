@@ -1,18 +1,20 @@
 //! Reading declarators, parameters and names of types (C99 6.7.5 and 6.7.6).
 
-ghost use Rattle.std.specs.Prelude.{◌≡◌, ◌<◌, ◌≤◌, ◌+◌, ◌^◌, suc, not, if◌then◌else◌, Some, None, IfOk};
+ghost use Rattle.std.specs.Prelude.{◌≡◌, ◌<◌, ◌≤◌, ◌+◌, ◌^◌, not, Some, None, IfOk};
 ghost use Rattle.c_tree.specs.Forms as form;
 ghost use Rattle.c_tree.specs.Places as place;
-ghost use Rattle.c_tree.specs.Tree.{Node, none};
-ghost use Rattle.c_tree.specs.View.{declarator_tree, base_tree};
-ghost use Rattle.c_tree.specs.StatementView.{trees, maybe, expr_view, specs_view, typename_view, suffix_view, param_view};
+ghost use Rattle.c_tree.specs.Tree.{none};
+ghost use Rattle.c_tree.specs.View.{base_tree};
 ghost use Rattle.grammar_reading.specs.Declarators as spec;
-ghost use Rattle.parser_parts.specs.Gives.{Reads, Ended};
+ghost use Rattle.grammar_reading.specs.Declarators.{declarator_at, layers_at, pointer_at, direct_at, base_at};
+ghost use Rattle.parser_parts.specs.Gives.{Ended};
 ghost use Rattle.parser_parts.specs.Trees.{ReadsBase, ReadsDeclarator, ReadsParam, ReadsParams, ReadsSuffix, ReadsSuffixes, ReadsTypename};
-ghost use Rattle.grammar_reading.specs.Reading.{fixed, commas_from, goes_on};
+ghost use Rattle.grammar_reading.specs.Reading.{fixed};
 ghost use Rattle.grammar_reading.specs.Rooms.{less, read};
 ghost use Rattle.c_parser.specs.Sorts.{sort_place};
-ghost use Rattle.grammar_reading.specs.State.{kind_at, left_at};
+ghost use Rattle.c_parser.specs.Readers.{ReadsMaybeLength};
+ghost use Rattle.c_parser.specs.Rests.{of_sort, parens_at, name_base, no_name, all_suffixes, some_params};
+ghost use Rattle.grammar_reading.specs.State.{kind_at};
 ghost use Rattle.c_parser.specs.Pieces.{begins_suffix as spec_begins, suffix_at, kept_suffix_at, open_function_at};
 ghost use Rattle.grammar_reading.specs.declared.kind.Kind.TheVariants as kinds;
 
@@ -37,7 +39,7 @@ pub fn declarator<'a>(
     sort: NameSort,
 ) -> Result<DeepDeclarator<'a>, ReadError>
     requires room { room < 401 }
-    ensures value { ReadsDeclarator result reader.new (spec.declarator_at (less room) room (sort_place sort) reader.old) }
+    ensures value { ReadsDeclarator result reader.new (of_sort room declarator_at sort reader.old) }
     ensures deep { IfOk result (λ x. x.layers + x.inside ≤ room) }
 {
     let d = layers(alloc, reader, room, sort)?;
@@ -56,7 +58,7 @@ fn layers<'a>(
     sort: NameSort,
 ) -> Result<DeepDeclarator<'a>, ReadError>
     requires room { room < 401 }
-    ensures value { ReadsDeclarator result reader.new (spec.layers_at (less room) room (sort_place sort) reader.old) }
+    ensures value { ReadsDeclarator result reader.new (of_sort room layers_at sort reader.old) }
     ensures small { IfOk result (λ x. x.layers + 500 < 2 ^ 64) }
 {
     if reader.is_mark(Sign::Star) {
@@ -75,7 +77,7 @@ fn pointer<'a>(
     sort: NameSort,
 ) -> Result<DeepDeclarator<'a>, ReadError>
     requires room { room < 401 }
-    ensures value { ReadsDeclarator result reader.new (spec.pointer_at (less room) room (sort_place sort) reader.old) }
+    ensures value { ReadsDeclarator result reader.new (of_sort room pointer_at sort reader.old) }
     ensures small { IfOk result (λ x. x.layers ≤ room) }
 {
     let line = reader.line();
@@ -97,7 +99,7 @@ fn direct<'a>(
     sort: NameSort,
 ) -> Result<DeepDeclarator<'a>, ReadError>
     requires room { room < 401 }
-    ensures value { ReadsDeclarator result reader.new (spec.direct_at (less room) room (sort_place sort) reader.old) }
+    ensures value { ReadsDeclarator result reader.new (of_sort room direct_at sort reader.old) }
     ensures small { IfOk result (λ x. x.layers + 500 < 2 ^ 64) }
 {
     let base = base(alloc, reader, room, sort)?;
@@ -114,7 +116,7 @@ fn base<'a>(
     sort: NameSort,
 ) -> Result<DeepBase<'a>, ReadError>
     requires room { room < 401 }
-    ensures value { ReadsBase result reader.new (spec.base_at (less room) room (sort_place sort) reader.old) }
+    ensures value { ReadsBase result reader.new (of_sort room base_at sort reader.old) }
     ensures small { IfOk result (λ x. x.layers ≤ room) }
 {
     match reader.kind() {
@@ -139,7 +141,7 @@ fn enclosed<'a>(
     sort: NameSort,
 ) -> Result<DeepBase<'a>, ReadError>
     requires room { room < 401 }
-    ensures value { ReadsBase result reader.new (fixed (spec.same_sort (less room) room (sort_place sort)) form.Parens reader.old) }
+    ensures value { ReadsBase result reader.new (parens_at room sort reader.old) }
     ensures small { IfOk result (λ x. x.layers ≤ room) }
 {
     let line = reader.line();
@@ -160,7 +162,7 @@ fn name<'a>(
     sort: NameSort,
 ) -> Result<DeepBase<'a>, ReadError>
     requires { kind_at reader.old ≡ kinds.Name }
-    ensures value { ReadsBase result reader.new (spec.base_by (less 0) 0 (sort_place sort) kinds.Name reader.old) }
+    ensures value { ReadsBase result reader.new (name_base sort reader.old) }
     ensures small { IfOk result (λ x. x.layers ≡ 0) }
 {
     if is_abstract(sort) {
@@ -202,7 +204,7 @@ fn is_named(sort: NameSort) -> bool
 /// No name and no parentheses, where the sort of declarator needs no name.
 #[tactic(auto, unfolding(c_tree::specs::Depth::below, c_tree::specs::Depth::layers, c_tree::specs::Depth::layers_all, c_tree::specs::Depth::greatest_depth, c_tree::specs::Depth::greatest_below, c_tree::specs::Depth::is_of_declarator, c_tree::specs::Depth::layer, c_tree::specs::Scopes::name_of, c_tree::specs::Scopes::name_among, c_tree::specs::Scopes::leads_to_name, c_tree::specs::Scopes::params_of, c_tree::specs::Scopes::params_among, c_tree::specs::Scopes::suffix_params))]
 fn no_base<'a>(sort: NameSort) -> Result<DeepBase<'a>, ReadError>
-    ensures value { Ended (λ x. base_tree x.tree) result (if spec.must_name (sort_place sort) then None else Some (Node form.Nothing none)) }
+    ensures value { Ended (λ x. base_tree x.tree) result (no_name sort) }
     ensures small { IfOk result (λ x. x.layers ≡ 0) }
 {
     if is_named(sort) {
@@ -228,7 +230,7 @@ fn suffixes(
     is_name: bool,
 ) -> Result<DeepSuffixes, ReadError>
     requires room { room < 401 }
-    ensures value { ReadsSuffixes result reader.new (spec.suffixes_from (less room) room (suc (left_at reader.old)) is_name none reader.old) }
+    ensures value { ReadsSuffixes result reader.new (all_suffixes room is_name reader.old) }
     ensures small { IfOk result (λ x. x.layers + 999 < 2 ^ 64) }
 {
     let mut list = DeepSuffixes::none(alloc);
@@ -316,7 +318,7 @@ fn array(alloc: Global, reader: &mut Reader, room: usize) -> Result<DeepSuffix, 
 #[tactic(auto, unfolding(c_tree::specs::Grammar::shape, c_tree::specs::Depth::below, c_tree::specs::Depth::layers, c_tree::specs::Depth::greatest_depth, c_tree::specs::Depth::is_of_declarator, c_tree::specs::Depth::layer, c_tree::specs::Depth::weight, c_tree::specs::Grammar::form_home))]
 fn maybe_length(alloc: Global, reader: &mut Reader, room: usize) -> Result<DeepMaybeExpr, ReadError>
     requires room { room < 401 }
-    ensures value { Reads (λ x. maybe form.MaybeLength expr_view x.tree) result reader.new (read room place.MaybeLength reader.old) }
+    ensures value { ReadsMaybeLength result reader.new (read room place.MaybeLength reader.old) }
     ensures deep { IfOk result (λ x. x.depth ≤ room) }
 {
     if reader.is_mark(Sign::RightBracket) {
@@ -413,7 +415,7 @@ fn params(alloc: Global, reader: &mut Reader, room: usize) -> Result<DeepParams,
 #[tactic(auto, using(crate::proofs::Steps::commas_step))]
 fn some_params(alloc: Global, reader: &mut Reader, room: usize) -> Result<DeepParams, ReadError>
     requires room { room < 401 }
-    ensures value { ReadsParams result reader.new (commas_from (spec.param_at (less room) room) goes_on form.Params (left_at reader.old) none reader.old) }
+    ensures value { ReadsParams result reader.new (some_params room reader.old) }
     ensures deep { IfOk result (λ x. x.depth ≤ room) }
 {
     let mut list = DeepParams::none(alloc);

@@ -9,8 +9,8 @@ ghost use Rattle.c_tree.specs.Places.{Expression};
 ghost use Rattle.c_tree.specs.StatementView.{expr_view};
 ghost use Rattle.grammar_reading.specs.Expressions as spec;
 ghost use Rattle.c_parser.specs.Growing.{Grows};
+ghost use Rattle.c_parser.specs.Rests.{comma_behind, binary_behind};
 ghost use Rattle.parser_parts.specs.Trees.{ReadsExpr};
-ghost use Rattle.grammar_reading.specs.Reading.{grown};
 ghost use Rattle.grammar_reading.specs.Rooms.{less, read};
 ghost use Rattle.c_parser.specs.Nodes.{is_unary_kind as unary_kind};
 
@@ -122,7 +122,7 @@ fn commas(
     requires room { room < 401 }
     requires some { 0 < room }
     requires fits { left.depth ≤ room }
-    ensures value { ReadsExpr result reader.new (spec.comma_from (less room) room room line (expr_view left.tree) reader.old) }
+    ensures value { ReadsExpr result reader.new (comma_behind room line left reader.old) }
     ensures deep { IfOk result (λ x. x.depth ≤ room) }
 {
     let mut whole = left;
@@ -284,7 +284,7 @@ fn operators(
     requires room { room < 401 }
     requires some { 0 < room }
     requires fits { left.depth ≤ room }
-    ensures value { ReadsExpr result reader.new (spec.binary_from (less room) room room level line (expr_view left.tree) reader.old) }
+    ensures value { ReadsExpr result reader.new (binary_behind room level line left reader.old) }
     ensures deep { IfOk result (λ x. x.depth ≤ room) }
 {
     let mut whole = left;

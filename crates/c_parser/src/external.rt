@@ -3,19 +3,15 @@
 //! Each function gives what the definition of its name in `Statements.antt` of `grammar_reading` reads; `room` is
 //! how deep the tree may be.
 
-ghost use Rattle.std.specs.Prelude.{◌≡◌, ◌<◌, ◌&&◌, not, is_some};
-ghost use Rattle.c_tree.specs.declared.word.Sign.TheVariants as s;
+ghost use Rattle.std.specs.Prelude.{◌≡◌, ◌<◌};
 ghost use Rattle.c_tree.specs.Forms as form;
-ghost use Rattle.c_tree.specs.Scopes.{params_of};
-ghost use Rattle.c_tree.specs.Depth.{most};
-ghost use Rattle.c_tree.specs.Tree.{Node, none, ◌▹◌};
-ghost use Rattle.c_tree.specs.View.{declarator_tree};
-ghost use Rattle.c_tree.specs.StatementView.{specs_view, names_view, body_view, decl_view};
+ghost use Rattle.c_tree.specs.StatementView.{declared_view, names_view};
 ghost use Rattle.parser_parts.specs.Gives.{Reads};
 ghost use Rattle.grammar_reading.specs.Reading.{fixed};
 ghost use Rattle.grammar_reading.specs.Rooms.{less};
-ghost use Rattle.grammar_reading.specs.State.{at_mark};
 ghost use Rattle.grammar_reading.specs.Statements as spec;
+ghost use Rattle.c_parser.specs.Readers.{ReadsBody, ReadsDecl};
+ghost use Rattle.c_parser.specs.Rests.{external_behind, declared_behind, function_behind, declaration_behind, names_behind};
 
 use crate::function::is_function;
 use crate::names::{declared, entry_rest, names_more};
@@ -38,7 +34,7 @@ struct Body {
 pub fn external(alloc: Global, reader: &mut Reader, room: usize) -> Result<Decl, ReadError>
     requires room { room < 401 }
     requires some { 0 < room }
-    ensures { Reads decl_view result reader.new (spec.external_at (less room) room reader.old) }
+    ensures { ReadsDecl result reader.new (spec.external_at (less room) room reader.old) }
 {
     let typedef = reader.is_typedef();
     let line = reader.line();
@@ -58,7 +54,7 @@ fn behind_specs(
 ) -> Result<Decl, ReadError>
     requires room { room < 401 }
     requires some { 0 < room }
-    ensures { Reads decl_view result reader.new (spec.external_from (less room) room line (specs_view words) reader.old) }
+    ensures { ReadsDecl result reader.new (external_behind room line words reader.old) }
 {
     if reader.is_mark(Sign::Semicolon) {
         return declaration(reader, line, words, Items::new(alloc));
@@ -78,9 +74,7 @@ fn behind_declarator(
 ) -> Result<Decl, ReadError>
     requires room { room < 401 }
     requires some { 0 < room }
-    ensures { Reads decl_view result reader.new
-        (spec.declared_from (less room) room line (specs_view words)
-        (Node form.Declared (declarator_tree declarator ▹ none)) reader.old) }
+    ensures { ReadsDecl result reader.new (declared_behind room line words declarator reader.old) }
 {
     if begins_body(reader, &declarator) {
         return function(alloc, reader, room, line, words, declarator);
@@ -92,9 +86,7 @@ fn behind_declarator(
 /// Says whether the body of a function stands behind a declarator.
 #[tactic(auto, using(crate::proofs::Functions::declared_params))]
 fn begins_body(reader: &Reader, declarator: &Declarator) -> bool
-    ensures { result ≡ (at_mark s.LeftBrace reader.now
-        && is_some (params_of (Node form.Declared (declarator_tree declarator.now ▹ none)))
-        && not reader.now.scope.typedef) }
+    ensures { result ≡ spec.begins_body (less 0) 0 (declared_view declarator.now) reader.now }
 {
     reader.is_mark(Sign::LeftBrace) && is_function(declarator) && !reader.is_typedef()
 }
@@ -106,8 +98,7 @@ fn declaration(
     words: Specs,
     entries: Items<(Declarator, Option<Init>)>,
 ) -> Result<Decl, ReadError>
-    ensures { Reads decl_view result reader.new
-        (spec.declaration_from (less most) most line (specs_view words) (names_view entries) reader.old) }
+    ensures { ReadsDecl result reader.new (declaration_behind line words entries reader.old) }
 {
     reader.mark(Sign::Semicolon)?;
     Ok(Decl::names(line, words, entries))
@@ -121,8 +112,7 @@ fn names_from(
     declarator: Declarator,
 ) -> Result<Items<(Declarator, Option<Init>)>, ReadError>
     requires room { room < 401 }
-    ensures { Reads names_view result reader.new
-        (spec.names_from (less room) room (Node form.Declared (declarator_tree declarator ▹ none)) reader.old) }
+    ensures { Reads names_view result reader.new (names_behind room declarator reader.old) }
 {
     let first = entry_rest(alloc, reader, room, declarator)?;
     let mut list = Items::new(alloc);
@@ -146,9 +136,7 @@ fn function(
 ) -> Result<Decl, ReadError>
     requires room { room < 401 }
     requires some { 0 < room }
-    ensures { Reads decl_view result reader.new
-        (spec.function_from (less room) room line (specs_view words)
-        (Node form.Declared (declarator_tree declarator ▹ none)) reader.old) }
+    ensures { ReadsDecl result reader.new (function_behind room line words declarator reader.old) }
 {
     let body = read_body(alloc, reader, room)?;
     Ok(Decl::function(line, words, declarator, body.items, body.end))
@@ -158,7 +146,7 @@ fn function(
 fn read_body(alloc: Global, reader: &mut Reader, room: usize) -> Result<Body, ReadError>
     requires room { room < 401 }
     requires some { 0 < room }
-    ensures { Reads (λ body. body_view body.items body.end) result reader.new (spec.body_at (less room) room reader.old) }
+    ensures { ReadsBody result reader.new (spec.body_at (less room) room reader.old) }
 {
     let outer = reader.enter();
     reader.declare_params()?;
@@ -172,7 +160,7 @@ fn read_body(alloc: Global, reader: &mut Reader, room: usize) -> Result<Body, Re
 fn open_body(alloc: Global, reader: &mut Reader, room: usize) -> Result<Body, ReadError>
     requires room { room < 401 }
     requires some { 0 < room }
-    ensures { Reads (λ body. body_view body.items body.end) result reader.new (fixed (less room) form.Body reader.old) }
+    ensures { ReadsBody result reader.new (fixed (less room) form.Body reader.old) }
 {
     reader.mark(Sign::LeftBrace)?;
     let list = items(alloc, reader, room - 1)?;

@@ -1,11 +1,10 @@
 //! Declarators of functions (C99 6.7.5.3 and 6.9.1).
 
 ghost use Rattle.std.specs.Prelude.{◌≡◌, is_some};
-ghost use Rattle.c_tree.specs.Forms as form;
 ghost use Rattle.c_tree.specs.Scopes.{params_of, suffix_params};
-ghost use Rattle.c_tree.specs.Tree.{Node, none, ◌▹◌};
+ghost use Rattle.c_tree.specs.Tree.{none, ◌▹◌};
 ghost use Rattle.c_tree.specs.View.{declarator_tree};
-ghost use Rattle.c_tree.specs.StatementView.{trees, suffix_view};
+ghost use Rattle.c_tree.specs.StatementView.{suffixes_view};
 
 use c_tree::{Base, Declarator, Suffix, SuffixKind};
 
@@ -27,7 +26,7 @@ pub fn is_function(declarator: &Declarator) -> bool
 /// Says whether the first of these suffixes is a parameter list.
 #[tactic(auto, unfolding(c_tree::specs::Scopes::suffix_params, c_tree::specs::View::suffix_tree))]
 fn begins_with_params(suffixes: &[Suffix]) -> bool
-    ensures { result ≡ is_some (suffix_params (Node form.Suffixes (trees suffix_view suffixes.now) ▹ none)) }
+    ensures { result ≡ is_some (suffix_params (suffixes_view suffixes.now ▹ none)) }
 {
     match suffixes {
         [] => false,

@@ -1,14 +1,13 @@
 //! Reading initializers and the names of declarations (C99 6.7 and 6.7.8).
 
-ghost use Rattle.std.specs.Prelude.{◌≡◌, ◌<◌, IfOk};
-ghost use Rattle.c_tree.specs.Forms as form;
+ghost use Rattle.std.specs.Prelude.{◌<◌};
 ghost use Rattle.c_tree.specs.Places as place;
-ghost use Rattle.c_tree.specs.Tree.{Node, none, ◌▹◌};
-ghost use Rattle.c_tree.specs.View.{declarator_tree};
-ghost use Rattle.c_tree.specs.StatementView.{trees, maybe, init_view, entry_view, names_view};
+ghost use Rattle.c_tree.specs.StatementView.{trees, init_view, inits_view, declared_view, entry_view, names_view};
+ghost use Rattle.c_parser.specs.Readers.{ReadsMaybeInit, Pushes};
+ghost use Rattle.c_parser.specs.Rests.{init_expr_at, entry_behind};
+ghost use Rattle.c_parser.specs.Rests as rests;
 ghost use Rattle.grammar_reading.specs.Declarators as spec;
 ghost use Rattle.parser_parts.specs.Gives.{Reads};
-ghost use Rattle.grammar_reading.specs.Reading.{fixed, commas_from, goes_on, snoc};
 ghost use Rattle.grammar_reading.specs.Rooms.{less, read};
 
 use crate::declarator::declarator;
@@ -36,7 +35,7 @@ fn init(alloc: Global, reader: &mut Reader, room: usize) -> Result<Init, ReadErr
 #[tactic(auto, unfolding(c_tree::specs::Grammar::shape))]
 fn init_value(alloc: Global, reader: &mut Reader, room: usize) -> Result<Init, ReadError>
     requires room { room < 401 }
-    ensures { Reads init_view result reader.new (fixed (spec.part_at (less room) room) form.InitExpr reader.old) }
+    ensures { Reads init_view result reader.new (init_expr_at room reader.old) }
 {
     let line = reader.line();
     let value = expression(alloc, reader, room, ASSIGNMENT)?;
@@ -66,7 +65,7 @@ fn init_list(alloc: Global, reader: &mut Reader, room: usize) -> Result<Init, Re
 #[tactic(auto, using(crate::proofs::Steps::commas_step))]
 fn inits(alloc: Global, reader: &mut Reader, room: usize) -> Result<Vec<Init>, ReadError>
     requires room { room < 401 }
-    ensures { Reads (λ x. Node form.Inits (trees init_view x.items)) result reader.new (read room place.Inits reader.old) }
+    ensures { Reads (λ x. inits_view x.items) result reader.new (read room place.Inits reader.old) }
 {
     let mut list = Vec::new(alloc);
     let mut turns = reader.left();
@@ -85,7 +84,7 @@ fn inits(alloc: Global, reader: &mut Reader, room: usize) -> Result<Vec<Init>, R
 /// Puts an initializer behind others.
 #[tactic(auto, using(parser_parts::proofs::Parts::trees_behind))]
 fn push_init(list: &mut Vec<Init>, next: Init) -> Result<(), NoMemory>
-    ensures { IfOk result (λ _. trees init_view list.new.items ≡ snoc (trees init_view list.old.items) (init_view next)) }
+    ensures { Pushes (trees init_view) result list.old.items list.new.items (init_view next) }
 {
     list.push(next)?;
     Ok(())
@@ -95,7 +94,7 @@ fn push_init(list: &mut Vec<Init>, next: Init) -> Result<(), NoMemory>
 #[tactic(auto, unfolding(c_tree::specs::Grammar::shape))]
 fn maybe_init(alloc: Global, reader: &mut Reader, room: usize) -> Result<Option<Init>, ReadError>
     requires room { room < 401 }
-    ensures { Reads (maybe form.MaybeInit init_view) result reader.new (spec.maybe_init_at (less room) room reader.old) }
+    ensures { ReadsMaybeInit result reader.new (spec.maybe_init_at (less room) room reader.old) }
 {
     if !reader.has_init() {
         return Ok(None);
@@ -109,7 +108,7 @@ fn maybe_init(alloc: Global, reader: &mut Reader, room: usize) -> Result<Option<
 #[tactic(auto, unfolding(c_tree::specs::Grammar::shape, c_tree::specs::Scopes::name_among))]
 pub fn declared(alloc: Global, reader: &mut Reader, room: usize) -> Result<Declarator, ReadError>
     requires room { room < 401 }
-    ensures { Reads (λ d. Node form.Declared (declarator_tree d ▹ none)) result reader.new (spec.declared_at (less room) room reader.old) }
+    ensures { Reads declared_view result reader.new (spec.declared_at (less room) room reader.old) }
 {
     let is_type = reader.is_typedef();
     let d = declarator(alloc, reader, room, NameSort::Named)?;
@@ -125,7 +124,7 @@ pub fn entry_rest(
     declarator: Declarator,
 ) -> Result<(Declarator, Option<Init>), ReadError>
     requires room { room < 401 }
-    ensures { Reads entry_view result reader.new (spec.entry_from (less room) room (Node form.Declared (declarator_tree declarator ▹ none)) reader.old) }
+    ensures { Reads entry_view result reader.new (entry_behind room declarator reader.old) }
 {
     let value = maybe_init(alloc, reader, room)?;
     Ok((declarator, value))
@@ -154,7 +153,7 @@ pub fn names_more(
     some: Items<(Declarator, Option<Init>)>,
 ) -> Result<Items<(Declarator, Option<Init>)>, ReadError>
     requires room { room < 401 }
-    ensures { Reads names_view result reader.new (commas_from (spec.entry_at (less room) room) goes_on form.Names most (trees entry_view some) reader.old) }
+    ensures { Reads names_view result reader.new (rests.names_more room most some reader.old) }
 {
     let mut list = some;
     let mut turns = most;
@@ -176,7 +175,7 @@ fn push_entry(
     list: &mut Items<(Declarator, Option<Init>)>,
     next: (Declarator, Option<Init>),
 ) -> Result<(), NoMemory>
-    ensures { IfOk result (λ _. trees entry_view list.new ≡ snoc (trees entry_view list.old) (entry_view next)) }
+    ensures { Pushes (trees entry_view) result list.old list.new (entry_view next) }
 {
     list.push(next)?;
     Ok(())

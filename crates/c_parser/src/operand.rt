@@ -5,8 +5,8 @@
 
 ghost use Rattle.std.specs.Prelude.{◌≡◌, ◌<◌, ◌≤◌, IfOk};
 ghost use Rattle.c_tree.specs.Forms as form;
-ghost use Rattle.c_tree.specs.StatementView.{expr_view};
 ghost use Rattle.grammar_reading.specs.Expressions as spec;
+ghost use Rattle.grammar_reading.specs.Expressions.{primary_by};
 ghost use Rattle.parser_parts.specs.Trees.{ReadsExpr};
 ghost use Rattle.grammar_reading.specs.State.{kind_at};
 ghost use Rattle.grammar_reading.specs.declared.kind.Kind.TheVariants as kinds;
@@ -236,7 +236,7 @@ fn name(alloc: Global, reader: &mut Reader, room: usize) -> Result<DeepExpr, Rea
     requires room { room < 401 }
     requires some { 0 < room }
     requires kind { kind_at reader.old ≡ kinds.Name }
-    ensures value { ReadsExpr result reader.new (spec.primary_by (less room) room kinds.Name reader.old) }
+    ensures value { ReadsExpr result reader.new (primary_by (less room) room kinds.Name reader.old) }
     ensures deep { IfOk result (λ x. x.depth ≤ room) }
 {
     if reader.is_type() {
@@ -255,7 +255,7 @@ fn int(alloc: Global, reader: &mut Reader, room: usize) -> Result<DeepExpr, Read
     requires room { room < 401 }
     requires some { 0 < room }
     requires kind { kind_at reader.old ≡ kinds.Int }
-    ensures value { ReadsExpr result reader.new (spec.primary_by (less room) room kinds.Int reader.old) }
+    ensures value { ReadsExpr result reader.new (primary_by (less room) room kinds.Int reader.old) }
     ensures deep { IfOk result (λ x. x.depth ≤ room) }
 {
     let line = reader.line();
@@ -271,7 +271,7 @@ fn character(alloc: Global, reader: &mut Reader, room: usize) -> Result<DeepExpr
     requires room { room < 401 }
     requires some { 0 < room }
     requires kind { kind_at reader.old ≡ kinds.Char }
-    ensures value { ReadsExpr result reader.new (spec.primary_by (less room) room kinds.Char reader.old) }
+    ensures value { ReadsExpr result reader.new (primary_by (less room) room kinds.Char reader.old) }
     ensures deep { IfOk result (λ x. x.depth ≤ room) }
 {
     let line = reader.line();
@@ -286,7 +286,7 @@ fn character(alloc: Global, reader: &mut Reader, room: usize) -> Result<DeepExpr
 fn literals(alloc: Global, reader: &mut Reader, room: usize) -> Result<DeepExpr, ReadError>
     requires room { room < 401 }
     requires some { 0 < room }
-    ensures value { ReadsExpr result reader.new (spec.primary_by (less room) room kinds.Str reader.old) }
+    ensures value { ReadsExpr result reader.new (primary_by (less room) room kinds.Str reader.old) }
     ensures deep { IfOk result (λ x. x.depth ≤ room) }
 {
     let line = reader.line();

@@ -11,6 +11,7 @@ ghost use Rattle.parser_parts.specs.Gives.{Reads};
 ghost use Rattle.grammar_reading.specs.Reading.{fixed, unflagged};
 ghost use Rattle.grammar_reading.specs.Rooms.{less, read};
 ghost use Rattle.grammar_reading.specs.Statements as spec;
+ghost use Rattle.c_parser.specs.Rests.{for_names_at, for_start_at};
 
 use crate::expression::expression;
 use crate::levels::COMMA;
@@ -147,7 +148,7 @@ pub fn for_start(alloc: Global, reader: &mut Reader, room: usize) -> Result<ForS
 #[tactic(auto, unfolding(c_tree::specs::Grammar::shape))]
 fn for_names(alloc: Global, reader: &mut Reader, room: usize) -> Result<ForStart, ReadError>
     requires room { room < 401 }
-    ensures { Reads start_view result reader.new (unflagged (fixed (spec.for_names_part (less room) room) form.ForNames) reader.old) }
+    ensures { Reads start_view result reader.new (for_names_at room reader.old) }
 {
     let typedef = reader.is_typedef();
     let words = specs(alloc, reader, room)?;
@@ -161,7 +162,7 @@ fn for_names(alloc: Global, reader: &mut Reader, room: usize) -> Result<ForStart
 #[tactic(auto, unfolding(c_tree::specs::Grammar::shape))]
 fn for_expr(alloc: Global, reader: &mut Reader, room: usize) -> Result<ForStart, ReadError>
     requires room { room < 401 }
-    ensures { Reads start_view result reader.new (fixed (spec.for_names_part (less room) room) form.ForStart reader.old) }
+    ensures { Reads start_view result reader.new (for_start_at room reader.old) }
 {
     let value = maybe_expr(alloc, reader, room)?;
     reader.mark(Sign::Semicolon)?;

@@ -3,18 +3,16 @@
 //! Each function gives what the definition of its name in `Expressions.antt` of `grammar_reading` reads. `room` is
 //! how deep the tree may be; `turns` is how often a chain may still grow, which each growth takes from `room`.
 
-ghost use Rattle.std.specs.Prelude.{◌≡◌, ◌<◌, ◌≤◌, IfOk};
+ghost use Rattle.std.specs.Prelude.{◌<◌, ◌≤◌, IfOk};
 ghost use Rattle.c_tree.specs.Forms as form;
 ghost use Rattle.c_tree.specs.Places.{Arguments};
-ghost use Rattle.c_tree.specs.Tree.{Node, none};
-ghost use Rattle.c_tree.specs.StatementView.{trees, expr_view};
+ghost use Rattle.c_tree.specs.Tree.{none};
 ghost use Rattle.grammar_reading.specs.Expressions as spec;
 ghost use Rattle.c_parser.specs.Growing.{Grows};
+ghost use Rattle.c_parser.specs.Rests.{postfix_behind, some_arguments};
 ghost use Rattle.parser_parts.specs.Trees.{ReadsArguments, ReadsExpr};
-ghost use Rattle.grammar_reading.specs.Reading.{grown, commas_from, goes_on};
 ghost use Rattle.grammar_reading.specs.Rooms.{less, read};
 ghost use Rattle.parser_parts.specs.Signs.{postfix_form};
-ghost use Rattle.grammar_reading.specs.State.{left_at};
 
 use crate::expression::expression;
 use crate::levels::{ASSIGNMENT, COMMA};
@@ -49,7 +47,7 @@ fn postfixes(
     requires room { room < 401 }
     requires some { 0 < room }
     requires fits { left.depth ≤ room }
-    ensures value { ReadsExpr result reader.new (spec.postfix_from (less room) room room line (expr_view left.tree) reader.old) }
+    ensures value { ReadsExpr result reader.new (postfix_behind room line left reader.old) }
     ensures deep { IfOk result (λ x. x.depth ≤ room) }
 {
     let mut whole = left;
@@ -248,7 +246,7 @@ fn arguments(alloc: Global, reader: &mut Reader, room: usize) -> Result<DeepExpr
 #[tactic(auto, using(crate::proofs::Steps::commas_step))]
 fn some_arguments(alloc: Global, reader: &mut Reader, room: usize) -> Result<DeepExprs, ReadError>
     requires room { room < 401 }
-    ensures value { ReadsArguments result reader.new (commas_from (spec.argument_at (less room) room) goes_on form.Arguments (left_at reader.old) none reader.old) }
+    ensures value { ReadsArguments result reader.new (some_arguments room reader.old) }
     ensures deep { IfOk result (λ x. x.depth ≤ room) }
 {
     let mut list = DeepExprs::none(alloc);

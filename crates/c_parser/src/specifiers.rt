@@ -1,20 +1,20 @@
 //! Reading specs (C99 6.7.1 and 6.7.2).
 
-ghost use Rattle.std.specs.Prelude.{◌≡◌, ◌<◌, ◌≤◌, ◌+◌, ◌^◌, suc, if◌then◌else◌, Some, None, IfOk};
-ghost use Rattle.c_tree.specs.Forms as form;
-ghost use Rattle.c_tree.specs.Allowed.{no_words};
+ghost use Rattle.std.specs.Prelude.{◌≡◌, ◌<◌, ◌≤◌, ◌+◌, ◌^◌, IfOk};
 ghost use Rattle.c_tree.specs.Scopes as scopes;
-ghost use Rattle.c_tree.specs.Tree.{Leaf, At, Node, none, ◌▹◌};
+ghost use Rattle.c_tree.specs.Tree.{Leaf};
 ghost use Rattle.c_tree.specs.View.{spec_tree};
 ghost use Rattle.c_tree.specs.StatementView.{trees, specs_view};
 ghost use Rattle.grammar_reading.specs.Declarators as spec;
+ghost use Rattle.grammar_reading.specs.Declarators.{with_key};
 ghost use Rattle.parser_parts.specs.Gives.{Ended};
 ghost use Rattle.parser_parts.specs.Trees.{ReadsSpecs, ReadsWords};
 ghost use Rattle.c_parser.specs.Nodes.{is_typedef_word};
-ghost use Rattle.c_parser.specs.Pieces.{is_end as spec_is_end, one_word_at};
-ghost use Rattle.grammar_reading.specs.Reading.{snoc};
+ghost use Rattle.c_parser.specs.Pieces.{is_end as spec_is_end};
+ghost use Rattle.c_parser.specs.Readers.{AddsWord};
+ghost use Rattle.c_parser.specs.Rests.{all_specs, word_behind, keyword_behind, name_behind, specs_of};
 ghost use Rattle.grammar_reading.specs.Rooms.{less};
-ghost use Rattle.grammar_reading.specs.State.{word_at, kind_at, line_at, left_at};
+ghost use Rattle.grammar_reading.specs.State.{word_at, kind_at};
 ghost use Rattle.parser_parts.specs.Tallies.{tally_of, total};
 ghost use Rattle.grammar_reading.specs.declared.kind.SpecStart.TheVariants as starts;
 
@@ -62,7 +62,7 @@ fn specs_by(
     plain: bool,
 ) -> Result<DeepSpecs, ReadError>
     requires room { room < 401 }
-    ensures value { ReadsSpecs result reader.new (spec.specs_from (less room) room (suc (left_at reader.old)) plain no_words (At (line_at reader.old) ▹ none) reader.old) }
+    ensures value { ReadsSpecs result reader.new (all_specs room plain reader.old) }
     ensures deep { IfOk result (λ x. x.depth ≤ room) }
 {
     let line = reader.line();
@@ -106,7 +106,7 @@ fn one_more(
     requires start { start ≡ spec.spec_at (tally_of tally) reader.old }
     requires small { total tally + 1 < 2 ^ 64 }
     requires fits { words.depth ≤ room }
-    ensures value { ReadsWords result reader.new (one_word_at (less room) room (tally_of tally) (trees spec_tree words.list.items) start reader.old) }
+    ensures value { ReadsWords result reader.new (word_behind room tally words start reader.old) }
     ensures total { IfOk result (λ x. total x.0 ≤ total tally + 1) }
     ensures deep { IfOk result (λ x. x.1.depth ≤ room) }
 {
@@ -138,7 +138,7 @@ fn keyword_more(
     requires start { spec.spec_at (tally_of tally) reader.old ≡ starts.Word }
     requires small { total tally + 1 < 2 ^ 64 }
     requires fits { words.depth ≤ room }
-    ensures value { ReadsWords result reader.new (one_word_at (less room) room (tally_of tally) (trees spec_tree words.list.items) starts.Word reader.old) }
+    ensures value { ReadsWords result reader.new (keyword_behind room tally words reader.old) }
     ensures total { IfOk result (λ x. total x.0 ≤ total tally + 1) }
     ensures deep { IfOk result (λ x. x.1.depth ≤ room) }
 {
@@ -160,7 +160,7 @@ fn name_more(
     requires start { spec.spec_at (tally_of tally) reader.old ≡ starts.TypedefName }
     requires small { total tally + 1 < 2 ^ 64 }
     requires fits { words.depth ≤ room }
-    ensures value { ReadsWords result reader.new (one_word_at (less room) room (tally_of tally) (trees spec_tree words.list.items) starts.TypedefName reader.old) }
+    ensures value { ReadsWords result reader.new (name_behind room tally words reader.old) }
     ensures total { IfOk result (λ x. total x.0 ≤ total tally + 1) }
     ensures deep { IfOk result (λ x. x.1.depth ≤ room) }
 {
@@ -179,7 +179,7 @@ fn ended_specs(
     words: DeepWords,
 ) -> Result<DeepSpecs, ReadError>
     requires { total tally < 2 ^ 64 }
-    ensures value { Ended (λ x. specs_view x.tree) result (if spec.may_stand plain (tally_of tally) then Some (Node form.Specs (At line ▹ trees spec_tree words.list.items)) else None) }
+    ensures value { Ended (λ x. specs_view x.tree) result (specs_of plain tally line words) }
     ensures depth { IfOk result (λ x. x.depth ≡ words.depth) }
 {
     if !may_stand(plain, tally) {
@@ -238,9 +238,9 @@ fn spec_key(keyword: Keyword) -> SpecStart
 fn one_word(reader: &Reader, tally: Tally, words: DeepWords) -> Result<(Tally, DeepWords), NoMemory>
     requires start { spec.spec_at (tally_of tally) reader.now ≡ starts.Word }
     requires small { total tally + 1 < 2 ^ 64 }
-    ensures tally { IfOk result (λ x. tally_of x.0 ≡ spec.with_key (kind_at reader.now) (tally_of tally)) }
+    ensures tally { IfOk result (λ x. tally_of x.0 ≡ with_key (kind_at reader.now) (tally_of tally)) }
     ensures total { IfOk result (λ x. total x.0 ≤ total tally + 1) }
-    ensures list { IfOk result (λ x. trees spec_tree x.1.list.items ≡ snoc (trees spec_tree words.list.items) (Leaf (word_at reader.now))) }
+    ensures list { AddsWord result words (Leaf (word_at reader.now)) }
     ensures depth { IfOk result (λ x. x.1.depth ≡ words.depth) }
 {
     match reader.kind() {

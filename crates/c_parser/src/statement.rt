@@ -3,21 +3,19 @@
 //! Each function gives what the definition of its form in `Statements.antt` of `grammar_reading` reads; `room` is
 //! how deep the tree may be.
 
-ghost use Rattle.std.specs.Prelude.{◌≡◌, ◌<◌, zero, [], ◌∷◌, drop, IfOk, option_map};
+ghost use Rattle.std.specs.Prelude.{◌<◌};
 ghost use Rattle.c_tree.specs.Forms as form;
 ghost use Rattle.c_tree.specs.Places.{Statement, Branch, Items as ItemsPlace};
-ghost use Rattle.c_tree.specs.Grammar.{Part, mark, shape};
-ghost use Rattle.c_tree.specs.declared.word.Keyword.TheVariants as k;
-ghost use Rattle.c_tree.specs.declared.word.Sign.TheVariants as s;
-ghost use Rattle.c_tree.specs.Tree.{Node, At, none, ◌▹◌};
-ghost use Rattle.c_tree.specs.StatementView.{trees, expr_view, maybe_expr as maybe_expr_view, stmt_view};
-ghost use Rattle.grammar_reading.specs.State.{at_key};
+ghost use Rattle.c_tree.specs.StatementView.{trees, items_view, stmt_view};
 ghost use Rattle.parser_parts.specs.Gives.{Reads};
-ghost use Rattle.grammar_reading.specs.Reading.{fixed, parts_of, scoped, snoc};
+ghost use Rattle.grammar_reading.specs.Reading.{fixed, scoped};
 ghost use Rattle.grammar_reading.specs.Rooms.{less, read};
 ghost use Rattle.grammar_reading.specs.Statements as spec;
 ghost use Rattle.c_parser.specs.Ends.{Ends};
-ghost use Rattle.c_parser.specs.Pieces.{else_part, open_at};
+ghost use Rattle.c_parser.specs.Pieces.{open_at};
+ghost use Rattle.c_parser.specs.Readers.{ReadsForRest, ReadsForStep, ReadsEnclosed, ReadsElse, Pushes};
+ghost use Rattle.c_parser.specs.Rests.{if_behind, else_at, for_behind};
+ghost use Rattle.c_parser.specs.Rests as rests;
 
 use crate::expression::expression;
 use crate::levels::{COMMA, CONDITION};
@@ -69,7 +67,7 @@ fn by_keyword(
 ) -> Result<Stmt, ReadError>
     requires room { room < 401 }
     requires some { 0 < room }
-    ensures { Reads stmt_view result reader.new (spec.formed (less room) room (spec.statement_key keyword) reader.old) }
+    ensures { Reads stmt_view result reader.new (rests.by_keyword room keyword reader.old) }
 {
     match keyword {
         Keyword::DelayFrees => compound(alloc, reader, room, Keyword::DelayFrees),
@@ -230,7 +228,7 @@ fn otherwise(
 ) -> Result<Stmt, ReadError>
     requires room { room < 401 }
     requires some { 0 < room }
-    ensures { Reads stmt_view result reader.new (spec.else_by (less room) room (At line ▹ expr_view test ▹ stmt_view body ▹ none) (at_key k.Else reader.old) reader.old) }
+    ensures { Reads stmt_view result reader.new (if_behind room line test body reader.old) }
 {
     let other = else_branch(alloc, reader, room)?;
     let stmt = Stmt::branch(alloc, line, test, body, other)?;
@@ -244,7 +242,7 @@ fn otherwise(
 fn else_branch(alloc: Global, reader: &mut Reader, room: usize) -> Result<Option<Stmt>, ReadError>
     requires room { room < 401 }
     requires some { 0 < room }
-    ensures { Reads (option_map stmt_view) result reader.new (else_part (less room) room (at_key k.Else reader.old) reader.old) }
+    ensures { ReadsElse result reader.new (else_at room reader.old) }
 {
     if !reader.take_else() {
         return Ok(None);
@@ -324,7 +322,7 @@ struct ForRest {
 fn for_rest(alloc: Global, reader: &mut Reader, room: usize) -> Result<ForRest, ReadError>
     requires room { room < 401 }
     requires some { 0 < room }
-    ensures { Reads (λ x. maybe_expr_view x.test ▹ maybe_expr_view x.step ▹ stmt_view x.body ▹ none) result reader.new (parts_of (less room) (drop 4 (shape form.For zero)) reader.old) }
+    ensures { ReadsForRest result reader.new (for_behind room 4 reader.old) }
 {
     let test = maybe_expr(alloc, reader, room - 1)?;
     let (step, body) = for_step(alloc, reader, room)?;
@@ -342,7 +340,7 @@ fn for_step(
 ) -> Result<(Option<Expr>, Stmt), ReadError>
     requires room { room < 401 }
     requires some { 0 < room }
-    ensures { Reads (λ x. maybe_expr_view x.0 ▹ stmt_view x.1 ▹ none) result reader.new (parts_of (less room) (drop 5 (shape form.For zero)) reader.old) }
+    ensures { ReadsForStep result reader.new (for_behind room 5 reader.old) }
 {
     reader.mark(Sign::Semicolon)?;
     let step = maybe_expr(alloc, reader, room - 1)?;
@@ -356,7 +354,7 @@ fn for_step(
 fn enclosed_body(alloc: Global, reader: &mut Reader, room: usize) -> Result<Stmt, ReadError>
     requires room { room < 401 }
     requires some { 0 < room }
-    ensures { Reads (λ body. stmt_view body ▹ none) result reader.new (parts_of (less room) (mark s.RightParen ∷ Part Branch ∷ []) reader.old) }
+    ensures { ReadsEnclosed result reader.new (rests.enclosed_body room reader.old) }
 {
     reader.mark(Sign::RightParen)?;
     let body = branch(alloc, reader, room - 1)?;
@@ -421,7 +419,7 @@ fn default_case(alloc: Global, reader: &mut Reader, room: usize) -> Result<Stmt,
 #[tactic(auto, using(crate::proofs::Steps::list_step))]
 pub fn items(alloc: Global, reader: &mut Reader, room: usize) -> Result<Vec<Stmt>, ReadError>
     requires room { room < 401 }
-    ensures { Reads (λ list. Node form.Items (trees stmt_view list.items)) result reader.new (read room ItemsPlace reader.old) }
+    ensures { Reads (λ all. items_view all.items) result reader.new (read room ItemsPlace reader.old) }
 {
     let mut list = Vec::new(alloc);
     let mut turns = reader.left() + 1;
@@ -439,7 +437,7 @@ pub fn items(alloc: Global, reader: &mut Reader, room: usize) -> Result<Vec<Stmt
 /// Puts a statement behind others.
 #[tactic(auto, using(parser_parts::proofs::Parts::trees_behind))]
 fn push(list: &mut Vec<Stmt>, stmt: Stmt) -> Result<(), NoMemory>
-    ensures { IfOk result (λ _. trees stmt_view list.new.items ≡ snoc (trees stmt_view list.old.items) (stmt_view stmt)) }
+    ensures { Pushes (trees stmt_view) result list.old.items list.new.items (stmt_view stmt) }
 {
     list.push(stmt)?;
     Ok(())

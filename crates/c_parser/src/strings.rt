@@ -1,14 +1,14 @@
 //! String literals one behind another.
 
-ghost use Rattle.std.specs.Prelude.{◌≡◌, IfOk};
-ghost use Rattle.c_tree.specs.Forms as form;
-ghost use Rattle.c_tree.specs.Tree.{Leaf, Node};
+ghost use Rattle.std.specs.Prelude.{◌≡◌};
+ghost use Rattle.c_tree.specs.Tree.{Leaf};
 ghost use Rattle.c_tree.specs.View.{literal_leaves};
+ghost use Rattle.c_tree.specs.StatementView.{strings_view};
 ghost use Rattle.c_tree.specs.Words.{Str};
 ghost use Rattle.grammar_reading.specs.Expressions as spec;
 ghost use Rattle.parser_parts.specs.Gives.{Reads};
 ghost use Rattle.c_parser.specs.Pieces.{is_literal as spec_is_literal};
-ghost use Rattle.grammar_reading.specs.Reading.{snoc};
+ghost use Rattle.c_parser.specs.Readers.{Pushes};
 
 use grammar_reading::Kind;
 use hs_base::{Items, NoMemory};
@@ -18,7 +18,7 @@ use std::alloc::Global;
 /// String literals, by their spellings.
 #[tactic(auto, using(crate::proofs::Loops::strings_go_on, crate::proofs::Loops::strings_end))]
 pub fn strings(alloc: Global, reader: &mut Reader) -> Result<Items<Items<u8>>, ReadError>
-    ensures { Reads (λ x. Node form.Strings (literal_leaves x)) result reader.new (spec.strings_at reader.old) }
+    ensures { Reads strings_view result reader.new (spec.strings_at reader.old) }
 {
     let mut list = Items::new(alloc);
     let mut turns = reader.left() + 1;
@@ -37,7 +37,7 @@ pub fn strings(alloc: Global, reader: &mut Reader) -> Result<Items<Items<u8>>, R
 /// Puts a string literal behind others.
 #[tactic(auto, using(parser_parts::proofs::Parts::leaves_behind))]
 fn push(list: &mut Items<Items<u8>>, literal: Items<u8>) -> Result<(), NoMemory>
-    ensures { IfOk result (λ _. literal_leaves list.new ≡ snoc (literal_leaves list.old) (Leaf (Str literal))) }
+    ensures { Pushes literal_leaves result list.old list.new (Leaf (Str literal)) }
 {
     list.push(literal)?;
     Ok(())

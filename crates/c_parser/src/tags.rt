@@ -1,16 +1,15 @@
 //! Reading tags, members and enumerators (C99 6.7.2.1 and 6.7.2.2).
 
-ghost use Rattle.std.specs.Prelude.{◌≡◌, ◌<◌, ◌≤◌, false, take, IfOk};
+ghost use Rattle.std.specs.Prelude.{◌<◌, ◌≤◌, false, IfOk};
 ghost use Rattle.c_tree.specs.Forms as form;
 ghost use Rattle.c_tree.specs.Grammar.{shape};
 ghost use Rattle.c_tree.specs.Places as place;
-ghost use Rattle.c_tree.specs.Tree.{Node};
-ghost use Rattle.c_tree.specs.View.{enumerator_tree, declarator_tree};
-ghost use Rattle.c_tree.specs.StatementView.{trees, maybe, expr_view, tag_view, member_view};
 ghost use Rattle.grammar_reading.specs.Declarators as spec;
-ghost use Rattle.parser_parts.specs.Gives.{Reads};
+ghost use Rattle.grammar_reading.specs.Declarators.{member_names_at, maybe_value_at};
+ghost use Rattle.c_parser.specs.Readers.{ReadsMaybeValue};
+ghost use Rattle.c_parser.specs.Rests.{enum_body_at};
 ghost use Rattle.parser_parts.specs.Trees.{ReadsEnumerator, ReadsEnumerators, ReadsMember, ReadsMemberNames, ReadsMembers, ReadsTag};
-ghost use Rattle.grammar_reading.specs.Reading.{ending, parts_of, fixed};
+ghost use Rattle.grammar_reading.specs.Reading.{fixed};
 ghost use Rattle.grammar_reading.specs.Rooms.{less, read};
 
 use crate::declarator::declarator;
@@ -127,7 +126,7 @@ fn enum_tag(alloc: Global, reader: &mut Reader, room: usize) -> Result<DeepTag, 
 #[tactic(auto, using(crate::proofs::Steps::less_step, crate::proofs::Steps::less_none, crate::proofs::Steps::guarded_step), unfolding(c_tree::specs::Grammar::shape, c_tree::specs::Depth::below, c_tree::specs::Depth::layers, c_tree::specs::Depth::greatest_depth, c_tree::specs::Depth::is_of_declarator, c_tree::specs::Depth::layer, c_tree::specs::Depth::weight, c_tree::specs::Grammar::form_home))]
 fn enum_body(alloc: Global, reader: &mut Reader, room: usize) -> Result<DeepTag, ReadError>
     requires room { room < 401 }
-    ensures value { ReadsTag result reader.new (ending form.EnumBody (parts_of (less room) (take 5 (shape (form.EnumBody false) 0)) reader.old)) }
+    ensures value { ReadsTag result reader.new (enum_body_at room reader.old) }
     ensures deep { IfOk result (λ x. x.depth ≤ room) }
 {
     let line = reader.line();
@@ -199,7 +198,7 @@ fn member_names(
     room: usize,
 ) -> Result<DeepDeclarators, ReadError>
     requires room { room < 401 }
-    ensures value { ReadsMemberNames result reader.new (spec.member_names_at (less room) room reader.old) }
+    ensures value { ReadsMemberNames result reader.new (member_names_at (less room) room reader.old) }
     ensures deep { IfOk result (λ x. x.depth ≤ room) }
 {
     let mut list = DeepDeclarators::none(alloc);
@@ -265,7 +264,7 @@ fn enumerator(alloc: Global, reader: &mut Reader, room: usize) -> Result<DeepEnu
 #[tactic(auto, unfolding(c_tree::specs::Grammar::shape, c_tree::specs::Depth::below, c_tree::specs::Depth::layers, c_tree::specs::Depth::greatest_depth, c_tree::specs::Depth::is_of_declarator, c_tree::specs::Depth::layer, c_tree::specs::Depth::weight, c_tree::specs::Grammar::form_home))]
 fn maybe_value(alloc: Global, reader: &mut Reader, room: usize) -> Result<DeepMaybeExpr, ReadError>
     requires room { room < 401 }
-    ensures value { Reads (λ x. maybe form.MaybeValue expr_view x.tree) result reader.new (spec.maybe_value_at (less room) room reader.old) }
+    ensures value { ReadsMaybeValue result reader.new (maybe_value_at (less room) room reader.old) }
     ensures deep { IfOk result (λ x. x.depth ≤ room) }
 {
     if !reader.is_mark(Sign::Equal) {

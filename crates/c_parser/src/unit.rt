@@ -1,13 +1,12 @@
 //! Reading a text (C99 6.9).
 
 ghost use Rattle.std.specs.Prelude.{◌≡◌, Some, IfOk, IfErr};
-ghost use Rattle.c_tree.specs.Depth.{most};
 ghost use Rattle.c_tree.specs.Tree.{none};
 ghost use Rattle.c_tree.specs.StatementView.{trees, decl_view, unit_view};
-ghost use Rattle.grammar_reading.specs.Reading.{snoc};
 ghost use Rattle.c_parser.specs.Parses.{IsOnlyTree, IsRefused};
-ghost use Rattle.grammar_reading.specs.Rooms.{less, Whole, text_from};
-ghost use Rattle.grammar_reading.specs.Statements.{external_at};
+ghost use Rattle.grammar_reading.specs.Rooms.{Whole, text_from};
+ghost use Rattle.c_parser.specs.Readers.{Pushes};
+ghost use Rattle.c_parser.specs.Rests.{next_external};
 ghost use Rattle.c_parser.specs.Told.{IsMissing, IsStopped};
 
 use crate::error::ParseError;
@@ -44,7 +43,7 @@ pub fn parse(alloc: Global, tokens: &[Token]) -> Result<Unit, ParseError>
 /// External declarations up to the end of the text, at most so many.
 #[tactic(auto, using(crate::proofs::Texts::text_step))]
 fn externals(alloc: Global, reader: &mut Reader, turns: usize) -> Result<Items<Decl>, ParseError>
-    ensures tree { IfOk result (λ list. text_from turns none reader.old ≡ Whole (trees decl_view list)) }
+    ensures tree { IfOk result (λ all. text_from turns none reader.old ≡ Whole (trees decl_view all)) }
     ensures stopped { IfErr result (IsStopped (text_from turns none reader.old)) }
 {
     let mut list = Items::new(alloc);
@@ -66,7 +65,7 @@ fn externals(alloc: Global, reader: &mut Reader, turns: usize) -> Result<Items<D
 
 /// The next external declaration.
 fn next(alloc: Global, reader: &mut Reader) -> Result<Decl, ParseError>
-    ensures tree { IfOk result (λ decl. external_at (less most) most reader.old ≡ Some (decl_view decl, reader.new)) }
+    ensures tree { IfOk result (λ decl. next_external reader.old ≡ Some (decl_view decl, reader.new)) }
     ensures stopped { IfErr result (IsMissing reader.old) }
 {
     let line = reader.line();
@@ -80,7 +79,7 @@ fn next(alloc: Global, reader: &mut Reader) -> Result<Decl, ParseError>
 /// Puts a declaration behind others.
 #[tactic(auto, using(parser_parts::proofs::Parts::trees_behind))]
 fn push(list: &mut Items<Decl>, decl: Decl) -> Result<(), NoMemory>
-    ensures { IfOk result (λ _. trees decl_view list.new ≡ snoc (trees decl_view list.old) (decl_view decl)) }
+    ensures { Pushes (trees decl_view) result list.old list.new (decl_view decl) }
 {
     list.push(decl)?;
     Ok(())

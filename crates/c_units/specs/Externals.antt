@@ -1,6 +1,8 @@
 -- The external declarations of a unit as they stand in the program (C99 6.9).
 use Rattle.std.specs.Prelude.{ℕ, Bool, true, false, ◌||◌, if◌then◌else◌, bytes_eq, codes, decimal, List, [], ◌∷◌, ◌++◌, Option, Some, None}
 use Rattle.c_tree.specs.declared.word.Keyword.TheVariants as k
+use Rattle.c_tree.specs.declared.tree.Declarator.{Declarator}
+use Rattle.c_tree.specs.View.{declarator_tree}
 use Rattle.c_tree.specs.Words.{Word, Key}
 use Rattle.c_tree.specs.Words as w
 use Rattle.c_tree.specs.Forms as f
@@ -33,6 +35,10 @@ has_static (tree ▹ rest) = has_static rest
 abbrev pub but_main : Option (List ℕ) → List (List ℕ)
 but_main None = []
 but_main (Some name) = if bytes_eq name (codes "main") then [] else name ∷ []
+
+-- the same of a declarator
+abbrev pub noted_name : Declarator → List (List ℕ)
+noted_name declarator = but_main (name_of (declarator_tree declarator))
 
 unfoldable pub entry_names : Trees → List (List ℕ)
 entry_names (Node f.Entry (declared ▹ rest) ▹ more) = but_main (name_of declared) ++ entry_names more
@@ -162,6 +168,10 @@ each_said (tree ▹ rest) s =
 -- the suffix of the unit of this number: a dot, which no name of a text has, and the number
 abbrev pub suffix_of : ℕ → List ℕ
 suffix_of number = codes "." ++ decimal number
+
+-- names with a suffix, of which these are a unit's own, where nothing is declared yet
+abbrev pub names_at_start : List (List ℕ) → List ℕ → Names
+names_at_start own suffix = record { own = own; suffix = suffix; known = []; inside = false; mentions = [] }
 
 -- before the first external declaration of a unit
 abbrev pub unit_names : ℕ → Trees → Names

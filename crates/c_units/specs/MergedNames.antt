@@ -12,6 +12,9 @@ abbrev pub joined_all : List Trees → Trees
 joined_all [] = none
 joined_all (unit ∷ units) = joined unit (joined_all units)
 
+abbrev pub units_joined : List Code → Trees
+units_joined units = joined_all (map unit_view units)
+
 abbrev pub MergesRename : Type 0
 MergesRename =
     (units : List Code) (trees : Trees) → length units ≤ 64 → merged (map unit_view units) ≡ Ok trees →

@@ -4,7 +4,6 @@ use Rattle.hs_base.specs.declared.items.NoMemory.{NoMemory}
 use Rattle.c_tree.specs.declared.statement.ForStart.{ForStart}
 use Rattle.c_tree.specs.declared.statement.Init.{Init}
 use Rattle.c_tree.specs.declared.statement.Stmt.{Stmt}
-use Rattle.c_tree.specs.declared.tree.Base.{Base}
 use Rattle.c_tree.specs.declared.tree.Declarator.{Declarator}
 use Rattle.c_tree.specs.declared.tree.Expr.{Expr}
 use Rattle.c_tree.specs.declared.tree.Suffix.{Suffix}
@@ -12,9 +11,9 @@ use Rattle.c_tree.specs.declared.tree.Tag.{Tag}
 use Rattle.c_tree.specs.Forms.{Form}
 use Rattle.c_tree.specs.Forms as f
 use Rattle.c_tree.specs.Scopes.{name_of, params_of, suffix_params}
-use Rattle.c_tree.specs.StatementView.{maybe, maybe_expr, trees, entry_view, expr_view, start_view, stmt_view, suffix_view}
+use Rattle.c_tree.specs.StatementView.{maybe, maybe_expr, trees, entry_view, expr_view, start_view, stmt_view, body_view, suffix_view}
 use Rattle.c_tree.specs.Tree.{Tree, Trees, Node, none, ◌▹◌}
-use Rattle.c_tree.specs.View.{base_tree, declarator_tree}
+use Rattle.c_tree.specs.View.{declarator_tree}
 use Rattle.c_units.specs.declared.mention.Role.{Role}
 use Rattle.c_units.specs.declared.mention.Role.TheVariants.{Used, Tagged}
 use Rattle.c_units.specs.declared.names.Binding.{Binding}
@@ -44,11 +43,15 @@ abbrev pub RewritesBoxed : {A : Type 0} → Form → Option (Box Expr A) → Opt
 RewritesBoxed form old new s = maybe form expr_view (option_map (λ b. b.value) new) ≡ renamed_maybe form (boxed_view old) s
 
 -- the same of a statement
-abbrev pub branch_view : {A : Type 0} → Option (Box Stmt A) → Option Tree
-branch_view stmt = option_map (λ b. stmt_view b.value) stmt
+abbrev pub boxed_stmt : {A : Type 0} → Option (Box Stmt A) → Option Tree
+boxed_stmt stmt = option_map (λ b. stmt_view b.value) stmt
 
 abbrev pub RewritesBranch : {A : Type 0} → Option (Box Stmt A) → Option (Box Stmt A) → Names → Type 0
-RewritesBranch old new s = branch_view new ≡ option_map (λ b. renamed (stmt_view b.value) s) old
+RewritesBranch old new s = boxed_stmt new ≡ option_map (λ b. renamed (stmt_view b.value) s) old
+
+-- the items of a body, with the line of its closing brace
+abbrev pub RewritesItems : ℕ → List Stmt → List Stmt → Names → Type 0
+RewritesItems end old new s = body_view new end ≡ renamed (body_view old end) s
 
 -- what is known behind a tree that is a scope, and behind what stands in front of the last part of a `for`
 abbrev pub behind_scope : Tree → Names → Names
@@ -56,6 +59,23 @@ behind_scope tree s = left_scope s (behind tree s)
 
 abbrev pub behind_test : ForStart → Option Expr → Names → Names
 behind_test start test s = behind (maybe_expr test) (behind (start_view start) s)
+
+abbrev pub behind_step : ForStart → Option Expr → Option Expr → Names → Names
+behind_step start test step s = behind (maybe_expr step) (behind_test start test s)
+
+-- the test and the step of a `for`, behind what stands in front of them
+abbrev pub RewritesTest : ForStart → Option Expr → Option Expr → Names → Type 0
+RewritesTest start old new s = Rewrites maybe_expr old new (behind (start_view start) s)
+
+abbrev pub RewritesStep : ForStart → Option Expr → Option Expr → Option Expr → Names → Type 0
+RewritesStep start test old new s = Rewrites maybe_expr old new (behind_test start test s)
+
+-- a statement behind the expression that controls it, and what is known behind both
+abbrev pub RewritesControlled : Expr → Stmt → Stmt → Names → Type 0
+RewritesControlled e old new s = Rewrites stmt_view old new (behind (expr_view e) s)
+
+abbrev pub behind_controlled : Expr → Stmt → Names → Names
+behind_controlled e body s = behind_scope (stmt_view body) (behind (expr_view e) s)
 
 -- Names
 
@@ -76,12 +96,13 @@ RewritesName view binding suffix old new result =
     (name : List ℕ) → name_of (view old) ≡ Some name →
     OnOk result (view new ≡ with_name (name_by binding suffix name) (view old))
 
+-- the same of a declarator
+abbrev pub RewritesDeclaratorName : Binding → List ℕ → Declarator → Declarator → Result Unit NoMemory → Type 0
+RewritesDeclaratorName = RewritesName declarator_tree
+
 -- Parameters and bodies
 
--- a declarator without pointers, and the parameters of a list of suffixes
-abbrev pub direct_view : Base → List Suffix → Tree
-direct_view base list = Node f.Direct (base_tree base ▹ Node f.Suffixes (trees suffix_view list) ▹ none)
-
+-- the parameters of a list of suffixes
 abbrev pub list_params : List Suffix → Option Trees
 list_params list = suffix_params (Node f.Suffixes (trees suffix_view list) ▹ none)
 
@@ -94,6 +115,13 @@ body_start declarator s = inside_params (params_of (declarator_tree declarator))
 
 abbrev pub behind_body : Tree → Declarator → Names → Names
 behind_body body declarator s = left_scope s (behind body (body_start declarator s))
+
+-- the body of a function is rewritten, and what is known behind it is left
+abbrev pub RenamesBody : Declarator → ℕ → List Stmt → List Stmt → Names → Type 0
+RenamesBody declarator end old new s = RewritesItems end old new (body_start declarator s)
+
+abbrev pub LeavesBody : Declarator → List Stmt → ℕ → Names → Names → Type 0
+LeavesBody declarator body end old new = new ≡ behind_body (body_view body end) declarator old
 
 -- Declarations at file scope
 

@@ -1,5 +1,5 @@
 -- How the code keeps names: the entries of its logs and tables as the declarations and names of the definitions.
-use Rattle.std.specs.Prelude.{◌≡◌, ◌-◌, ℕ, bytes_eq, drop, length, map, unwrap_or, List, [], ◌∷◌, Vec}
+use Rattle.std.specs.Prelude.{◌≡◌, ◌-◌, ℕ, if◌then◌else◌, bytes_eq, drop, length, map, unwrap_or, List, [], ◌∷◌, Vec}
 use Rattle.std.specs.HashMap.{HashMap, get_by}
 use Rattle.c_units.specs.declared.names.Binding.{Binding}
 use Rattle.c_units.specs.declared.names.Binding.TheVariants.{Shared}
@@ -26,6 +26,11 @@ TellBefore (entry ∷ rest) = (entry.before ≡ binding_of (entries_known rest) 
 -- what a table binds a name to
 abbrev pub bound_in : {G S : Type 0} → HashMap (Vec ℕ G) Binding S → List ℕ → Binding
 bound_in table name = unwrap_or (get_by (λ key. bytes_eq name key.items) table) Shared
+
+-- a table binds one name anew, and no other
+abbrev pub Binds : {G S : Type 0} → List ℕ → Binding → HashMap (Vec ℕ G) Binding S → HashMap (Vec ℕ G) Binding S → Type 0
+Binds name binding old new =
+    (other : List ℕ) → bound_in new other ≡ (if bytes_eq name other then binding else bound_in old other)
 
 -- a table binds names as declarations do
 abbrev pub AreBound : {G S : Type 0} → HashMap (Vec ℕ G) Binding S → List Known → Type 0

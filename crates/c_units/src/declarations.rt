@@ -1,13 +1,12 @@
 //! Declarators by their names, and the parameters of functions that are defined.
 
 ghost use Rattle.std.specs.Prelude.{◌≡◌, ℕ, [], option_copied, OnOk};
-ghost use Rattle.c_tree.specs.Forms as form;
 ghost use Rattle.c_tree.specs.Scopes.{name_of};
-ghost use Rattle.c_tree.specs.StatementView.{trees, suffix_view};
+ghost use Rattle.c_tree.specs.StatementView.{trees, suffix_view, direct_view};
 ghost use Rattle.c_tree.specs.View.{declarator_tree, base_tree, suffix_tree};
 ghost use Rattle.c_units.specs.Externals.{with_name, with_params};
 ghost use Rattle.c_units.specs.Turns.{kind_params};
-ghost use Rattle.c_units.specs.Rewriting.{RewritesName, direct_view, list_params, behind_params};
+ghost use Rattle.c_units.specs.Rewriting.{RewritesName, RewritesDeclaratorName, list_params, behind_params};
 
 use crate::names::Binding;
 use crate::walk::Walk;
@@ -105,7 +104,7 @@ impl Walk {
         binding: Binding,
         declarator: &mut Declarator,
     ) -> Result<(), NoMemory>
-        ensures { RewritesName declarator_tree binding self.now.suffix declarator.old declarator.new result }
+        ensures { RewritesDeclaratorName binding self.now.suffix declarator.old declarator.new result }
     {
         match declarator {
             Declarator::Pointer(_, _, target) => self.rename_declared(binding, target),

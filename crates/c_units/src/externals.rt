@@ -1,12 +1,11 @@
 //! Names in external declarations as they stand in the program.
 
 ghost use Rattle.std.specs.Prelude.{◌≡◌, ℕ, OnOk};
-ghost use Rattle.c_tree.specs.StatementView.{trees, body_view, decl_view};
+ghost use Rattle.c_tree.specs.StatementView.{trees, decl_view};
 ghost use Rattle.c_tree.specs.View.{declarator_tree};
-ghost use Rattle.c_units.specs.Externals.{behind_external, inside_params, renamed_external, role_of};
-ghost use Rattle.c_units.specs.Names.{renamed};
+ghost use Rattle.c_units.specs.Externals.{behind_external, renamed_external, role_of};
 ghost use Rattle.c_units.specs.Turns.{inits_of};
-ghost use Rattle.c_units.specs.Rewriting.{body_start, behind_body, RewritesDeclared, behind_declared, RewritesEntry, behind_entry, RewritesEntries, behind_names};
+ghost use Rattle.c_units.specs.Rewriting.{body_start, RenamesBody, LeavesBody, RewritesDeclared, behind_declared, RewritesEntry, behind_entry, RewritesEntries, behind_names};
 
 use crate::declarations::declared_name;
 use crate::mention::Role;
@@ -123,8 +122,8 @@ impl Walk {
         body: &mut Items<Stmt>,
     ) -> Result<(), NoMemory>
         ensures same { OnOk result (declarator_tree declarator.new ≡ declarator_tree declarator.old) }
-        ensures tree { (end : ℕ) → OnOk result (body_view body.new end ≡ renamed (body_view body.old end) (body_start declarator.old self.old)) }
-        ensures names { (end : ℕ) → OnOk result (self.new ≡ behind_body (body_view body.old end) declarator.old self.old) }
+        ensures tree { (end : ℕ) → OnOk result (RenamesBody declarator.old end body.old body.new self.old) }
+        ensures names { (end : ℕ) → OnOk result (LeavesBody declarator.old body.old end self.old self.new) }
     {
         let outer = self.outer();
         self.inside_params(declarator)?;

@@ -1,8 +1,8 @@
 //! The declarations that hold at a place of a unit.
 
-ghost use Rattle.std.specs.Prelude.{◌≡◌, ◌∷◌, [], length, OnOk, OnErr, bytes_eq, List, ℕ, if◌then◌else◌};
+ghost use Rattle.std.specs.Prelude.{◌≡◌, ◌∷◌, [], length, OnOk, OnErr};
 ghost use Rattle.c_units.specs.Names.{binding_of};
-ghost use Rattle.c_units.specs.Sets.{bound_in, oldest, without_latest};
+ghost use Rattle.c_units.specs.Sets.{Binds, oldest, without_latest};
 
 use hs_base::NoMemory;
 use smallvec::SmallVec;
@@ -131,9 +131,7 @@ fn bind(
     name: &[u8],
     binding: Binding,
 ) -> Result<(), NoMemory>
-    ensures ok { OnOk result ((other : List ℕ) →
-        bound_in bindings.new other ≡
-        (if bytes_eq name.now other then binding else bound_in bindings.old other)) }
+    ensures ok { OnOk result (Binds name.now binding bindings.old bindings.new) }
     ensures err { OnErr result (bindings.new.entries ≡ bindings.old.entries) }
 {
     if let Some(bound) = bindings.get_mut(name) {

@@ -1,12 +1,12 @@
 //! The merge of units.
 
-ghost use Rattle.std.specs.Prelude.{◌≡◌, ◌≢◌, ◌<◌, ◌≤◌, ◌++◌, ◌∷◌, [], IfOk, length, map, option_copied, OnOk};
+ghost use Rattle.std.specs.Prelude.{◌≡◌, ◌≢◌, ◌<◌, ◌≤◌, IfOk, length, map, option_copied, OnOk};
 ghost use Rattle.c_tree.specs.Renaming.{RenamesSome};
 ghost use Rattle.c_tree.specs.StatementView.{unit_view};
-ghost use Rattle.c_units.specs.Kept.{program_view, said_view, left_view, AddsSpellings, said_trees, with_trees, AddsUnit};
+ghost use Rattle.c_units.specs.Kept.{program_view, all_said, left_view, AddsKept, AddsSpelling, AddsTrees, AddsUnit};
+ghost use Rattle.c_units.specs.MergedNames.{units_joined};
 ghost use Rattle.c_units.specs.Mentions.{first_taken};
 ghost use Rattle.c_units.specs.Merge.{Adds, IsConflict, Merges, kept, mentions_of, no_program, spellings_of};
-ghost use Rattle.c_units.specs.MergedNames.{joined_all};
 
 use crate::error::MergeError;
 use crate::mention::Mention;
@@ -65,9 +65,8 @@ impl Program {
     /// What is left of a unit: a declaration that an earlier one has in the same words is left out.
     #[tactic(auto, using(crate::proofs::ProgramTurns::kept_next, crate::proofs::ProgramTurns::spellings_next))]
     fn left(&self, all: Vec<Said>) -> Result<Left, NoMemory>
-        ensures said { IfOk result (λ left. left_view left ≡ kept self.now.spellings (map said_view all.items)) }
-        ensures spellings { IfOk result (λ left.
-            left.spellings.items ≡ spellings_of (map said_view all.items)) }
+        ensures said { IfOk result (λ left. left_view left ≡ kept self.now.spellings (all_said all.items)) }
+        ensures spellings { IfOk result (λ left. left.spellings.items ≡ spellings_of (all_said all.items)) }
     {
         let mut left = Left {
             said: Vec::with_capacity(self.alloc, all.len())?,
@@ -82,8 +81,8 @@ impl Program {
     /// The same of one external declaration.
     #[tactic(auto, using(crate::proofs::ProgramTurns::whole_kept, crate::proofs::ProgramTurns::new_kept, crate::proofs::ProgramTurns::again_kept, crate::proofs::ProgramTurns::whole_spelled, crate::proofs::ProgramTurns::plain_spelled))]
     fn sort(&self, left: &mut Left, one: Said) -> Result<(), NoMemory>
-        ensures said { OnOk result (left_view left.new ≡ left_view left.old ++ kept self.now.spellings (said_view one ∷ [])) }
-        ensures spellings { OnOk result (AddsSpellings (said_view one) left.old.spellings.items left.new.spellings.items) }
+        ensures said { OnOk result (AddsKept self.now.spellings one left.old left.new) }
+        ensures spellings { OnOk result (AddsSpelling one left.old left.new) }
     {
         if !is_plain(&one.decl) {
             left.said.push(one)?;
@@ -101,8 +100,7 @@ impl Program {
     /// The first mention of what is left of a unit that is taken.
     #[tactic(auto, using(crate::proofs::ProgramTurns::free_next, crate::proofs::ProgramTurns::taken_here, crate::proofs::ProgramTurns::free_end))]
     fn first_taken<'a>(&self, said: &'a [Said]) -> Option<&'a Mention>
-        ensures { option_copied result ≡
-            first_taken self.now.taken (mentions_of (map said_view said.now)) }
+        ensures { option_copied result ≡ first_taken self.now.taken (mentions_of (all_said said.now)) }
     {
         for one in said {
             if let Some(mention) = self.taken.first(one.mentions.as_slice()) {
@@ -115,9 +113,8 @@ impl Program {
     /// Takes in what is left of a unit, and answers what it says of the names that units share.
     #[tactic(auto, using(crate::proofs::ProgramTurns::mentions_next, crate::proofs::ProgramTurns::trees_next, crate::proofs::ProgramTurns::trees_start))]
     fn take_in(&mut self, said: Vec<Said>) -> Result<Vec<Mention>, NoMemory>
-        ensures mentions { IfOk result (λ mentions.
-            mentions.items ≡ mentions_of (map said_view said.items)) }
-        ensures program { OnOk result (program_view self.new ≡ with_trees (said_trees said.items) (program_view self.old)) }
+        ensures mentions { IfOk result (λ mentions. mentions.items ≡ mentions_of (all_said said.items)) }
+        ensures program { OnOk result (AddsTrees said.items self.old self.new) }
     {
         let mut mentions = Vec::new(self.alloc);
         for one in said {
@@ -190,8 +187,7 @@ pub fn merge(alloc: Global, units: Items<Unit>) -> Result<Unit, MergeError>
     requires some { 0 < length units }
     requires few { length units ≤ 64 }
     ensures merged { Merges (map unit_view units) result }
-    ensures renamed { IfOk result (λ unit.
-        RenamesSome (joined_all (map unit_view units)) (unit_view unit)) }
+    ensures renamed { IfOk result (λ unit. RenamesSome (units_joined units) (unit_view unit)) }
 {
     merge_all(alloc, units.into_vec())
 }

@@ -1,9 +1,9 @@
 //! The external declarations of a unit as they stand in the program.
 
-ghost use Rattle.std.specs.Prelude.{◌≡◌, IfOk, map, OnOk};
+ghost use Rattle.std.specs.Prelude.{◌≡◌, IfOk, OnOk};
 ghost use Rattle.c_tree.specs.StatementView.{trees, decl_view, entry_view, unit_view};
 ghost use Rattle.c_units.specs.Externals.{each_said, suffix_of, unit_said};
-ghost use Rattle.c_units.specs.Kept.{said_view};
+ghost use Rattle.c_units.specs.Kept.{said_view, all_said};
 ghost use Rattle.c_units.specs.Merge.{are_plain, is_plain, spelling};
 ghost use Rattle.c_units.specs.Rewriting.{said_of, behind_said};
 
@@ -25,8 +25,7 @@ pub(crate) struct Said {
 /// The external declarations of a unit in turn.
 #[tactic(auto, using(crate::proofs::SaidTurns::said_next))]
 fn each_said(walk: &mut Walk, decls: Vec<Decl>) -> Result<Vec<Said>, NoMemory>
-    ensures { IfOk result (λ all.
-        map said_view all.items ≡ each_said (trees decl_view decls.items) walk.old) }
+    ensures { IfOk result (λ it. all_said it.items ≡ each_said (trees decl_view decls.items) walk.old) }
 {
     let mut all = Vec::with_capacity(walk.alloc, decls.len())?;
     for decl in decls {
@@ -58,7 +57,7 @@ fn suffix_of(alloc: Global, number: usize) -> Result<Items<u8>, NoMemory>
 
 /// The external declarations of the unit of this number among several.
 pub(crate) fn unit_said(alloc: Global, number: usize, unit: Unit) -> Result<Vec<Said>, NoMemory>
-    ensures { IfOk result (λ all. map said_view all.items ≡ unit_said number (unit_view unit)) }
+    ensures { IfOk result (λ it. all_said it.items ≡ unit_said number (unit_view unit)) }
 {
     let own = own_names(alloc, &unit)?;
     let suffix = suffix_of(alloc, number)?;

@@ -5,7 +5,7 @@ ghost use Rattle.c_tree.specs.StatementView.{trees, expr_view, init_view, entry_
 ghost use Rattle.c_tree.specs.Forms as form;
 ghost use Rattle.c_units.specs.Names.{behind, renamed};
 ghost use Rattle.c_units.specs.Turns.{behind_branch, in_turn, inner, is_scope_kind};
-ghost use Rattle.c_units.specs.Rewriting.{Rewrites, RewritesMaybe, RewritesEach, branch_view, RewritesBranch, behind_scope, behind_test};
+ghost use Rattle.c_units.specs.Rewriting.{Rewrites, RewritesMaybe, RewritesEach, boxed_stmt, RewritesBranch, RewritesItems, RewritesTest, RewritesStep, RewritesControlled, behind_scope, behind_step, behind_controlled};
 
 use crate::declarations::declared_name;
 use crate::walk::Walk;
@@ -205,8 +205,8 @@ impl Walk {
     #[cycle(statements)]
     fn guarded(&mut self, e: &mut Expr, body: &mut Stmt) -> Result<(), NoMemory>
         ensures e { OnOk result (Rewrites expr_view e.old e.new self.old) }
-        ensures body { OnOk result (Rewrites stmt_view body.old body.new (behind (expr_view e.old) self.old)) }
-        ensures names { OnOk result (self.new ≡ behind_scope (stmt_view body.old) (behind (expr_view e.old) self.old)) }
+        ensures body { OnOk result (RewritesControlled e.old body.old body.new self.old) }
+        ensures names { OnOk result (self.new ≡ behind_controlled e.old body.old self.old) }
     {
         self.expr(e)?;
         self.branch(body)
@@ -216,7 +216,7 @@ impl Walk {
     #[cycle(statements)]
     fn maybe_branch(&mut self, stmt: &mut Option<Box<Stmt>>) -> Result<(), NoMemory>
         ensures tree { OnOk result (RewritesBranch stmt.old stmt.new self.old) }
-        ensures names { OnOk result (self.new ≡ behind_branch (branch_view stmt.old) self.old) }
+        ensures names { OnOk result (self.new ≡ behind_branch (boxed_stmt stmt.old) self.old) }
     {
         match stmt {
             Some(stmt) => self.branch(stmt),
@@ -232,9 +232,9 @@ impl Walk {
         step: &mut Option<Expr>,
     ) -> Result<(), NoMemory>
         ensures start { OnOk result (Rewrites start_view start.old start.new self.old) }
-        ensures test { OnOk result (Rewrites maybe_expr test.old test.new (behind (start_view start.old) self.old)) }
-        ensures step { OnOk result (Rewrites maybe_expr step.old step.new (behind_test start.old test.old self.old)) }
-        ensures names { OnOk result (self.new ≡ behind (maybe_expr step.old) (behind_test start.old test.old self.old)) }
+        ensures test { OnOk result (RewritesTest start.old test.old test.new self.old) }
+        ensures step { OnOk result (RewritesStep start.old test.old step.old step.new self.old) }
+        ensures names { OnOk result (self.new ≡ behind_step start.old test.old step.old self.old) }
     {
         self.for_start(start)?;
         self.maybe_expr(test)?;
@@ -268,7 +268,7 @@ impl Walk {
     /// The body of a function, which is a scope.
     #[tactic(auto, using(crate::proofs::ScopeEnds::body_known, crate::proofs::ScopeEnds::body_made))]
     pub(crate) fn body(&mut self, body: &mut Items<Stmt>) -> Result<(), NoMemory>
-        ensures trees { (end : ℕ) → OnOk result (Rewrites (λ b. body_view b end) body.old body.new self.old) }
+        ensures trees { (end : ℕ) → OnOk result (RewritesItems end body.old body.new self.old) }
         ensures names { (end : ℕ) → OnOk result (self.new ≡ behind (body_view body.old end) self.old) }
     {
         let outer = self.outer();

@@ -1,10 +1,8 @@
 //! What a unit has for itself: the objects and functions that it declares `static` (C99 6.2.2).
 
 ghost use Rattle.std.specs.Prelude.{◌≡◌, [], IfOk, OnOk};
-ghost use Rattle.c_tree.specs.Scopes.{name_of};
 ghost use Rattle.c_tree.specs.StatementView.{trees, decl_view, entry_view, unit_view};
-ghost use Rattle.c_tree.specs.View.{declarator_tree};
-ghost use Rattle.c_units.specs.Externals.{but_main, entry_names, own_names, static_names};
+ghost use Rattle.c_units.specs.Externals.{noted_name, entry_names, own_names, static_names};
 ghost use Rattle.c_units.specs.Mentions.{all_noted};
 
 use crate::declarations::declared_name;
@@ -16,7 +14,7 @@ use std::alloc::Global;
 
 /// Notes the name of a declarator, unless it is that of the program's first function.
 fn note(alloc: Global, names: &mut NameSet, declarator: &Declarator) -> Result<(), NoMemory>
-    ensures { OnOk result (names.new ≡ all_noted names.old (but_main (name_of (declarator_tree declarator.now)))) }
+    ensures { OnOk result (names.new ≡ all_noted names.old (noted_name declarator.now)) }
 {
     match declared_name(declarator) {
         Some(name) => {

@@ -2,7 +2,7 @@
 
 ghost use Rattle.std.specs.Prelude.{◌≡◌, [], false, length, option_copied, true, OnOk};
 ghost use Rattle.c_units.specs.Names.{Names, binding_at, binding_of, declare, mention, name_by};
-ghost use Rattle.c_units.specs.Externals.{binding_as};
+ghost use Rattle.c_units.specs.Externals.{binding_as, names_at_start};
 ghost use Rattle.c_units.specs.Sets.{back_to};
 ghost use Rattle.c_units.specs.Turns.{back_if};
 
@@ -48,8 +48,7 @@ impl Model for Walk {
 impl Walk {
     /// Before the first external declaration of a unit.
     pub(crate) fn new(alloc: Global, own: NameSet, suffix: Items<u8>) -> Walk
-        ensures { result ≡
-            record { own = own; suffix = suffix; known = []; inside = false; mentions = [] } }
+        ensures { result ≡ names_at_start own suffix }
     {
         Walk {
             alloc,
