@@ -24,7 +24,7 @@ has_marks_there marks size addr n slots inside h = record {
   behind = mark_there marks size (addr + n) inside ∙ h.behind;
 }
 
-same_there : (before after : List ℕ) (size k : ℕ) → length after ≡ length before → (k < length before → get_or after k 0 ≡ get_or before k 0) → get_or (filled_up after size NOTHING) k 0 ≡ get_or (filled_up before size NOTHING) k 0
+pub same_there : (before after : List ℕ) (size k : ℕ) → length after ≡ length before → (k < length before → get_or after k 0 ≡ get_or before k 0) → get_or (filled_up after size NOTHING) k 0 ≡ get_or (filled_up before size NOTHING) k 0
 unfolding filled_up
 same_there before after size k long same = elim (cases_lt k (length before)) [
   | inl less ↦ mark_there after size k (omega arith) ∙ same less ∙ sym (mark_there before size k less)

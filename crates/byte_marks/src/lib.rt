@@ -5,14 +5,21 @@
 //! bytes of a new object by the slots of its elements, and the byte behind its end as one of no object: so an access that runs
 //! past the end of its object never finds the marks that it wants. `specs/Marks.antt` says which marks an object has.
 //!
+//! Beside them stands for each 16 bytes where the object in them ends ([`Marks::end`]), so that an address is moved up within its
+//! object with one look.
+//!
 //! The marks of what is no object do not matter, and those of an object that is dead stay until another one takes its place.
 //! All memory is taken by [`Marks::new`].
 #![tactic(auto)]
 
-ghost use Rattle.std.specs.Prelude.{◌≡◌, ◌↔◌, ◌⊎◌, ◌+◌, ◌<◌, ◌≤◌, ◌^◌, ℕ, AllPairs, IfOk, IsTrue, length, replicate, slice_index};
-ghost use Rattle.adjusters.specs.ObjectSlots.{object_slots};
-ghost use Rattle.byte_marks.specs.Marks.{AreBytes, ChangesOnly, Filled, HasMarks, IsSlotAt, IsSlotMarked, mark_in};
+mod ends;
 
+ghost use Rattle.std.specs.Prelude.{◌≡◌, ◌↔◌, ◌⊎◌, ◌+◌, ◌/◌, ◌<◌, ◌≤◌, ◌^◌, ℕ, AllPairs, IfOk, IsTrue, length, slice_index};
+ghost use Rattle.adjusters.specs.ObjectSlots.{object_slots};
+ghost use Rattle.byte_marks.specs.Ends.{IsKnown};
+ghost use Rattle.byte_marks.specs.Marks.{AreBytes, ChangesMarks, ChangesOnly, Filled, HasMarks, IsMarked, IsSlotAt, IsSlotMarked, mark_in, no_marks};
+
+use crate::ends::Ends;
 use adjusters::Adjuster;
 use byte_memory::reach;
 use hs_base::NoMemory;
@@ -106,23 +113,25 @@ fn all_bytes(marks: &[u8], at: usize, n: u32) -> bool
     }
 }
 
-/// A mark for each byte of memory, by its address. The memory of all of them is taken at once, and touched as far as objects
-/// were marked.
+/// A mark for each byte of memory, by its address, and for each 16 bytes the end of the object in them. The memory of all of them
+/// is taken at once, and touched as far as objects were marked.
 #[derive(Debug, Drop)]
 pub struct Marks {
     /// The marks up to some place behind the last one that was set. Those from there on are of no object.
     list: Vec<u8>,
     size: u32,
+    ends: Ends,
 }
 
 impl Model for Marks {
-    ghost use Rattle.std.specs.Prelude.{◌≤◌, List, ℕ, length, vec_capacity};
+    ghost use Rattle.std.specs.Prelude.{◌≤◌, length, vec_capacity};
     ghost use Rattle.byte_memory.specs.Filled.{filled_up};
     ghost use Rattle.byte_marks.specs.declared.TheConstants.{NOTHING};
+    ghost use Rattle.byte_marks.specs.Marks.{MarksModel};
 
-    ghost Value = { List ℕ };
+    ghost Value = { MarksModel };
 
-    ghost view = { λ m. filled_up m.list.items m.size NOTHING };
+    ghost view = { λ m. record { bytes = filled_up m.list.items m.size NOTHING; ends = m.ends } };
 
     ghost invariant = { λ m. (length m.list.items ≤ m.size) × (m.size ≤ vec_capacity m.list) };
 }
@@ -130,31 +139,35 @@ impl Model for Marks {
 impl Marks {
     /// The marks of so many bytes, none of which is one of an object.
     pub fn new(alloc: Global, n: u32) -> Result<Marks, NoMemory>
-        ensures { IfOk result (λ marks. marks ≡ replicate n NOTHING) }
+        ensures { IfOk result (λ marks. marks ≡ no_marks n) }
     {
         Ok(Marks {
             list: Vec::with_capacity(alloc, n as usize)?,
             size: n,
+            ends: Ends::new(alloc, n)?,
         })
     }
 
     /// Marks an object of a size at an address, with elements of a form whose slots do not overlap, and the byte behind its end.
     pub fn mark(&mut self, start: u32, size: u32, form: &Adjuster)
-        requires inside { start + size < length self.old }
+        requires inside { start + size < length self.old.bytes }
+        requires granules { (start + size) / 16 < length self.old.ends }
+        requires fits { start + size < 2 ^ 32 }
         requires apart { AllPairs (λ a b. a + 4 ≤ b) (object_slots form.now size) }
-        ensures marked { HasMarks self.new start size (object_slots form.now size) }
-        ensures outside { ChangesOnly self.old self.new start (size + 1) }
+        ensures marked { IsMarked self.new start size (object_slots form.now size) }
+        ensures outside { ChangesMarks self.old self.new start size }
     {
         let at = start as usize;
         reach(&mut self.list, at + size as usize + 1, self.size, NOTHING);
         mark_object(self.list.as_mut_slice(), at, size, form);
+        self.ends.put(start, size);
     }
 
     /// Says whether 1, 2, 4 or 8 bytes from an address on are all bytes of objects outside of slots.
     #[inline(always)]
     pub fn are_bytes(&self, addr: u32, n: u32) -> bool
         requires { (n ≡ 1) ⊎ ((n ≡ 2) ⊎ ((n ≡ 4) ⊎ (n ≡ 8))) }
-        ensures { IsTrue result ↔ AreBytes self.now addr n }
+        ensures { IsTrue result ↔ AreBytes self.now.bytes addr n }
     {
         let marks = self.list.as_slice();
         let at = addr as usize;
@@ -164,10 +177,20 @@ impl Marks {
     /// Says whether a slot starts at an address.
     #[inline(always)]
     pub fn is_slot(&self, addr: u32) -> bool
-        ensures { IsTrue result ↔ IsSlotAt self.now addr }
+        ensures { IsTrue result ↔ IsSlotAt self.now.bytes addr }
     {
         let marks = self.list.as_slice();
         let at = addr as usize;
         at < marks.len() && marks[at] == SLOT
+    }
+
+    /// The end of the object to which an address leads, or 0 of null: the address behind its last byte.
+    #[inline(always)]
+    pub fn end(&self, addr: u32) -> u32
+        requires { IsKnown self.now.ends addr }
+        ensures { result ≡ slice_index self.now.ends (addr / 16) }
+    {
+        let _ = &self.list;
+        self.ends.get(addr)
     }
 }

@@ -19,8 +19,7 @@ use Rattle.heap_blocks.specs.declared.headers.Header.{Header}
 use Rattle.heap_blocks.specs.Bytes.{ChangesOnly}
 use Rattle.heap_blocks.specs.Heads.{header_at}
 use Rattle.heap_blocks.specs.Held.{HeapModel, HasBounds, Holds, IsBlock, AreApart}
-use Rattle.byte_marks.specs.Marks as byte_marks
-use Rattle.byte_marks.specs.Marks.{HasMarks}
+use Rattle.byte_marks.specs.Marks.{ChangesMarks, IsMarked, MarksModel}
 use Rattle.object_meaning.specs.objects.Making.{blank}
 use Rattle.flat_objects.specs.Memory.{Memory, Range, Statics, Locals, Heap, IsMemory, heap_of, is_of, range_of}
 use Rattle.flat_objects.specs.Standing.{IsThere, IsAddressOf}
@@ -38,7 +37,7 @@ use Rattle.flat_objects.proofs.Reached.{are_slots}
 
 stands_kept : (memory after : Memory) (places new_places : ℕ → ℕ) (objects new_objects : List Object) (birth addr : ℕ) (o : Object) (start long : ℕ) → StandsAt memory places objects birth addr o → ChangesOnly memory.bytes after.bytes start long → IsOutside (addr - 32) (o.size + 32) start long
     → after.forms ≡ memory.forms → (heap_of after (range_of o.sort)).base ≡ (heap_of memory (range_of o.sort)).base → addr + o.size ≤ length memory.bytes → Ascend 0 o.size o.slots
-    → ((p : Pointer) (a : ℕ) → IsAddressOf places objects p a → IsAddressOf new_places new_objects p a) → HasMarks after.marks addr o.size o.slots → StandsAt after new_places new_objects birth addr o
+    → ((p : Pointer) (a : ℕ) → IsAddressOf places objects p a → IsAddressOf new_places new_objects p a) → IsMarked after.marks addr o.size o.slots → StandsAt after new_places new_objects birth addr o
 stands_kept memory after places new_places objects new_objects birth addr o start long old changes out forms base inside slots addresses marks =
     let header = header_kept memory.bytes after.bytes start long (addr - 32) changes (part_outside (addr - 32) (o.size + 32) start long (addr - 32) 32 out (omega arith) (omega arith)) in
     let here = λ (at n : ℕ) (low : addr ≤ at) (high : at + n ≤ addr + o.size). part_outside (addr - 32) (o.size + 32) start long at n out (omega arith) (omega (arith, old.room)) in
@@ -59,11 +58,17 @@ stands_kept memory after places new_places objects new_objects birth addr o star
     }
 
 -- the marks of an object stay where another one is marked outside its block
-marks_kept : (before after : List ℕ) (place size : ℕ) (slots : List ℕ) (addr new_size : ℕ) → HasMarks before place size slots → byte_marks.ChangesOnly before after addr (new_size + 1) → 32 ≤ place → 32 ≤ addr → IsOutside (place - 32) (size + 32) (addr - 32) (block_size new_size) → HasMarks after place size slots
+marks_kept : (before after : MarksModel) (place size : ℕ) (slots : List ℕ) (addr new_size : ℕ) → IsMarked before place size slots → ChangesMarks before after addr new_size → 32 ≤ place → 32 ≤ addr → IsOutside (place - 32) (size + 32) (addr - 32) (block_size new_size) → IsMarked after place size slots
 marks_kept before after place size slots addr new_size old changes low new_low (inl h) =
-    record { bytes = λ k less. changes.below (place + k) (omega arith) ∙ old.bytes k less; behind = changes.below (place + size) (omega arith) ∙ old.behind }
+    record {
+      bytes = record { bytes = λ k less. changes.bytes.below (place + k) (omega arith) ∙ old.bytes.bytes k less; behind = changes.bytes.below (place + size) (omega arith) ∙ old.bytes.behind };
+      end = λ k less. changes.ends.below ((place + k) / 16) (omega arith) ∙ old.end k less;
+    }
 marks_kept before after place size slots addr new_size old changes low new_low (inr h) =
-    record { bytes = λ k less. changes.above (place + k) (omega arith) ∙ old.bytes k less; behind = changes.above (place + size) (omega arith) ∙ old.behind }
+    record {
+      bytes = record { bytes = λ k less. changes.bytes.above (place + k) (omega arith) ∙ old.bytes.bytes k less; behind = changes.bytes.above (place + size) (omega arith) ∙ old.bytes.behind };
+      end = λ k less. changes.ends.above ((place + k) / 16) (omega arith) ∙ old.end k less;
+    }
 
 -- One place more
 
@@ -153,8 +158,8 @@ pub record IsPlacement (memory next : Memory) (places : ℕ → ℕ) (objects : 
   pub header : IsHeaderOf (header_at next.bytes (addr - 32)) (length objects) new
   pub slots : HasSlots memory.forms (header_at next.bytes (addr - 32)).layout new
   pub zero : part next.bytes addr new.size ≡ replicate new.size 0
-  pub marks : byte_marks.ChangesOnly memory.marks next.marks addr (new.size + 1)
-  pub marked : HasMarks next.marks addr new.size new.slots
+  pub marks : ChangesMarks memory.marks next.marks addr new.size
+  pub marked : IsMarked next.marks addr new.size new.slots
 
 pub contains_left : {X : Type 0} (xs ys : List X) (x : X) → Contains xs x → Contains (xs ++ ys) x
 contains_left xs ys x at = (at.0, omega (arith, at.1, length-append xs ys), get_or_append_left xs ys x at.0 at.1 ∙ at.2)

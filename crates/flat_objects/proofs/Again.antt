@@ -9,7 +9,7 @@ use Rattle.hs_base.specs.Object.{Object, Standing}
 use Rattle.byte_memory.proofs.Words.{word_1}
 use Rattle.adjusters.specs.ObjectSlots.{Element}
 use Rattle.heap_blocks.specs.Heads.{header_at}
-use Rattle.byte_marks.specs.Marks.{HasMarks}
+use Rattle.byte_marks.specs.Marks.{IsMarked, MarksModel}
 use Rattle.flat_objects.specs.Memory.{Memory, heap_of, range_of}
 use Rattle.flat_objects.specs.Standing.{IsAddressOf}
 use Rattle.flat_objects.specs.Keeping.{StandsAt, IsHeaderOf, HasSlots}
@@ -60,5 +60,5 @@ stands_again memory next places objects after birth o s old base forms marks lon
       let here = word_from next.bytes memory.bytes (places birth + slot) 4 (same (places birth + slot) 4 (omega arith) (omega arith)) in
       subst (IsAddressOf places after (slice_index_or o.pointers k pointer.Null)) (sym here)
       (addresses k (word memory.bytes (places birth + slot) 4) less (old.pointers k less));
-  marks = subst (λ (l : List ℕ). HasMarks l (places birth) o.size o.slots) (sym marks) old.marks;
+  marks = subst (λ (m : MarksModel). IsMarked m (places birth) o.size o.slots) (sym marks) old.marks;
 }

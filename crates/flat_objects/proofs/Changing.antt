@@ -17,7 +17,7 @@ use Rattle.heap_blocks.specs.declared.headers.Header.{Header}
 use Rattle.heap_blocks.specs.Bytes.{ChangesOnly}
 use Rattle.heap_blocks.specs.Heads.{header_at}
 use Rattle.heap_blocks.specs.Held.{HeapModel, Holds}
-use Rattle.byte_marks.specs.Marks.{HasMarks}
+use Rattle.byte_marks.specs.Marks.{IsMarked}
 use Rattle.flat_objects.specs.Memory.{Memory, Range, Statics, Locals, Heap, IsMemory, heap_of, is_of, range_of}
 use Rattle.flat_objects.specs.Standing.{IsThere, IsAddressOf}
 use Rattle.flat_objects.specs.Keeping.{Keeps, StandsAt, IsHeaderOf, HasSlots, IsLineOf, IsStateOf, block_of, blocks_of, stands_in}
@@ -198,7 +198,7 @@ module _ (locals heap : ℕ) (memory : Memory) (shape : IsMemory locals heap mem
         bytes = stands_new.same;
         many = stands_new.many;
         pointers = stands_new.pointers;
-        marks = subst (λ (n : ℕ). HasMarks memory.marks (places birth) n new.slots) (sym like.size) (subst (HasMarks memory.marks (places birth) (object_at objects birth).size) (sym like.slots) old.marks);
+        marks = subst (λ (n : ℕ). IsMarked memory.marks (places birth) n new.slots) (sym like.size) (subst (IsMarked memory.marks (places birth) (object_at objects birth).size) (sym like.slots) old.marks);
       }
 
   -- each other object

@@ -490,5 +490,7 @@ memory_counted locals heap memory counts shape long most = record {
   room = omega (arith, shape.room);
   forms = shape.forms;
   marked = shape.marked;
+  ends = shape.ends;
   null = shape.null;
+  null_end = shape.null_end;
 }

@@ -1,6 +1,6 @@
 -- Addresses that are moved by distances.
 use Rattle.std.proofs.Common.{List, ◌≡◌, ℕ, suc, ◌+◌, ◌^◌, ◌<◌, ◌≤◌, ◌⊎◌, inl, inr, ℤ, pos, negsuc, ◌+ℤ◌, ◌-ℤ◌, neg_ℤ, ◌<ℤ◌, Result, Ok, Err, refl, sym, ap, ◌∙◌, subst, arith, FitsSigned, ⊎_elim}
-use Rattle.std.specs.Prelude.{nat_le}
+use Rattle.std.specs.Prelude.{◌/◌, nat_le, slice_index}
 use Rattle.std.proofs.lemmas.Int.{ints, fits_signed_from_abs}
 use Rattle.std.proofs.lemmas.Bool.{cases_lt, cond-true, cond-false, le-leb, lt-leb}
 use mir.Syntax.{w128}
@@ -10,12 +10,13 @@ use Rattle.hs_base.specs.declared.values.Pointer.{Pointer}
 use Rattle.hs_base.specs.declared.values.Pointer.TheVariants as pointer
 use Rattle.hs_base.specs.Access.{Trapped}
 use Rattle.hs_base.specs.Object.{Object, object_at}
+use Rattle.byte_marks.specs.Ends.{IsKnown}
 use Rattle.object_meaning.specs.objects.Arithmetic.{within_object, moved_by}
 use Rattle.object_meaning.specs.objects.Values.{address}
 use Rattle.flat_objects.specs.declared.finding.Spot.{Spot}
 use Rattle.flat_objects.specs.Memory.{Memory, IsMemory}
 use Rattle.flat_objects.specs.Standing.{IsAt}
-use Rattle.flat_objects.specs.Keeping.{KeepsAt}
+use Rattle.flat_objects.specs.Keeping.{IsKept, KeepsAt}
 use Rattle.flat_objects.specs.Moving.{IsFar, MovesTo}
 use Rattle.flat_objects.specs.Reaching.{IsSpot}
 use Rattle.flat_objects.specs.Answering.{Traps, AnswersAddress}
@@ -93,3 +94,26 @@ module _ (memory : Memory) (places : ℕ → ℕ) (objects : List Object) (addr 
       let total = (object_at objects birth).size in
       let far = subst (λ (n : ℤ). IsFar n) (ap (λ o. pos o +ℤ d) f.distance) (too_large (pos found.offset +ℤ d) unfit).0 in
       outside birth total (pos offset +ℤ d) (far_outside total (pos offset +ℤ d) (omega (arith, f.size)) far)
+
+-- an address that is moved up to the end of its object at most
+pub moved_to_end : (locals heap : ℕ) (memory : Memory) → IsMemory locals heap memory → (places : ℕ → ℕ) (objects : List Object) (p : Pointer) (addr bytes target : ℕ) → KeepsAt memory places objects p addr → target ≡ addr + bytes → target ≤ slice_index memory.marks.ends (addr / 16)
+    → AnswersAddress places objects (Ok target) (moved_by objects p (pos bytes))
+moved_to_end locals heap memory shape places objects pointer.Null addr bytes target at is low =
+    let null : addr ≡ 0 = at.stands in
+    let end : slice_index memory.marks.ends (addr / 16) ≡ 0 = ap (λ a. slice_index memory.marks.ends (a / 16)) null ∙ shape.null_end in
+    let none : bytes ≡ 0 = omega arith in
+    (pointer.Null, ap (λ n. moved_by objects pointer.Null (pos n)) none, omega arith)
+moved_to_end locals heap memory shape places objects (pointer.At birth offset) addr bytes target at is low =
+    let size = (object_at objects birth).size in
+    let end : slice_index memory.marks.ends (addr / 16) ≡ places birth + size =
+    ap (λ a. slice_index memory.marks.ends (a / 16)) at.stands.address ∙ (at.keeps.standing birth at.stands.there).marks.end offset at.stands.inside in
+    place_answer places objects birth offset (places birth) size (pos bytes) (pos (offset + bytes)) addr at.stands refl refl refl (Ok target) (offset + bytes, refl, omega (arith, at.stands.address), omega (arith, at.stands.address))
+
+-- an end stands for an address that is kept
+pub end_known : (locals heap : ℕ) (memory : Memory) → IsMemory locals heap memory → (addr : ℕ) → IsKept memory addr → IsKnown memory.marks.ends addr
+end_known locals heap memory shape addr (places, objects, pointer.Null, at) = inl at.stands
+end_known locals heap memory shape addr (places, objects, pointer.At birth offset, at) =
+    let stands = at.keeps.standing birth at.stands.there in
+    let end : slice_index memory.marks.ends (addr / 16) ≡ places birth + (object_at objects birth).size =
+    ap (λ a. slice_index memory.marks.ends (a / 16)) at.stands.address ∙ stands.marks.end offset at.stands.inside in
+    inr (omega (arith, stands.room))

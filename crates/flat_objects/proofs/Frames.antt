@@ -3,6 +3,7 @@ use Rattle.std.proofs.Common.{◌≡◌, ◌∙◌, ◌+◌, ◌/◌, ◌%◌, �
 use Rattle.std.specs.Prelude.{All, slice_index}
 use Rattle.byte_memory.specs.Bytes.{word}
 use Rattle.byte_memory.proofs.Words.{length-put_word}
+use Rattle.byte_marks.specs.Marks.{MarksModel}
 use Rattle.heap_blocks.specs.Held.{HeapModel, HasBounds}
 use Rattle.flat_objects.specs.Memory.{Memory, Range, Statics, Locals, Heap, IsForm, IsMemory, SameFrame, heap_of}
 use Rattle.flat_objects.specs.Counting.{one_less}
@@ -16,15 +17,15 @@ pub frame_bytes : (m n : Memory) (bytes : List ℕ) → m ≡ n → length bytes
 frame_bytes m n bytes e long =
     subst (λ (x : Memory). SameFrame x (with_bytes m bytes)) e (record { statics = (refl, refl); locals = (refl, refl); heap = (refl, refl); long = long; most = refl; forms = refl })
 
-pub frame_heap : (m n : Memory) (bytes marks : List ℕ) (after : HeapModel) → m ≡ n → HasBounds m.heap.base m.heap.len after → length bytes ≡ length m.bytes → SameFrame n (record m { heap = after; bytes = bytes; marks = marks })
+pub frame_heap : (m n : Memory) (bytes : List ℕ) (marks : MarksModel) (after : HeapModel) → m ≡ n → HasBounds m.heap.base m.heap.len after → length bytes ≡ length m.bytes → SameFrame n (record m { heap = after; bytes = bytes; marks = marks })
 frame_heap m n bytes marks after e bounds long =
     subst (λ (x : Memory). SameFrame x (record m { heap = after; bytes = bytes; marks = marks })) e (record { statics = (refl, refl); locals = (refl, refl); heap = bounds; long = long; most = refl; forms = refl })
 
-pub frame_statics : (m n : Memory) (bytes marks : List ℕ) (after : HeapModel) → m ≡ n → HasBounds m.statics.base m.statics.len after → length bytes ≡ length m.bytes → SameFrame n (record m { statics = after; bytes = bytes; marks = marks })
+pub frame_statics : (m n : Memory) (bytes : List ℕ) (marks : MarksModel) (after : HeapModel) → m ≡ n → HasBounds m.statics.base m.statics.len after → length bytes ≡ length m.bytes → SameFrame n (record m { statics = after; bytes = bytes; marks = marks })
 frame_statics m n bytes marks after e bounds long =
     subst (λ (x : Memory). SameFrame x (record m { statics = after; bytes = bytes; marks = marks })) e (record { statics = bounds; locals = (refl, refl); heap = (refl, refl); long = long; most = refl; forms = refl })
 
-pub frame_locals : (m n : Memory) (bytes marks : List ℕ) (after : HeapModel) → m ≡ n → HasBounds m.locals.base m.locals.len after → length bytes ≡ length m.bytes → SameFrame n (record m { locals = after; bytes = bytes; marks = marks })
+pub frame_locals : (m n : Memory) (bytes : List ℕ) (marks : MarksModel) (after : HeapModel) → m ≡ n → HasBounds m.locals.base m.locals.len after → length bytes ≡ length m.bytes → SameFrame n (record m { locals = after; bytes = bytes; marks = marks })
 frame_locals m n bytes marks after e bounds long =
     subst (λ (x : Memory). SameFrame x (record m { locals = after; bytes = bytes; marks = marks })) e (record { statics = (refl, refl); locals = bounds; heap = (refl, refl); long = long; most = refl; forms = refl })
 
@@ -49,13 +50,15 @@ frame_put m addr target inside = record {
   forms = refl;
 }
 
--- there are as many marks, and that of null is the same
-pub record SameMarks (before after : List ℕ) : Type 0 where
-  pub long : length after ≡ length before
-  pub null : slice_index after 0 ≡ slice_index before 0
+-- there are as many marks and ends, and those of null are the same
+pub record SameMarks (before after : MarksModel) : Type 0 where
+  pub long : length after.bytes ≡ length before.bytes
+  pub granules : length after.ends ≡ length before.ends
+  pub null : slice_index after.bytes 0 ≡ slice_index before.bytes 0
+  pub null_end : slice_index after.ends 0 ≡ slice_index before.ends 0
 
-pub marks_same : (marks : List ℕ) → SameMarks marks marks
-marks_same marks = record { long = refl; null = refl }
+pub marks_same : (marks : MarksModel) → SameMarks marks marks
+marks_same marks = record { long = refl; granules = refl; null = refl; null_end = refl }
 
 -- what has the same frame, as many counts and as many marks is a memory of the same ranges
 pub still_memory : (locals heap : ℕ) (before after : Memory) → IsMemory locals heap before → SameFrame before after → length after.counts.counts ≡ length before.counts.counts → SameMarks before.marks after.marks → IsMemory locals heap after
@@ -71,7 +74,9 @@ still_memory locals heap before after shape frame counts marks = record {
   room = subst (λ n. n / 4 ≤ after.counts.most) (sym frame.long) (subst (λ m. length before.bytes / 4 ≤ m) (sym frame.most) shape.room);
   forms = subst (All IsForm) (sym frame.forms) shape.forms;
   marked = omega (arith, shape.marked, frame.long, marks.long);
+  ends = omega (arith, shape.ends, ap (λ n. n / 16) frame.long, marks.granules);
   null = marks.null ∙ shape.null;
+  null_end = marks.null_end ∙ shape.null_end;
 } where
   base : (range : Range) → (heap_of after range).base ≡ (heap_of before range).base
   base Statics = frame.statics.0

@@ -13,7 +13,7 @@ use Rattle.c_types.specs.Layouts.{array_layout}
 use Rattle.adjusters.specs.ObjectSlots.{element_of, object_slots}
 use Rattle.heap_blocks.specs.Heads.{new_header}
 use Rattle.heap_blocks.specs.Held.{HeapModel, HasBounds, Holds, IsPlaced, address_of}
-use Rattle.byte_marks.specs.Marks.{ChangesOnly, HasMarks}
+use Rattle.byte_marks.specs.Marks.{ChangesMarks, IsMarked, MarksModel, no_marks}
 use Rattle.count_table.specs.Table.{Table}
 use Rattle.delay_scopes.specs.Check.{no_scopes}
 use Rattle.delay_scopes.specs.Queue.{HasQueue, IsQueued, ScopesModel}
@@ -24,9 +24,9 @@ use Rattle.flat_objects.specs.Counting.{LeadsSomewhere, Tracks}
 use Rattle.flat_objects.proofs.Added.{blank_is, own_element}
 use Rattle.flat_objects.proofs.Placed.{IsMade, placed_object}
 
-module _ (locals heap : ℕ) (memory : Memory) (shape : IsMemory locals heap memory) (places : ℕ → ℕ) (objects : List Object) (keeps : Keeps memory places objects) (bytes marks : List ℕ) (after : HeapModel) (element : Layout) (size layout line birth : ℕ) (fit result : Option ℕ)
+module _ (locals heap : ℕ) (memory : Memory) (shape : IsMemory locals heap memory) (places : ℕ → ℕ) (objects : List Object) (keeps : Keeps memory places objects) (bytes : List ℕ) (marks : MarksModel) (after : HeapModel) (element : Layout) (size layout line birth : ℕ) (fit result : Option ℕ)
     (birth_is : birth ≡ length objects) (got : slice_get memory.forms layout ≡ Some (element_of element)) (placed : IfSome result (λ addr. IsPlaced memory.bytes bytes addr (block_size size) (new_header birth size layout line)))
-    (marks_change : MatchOption result (marks ≡ memory.marks) (λ addr. ChangesOnly memory.marks marks addr (size + 1))) (marked : IfSome result (λ addr. HasMarks marks addr size (object_slots (element_of element) size))) where
+    (marks_change : MatchOption result (marks ≡ memory.marks) (λ addr. ChangesMarks memory.marks marks addr size)) (marked : IfSome result (λ addr. IsMarked marks addr size (object_slots (element_of element) size))) where
   heap_others : (range : Range) → (Heap ≡ range → ⊥) → heap_of (record memory { heap = after; bytes = bytes; marks = marks }) range ≡ heap_of memory range
   heap_others Statics differ = refl
   heap_others Locals differ = refl
@@ -50,7 +50,7 @@ module _ (locals heap : ℕ) (memory : Memory) (shape : IsMemory locals heap mem
       subst IsForm (get_or_from_slice_get memory.forms layout (element_of element) (element_of element) got) (shape.forms layout (element_of element) (slice_get_within memory.forms layout (element_of element) got)) in
       let own : object_slots (element_of element) size ≡ element.slots = ap (object_slots (element_of element)) size_is ∙ own_element element.size element.slots form.slots in
       placed_object locals heap memory (record memory { statics = after; bytes = bytes; marks = marks }) shape places objects keeps (blank (object.Static index) size element.slots) (blank_is (object.Static index) size element.slots) fit result size layout line birth
-      result_is holds bounds placed refl refl refl static_others birth_is refl refl tt (element_of element, got, sym own) marks_change (subst (λ (slots : List ℕ). IfSome result (λ addr. HasMarks marks addr size slots)) own marked)
+      result_is holds bounds placed refl refl refl static_others birth_is refl refl tt (element_of element, got, sym own) marks_change (subst (λ (slots : List ℕ). IfSome result (λ addr. IsMarked marks addr size slots)) own marked)
 
   local_others : (range : Range) → (Locals ≡ range → ⊥) → heap_of (record memory { locals = after; bytes = bytes; marks = marks }) range ≡ heap_of memory range
   local_others Statics differ = refl
@@ -64,7 +64,7 @@ module _ (locals heap : ℕ) (memory : Memory) (shape : IsMemory locals heap mem
       subst IsForm (get_or_from_slice_get memory.forms layout (element_of element) (element_of element) got) (shape.forms layout (element_of element) (slice_get_within memory.forms layout (element_of element) got)) in
       let own : object_slots (element_of element) size ≡ element.slots = ap (object_slots (element_of element)) size_is ∙ own_element element.size element.slots form.slots in
       placed_object locals heap memory (record memory { locals = after; bytes = bytes; marks = marks }) shape places objects keeps (blank (object.Local func index) size element.slots) (blank_is (object.Local func index) size element.slots) fit result size layout line birth
-      result_is holds bounds placed refl refl refl local_others birth_is refl refl tt (element_of element, got, sym own) marks_change (subst (λ (slots : List ℕ). IfSome result (λ addr. HasMarks marks addr size slots)) own marked)
+      result_is holds bounds placed refl refl refl local_others birth_is refl refl tt (element_of element, got, sym own) marks_change (subst (λ (slots : List ℕ). IfSome result (λ addr. IsMarked marks addr size slots)) own marked)
 
 none_held : (memory : Memory) (places : ℕ → ℕ) → Holds memory.statics [] → Holds memory.locals [] → Holds memory.heap [] → (range : Range) → Holds (heap_of memory range) (blocks_of memory places [] range)
 none_held memory places statics locals heap Statics = statics
@@ -83,7 +83,7 @@ abbrev pub first_counts : ℕ → ℕ → Table
 first_counts end pins = record { counts = replicate (end / 16 + 1) 0; most = end / 4 + pins }
 
 pub new_memory : (statics locals : ℕ) (memory : Memory) (layouts : List Layout) (room pins : ℕ) → HasBounds 0 statics memory.statics → HasBounds statics locals memory.locals → HasBounds (statics + locals) room memory.heap → memory.bytes ≡ replicate (statics + locals + room) 0
-    → memory.counts ≡ first_counts (statics + locals + room) pins → statics % 16 ≡ 0 → locals % 16 ≡ 0 → statics + locals + room < 2 ^ 32 → memory.forms ≡ map element_of layouts → All (λ l. IsForm (element_of l)) layouts → memory.marks ≡ replicate (statics + locals + room) 0 → IsMemory statics (statics + locals) memory
+    → memory.counts ≡ first_counts (statics + locals + room) pins → statics % 16 ≡ 0 → locals % 16 ≡ 0 → statics + locals + room < 2 ^ 32 → memory.forms ≡ map element_of layouts → All (λ l. IsForm (element_of l)) layouts → memory.marks ≡ no_marks (statics + locals + room) → IsMemory statics (statics + locals) memory
 new_memory statics locals memory layouts room pins s l h bytes counts even_statics even_locals fits forms good marks =
     let end = statics + locals + room in
     let long : length memory.bytes ≡ end = ap length bytes ∙ length-replicate end 0 in
@@ -100,8 +100,10 @@ new_memory statics locals memory layouts room pins s l h bytes counts even_stati
       granules = omega arith;
       room = omega arith;
       forms = subst (All IsForm) (sym forms) (All-map IsForm element_of layouts good);
-      marked = omega (arith, ap length marks, length-replicate {A = ℕ} end 0);
-      null = ap (λ (l : List ℕ). slice_index l 0) marks ∙ first_zero end;
+      marked = omega (arith, ap (λ (m : MarksModel). length m.bytes) marks, length-replicate {A = ℕ} end 0);
+      ends = omega (arith, ap (λ (m : MarksModel). length m.ends) marks, length-replicate {A = ℕ} (end / 16 + 1) 0, ap (λ n. n / 16) long);
+      null = ap (λ (m : MarksModel). slice_index m.bytes 0) marks ∙ first_zero end;
+      null_end = ap (λ (m : MarksModel). slice_index m.ends 0) marks ∙ first_zero (end / 16 + 1);
     } where
       first_zero : (n : ℕ) → slice_index (replicate n 0) 0 ≡ 0
       first_zero zero = refl

@@ -20,8 +20,7 @@ use Rattle.heap_blocks.specs.Heads.{header_at, new_header}
 use Rattle.heap_blocks.specs.Held.{HasBounds, Holds, IsPlaced, address_of}
 use Rattle.count_table.specs.Table.{Table}
 use Rattle.delay_scopes.specs.Queue.{HasQueue, ScopesModel, header_of}
-use Rattle.byte_marks.specs.Marks as byte_marks
-use Rattle.byte_marks.specs.Marks.{HasMarks}
+use Rattle.byte_marks.specs.Marks.{ChangesMarks, IsMarked}
 use Rattle.flat_objects.specs.Memory.{Memory, Range, Heap, IsMemory, heap_of, range_of}
 use Rattle.flat_objects.specs.Keeping.{Keeps, HasSlots, IsLineOf, IsStateOf, block_of, blocks_of, stands_in}
 use Rattle.flat_objects.specs.Adding.{with_place, IsAdded}
@@ -184,7 +183,7 @@ pub placed_object : (locals heap : ℕ) (memory next : Memory) → IsMemory loca
     → IfSome result (λ addr. IsPlaced memory.bytes next.bytes addr (block_size size) (new_header birth size layout line))
     → next.forms ≡ memory.forms → next.counts ≡ memory.counts → next.scopes ≡ memory.scopes → ((range : Range) → (range_of new.sort ≡ range → ⊥) → heap_of next range ≡ heap_of memory range)
     → birth ≡ length objects → new.size ≡ size → new.standing ≡ object.Live → IsLineOf new.sort line → HasSlots memory.forms layout new
-    → MatchOption result (next.marks ≡ memory.marks) (λ addr. byte_marks.ChangesOnly memory.marks next.marks addr (size + 1)) → IfSome result (λ addr. HasMarks next.marks addr size new.slots)
+    → MatchOption result (next.marks ≡ memory.marks) (λ addr. ChangesMarks memory.marks next.marks addr size) → IfSome result (λ addr. IsMarked next.marks addr size new.slots)
     → IfSome result (IsMade memory next places objects new)
 placed_object locals heap memory next shape places objects keeps new blank fit None size layout line birth result_is holds bounds placed forms counts scopes others birth_is size_is live born slots marks marked = tt
 placed_object locals heap memory next shape places objects keeps new blank None (Some addr) size layout line birth result_is holds bounds placed forms counts scopes others birth_is size_is live born slots marks marked = absurd (cc)
@@ -209,6 +208,6 @@ placed_object locals heap memory next shape places objects keeps new blank (Some
       };
       slots = subst (λ (n : ℕ). HasSlots memory.forms n new) (sym (ap (λ (h : Header). h.layout) header)) slots;
       zero = ap (part next.bytes addr) size_is ∙ placed.zero ∙ ap (λ n. replicate n 0) (sym size_is);
-      marks = subst (λ (n : ℕ). byte_marks.ChangesOnly memory.marks next.marks addr (n + 1)) (sym size_is) marks;
-      marked = subst (λ (n : ℕ). HasMarks next.marks addr n new.slots) (sym size_is) marked;
+      marks = subst (λ (n : ℕ). ChangesMarks memory.marks next.marks addr n) (sym size_is) marks;
+      marked = subst (λ (n : ℕ). IsMarked next.marks addr n new.slots) (sym size_is) marked;
     })

@@ -60,7 +60,7 @@ module _ (locals heap : ℕ) (memory : Memory) (shape : IsMemory locals heap mem
 
 -- Bytes outside of slots
 
-module _ (locals heap : ℕ) (memory : Memory) (shape : IsMemory locals heap memory) (places : ℕ → ℕ) (objects : List Object) (addr n : ℕ) (width : IsWidth n) (bytes : AreBytes memory.marks addr n) (whole : addr % n ≡ 0) where
+module _ (locals heap : ℕ) (memory : Memory) (shape : IsMemory locals heap memory) (places : ℕ → ℕ) (objects : List Object) (addr n : ℕ) (width : IsWidth n) (bytes : AreBytes memory.marks.bytes addr n) (whole : addr % n ≡ 0) where
   some : 0 < n
   some = go width where
     go : IsWidth n → 0 < n
@@ -79,10 +79,10 @@ module _ (locals heap : ℕ) (memory : Memory) (shape : IsMemory locals heap mem
           | inr fits ↦ fits
           | inl over ↦
               let k = o.size - offset in
-              let here : slice_index memory.marks (addr + k) ≡ BYTE = bytes.bytes k (omega arith) in
+              let here : slice_index memory.marks.bytes (addr + k) ≡ BYTE = bytes.bytes k (omega arith) in
               let there : addr + k ≡ places birth + o.size = omega arith in
-              let behind = (at.keeps.standing birth at.stands.there).marks.behind in
-              let same = ap (slice_index memory.marks) there in
+              let behind = (at.keeps.standing birth at.stands.there).marks.bytes.behind in
+              let same = ap (slice_index memory.marks.bytes) there in
               absurd (omega arith)
         ]
 
@@ -92,10 +92,10 @@ module _ (locals heap : ℕ) (memory : Memory) (shape : IsMemory locals heap mem
         let o = object_at objects birth in
         let address = at.stands.address in
         let fits = plain_fits in
-        let here : slice_index memory.marks (addr + (b - offset)) ≡ BYTE = bytes.bytes (b - offset) (omega arith) in
+        let here : slice_index memory.marks.bytes (addr + (b - offset)) ≡ BYTE = bytes.bytes (b - offset) (omega arith) in
         let same : addr + (b - offset) ≡ places birth + b = omega arith in
         outside_slots (is_slot o.slots b) (touches_slot o.slots b 1)
-        (sym ((at.keeps.standing birth at.stands.there).marks.bytes b (omega arith)) ∙ sym (ap (slice_index memory.marks) same) ∙ here)
+        (sym ((at.keeps.standing birth at.stands.there).marks.bytes.bytes b (omega arith)) ∙ sym (ap (slice_index memory.marks.bytes) same) ∙ here)
 
     plain_clear : touches_slot (object_at objects birth).slots offset n ≡ false
     plain_clear =
@@ -117,10 +117,10 @@ module _ (locals heap : ℕ) (memory : Memory) (shape : IsMemory locals heap mem
   plain_allowed pointer.Null at =
       let stands : addr ≡ 0 = at.stands in
       let positive = some in
-      let here : slice_index memory.marks (addr + 0) ≡ BYTE = bytes.bytes 0 (omega arith) in
+      let here : slice_index memory.marks.bytes (addr + 0) ≡ BYTE = bytes.bytes 0 (omega arith) in
       let same : addr + 0 ≡ 0 = omega arith in
       let null = shape.null in
-      let other = ap (slice_index memory.marks) same in
+      let other = ap (slice_index memory.marks.bytes) same in
       absurd (omega arith)
   plain_allowed (pointer.At birth offset) at = (
     place_at birth offset,
@@ -132,10 +132,10 @@ module _ (locals heap : ℕ) (memory : Memory) (shape : IsMemory locals heap mem
   plain_inside pointer.Null at =
       let stands : addr ≡ 0 = at.stands in
       let positive = some in
-      let here : slice_index memory.marks (addr + 0) ≡ BYTE = bytes.bytes 0 (omega arith) in
+      let here : slice_index memory.marks.bytes (addr + 0) ≡ BYTE = bytes.bytes 0 (omega arith) in
       let same : addr + 0 ≡ 0 = omega arith in
       let null = shape.null in
-      let other = ap (slice_index memory.marks) same in
+      let other = ap (slice_index memory.marks.bytes) same in
       absurd (omega arith)
   plain_inside (pointer.At birth offset) at =
       let fits = plain_fits birth offset at in
@@ -144,7 +144,7 @@ module _ (locals heap : ℕ) (memory : Memory) (shape : IsMemory locals heap mem
 
 -- Slots
 
-module _ (locals heap : ℕ) (memory : Memory) (shape : IsMemory locals heap memory) (places : ℕ → ℕ) (objects : List Object) (addr : ℕ) (slot : IsSlotAt memory.marks addr) (whole : addr % 4 ≡ 0) where
+module _ (locals heap : ℕ) (memory : Memory) (shape : IsMemory locals heap memory) (places : ℕ → ℕ) (objects : List Object) (addr : ℕ) (slot : IsSlotAt memory.marks.bytes addr) (whole : addr % 4 ≡ 0) where
   module _ (birth offset : ℕ) (at : KeepsAt memory places objects (pointer.At birth offset) addr) where
     slot_below : offset < (object_at objects birth).size
     slot_below =
@@ -155,9 +155,9 @@ module _ (locals heap : ℕ) (memory : Memory) (shape : IsMemory locals heap mem
           | inl less ↦ less
           | inr end ↦
               let there : addr ≡ places birth + o.size = omega arith in
-              let behind = (at.keeps.standing birth at.stands.there).marks.behind in
+              let behind = (at.keeps.standing birth at.stands.there).marks.bytes.behind in
               let first = slot.first in
-              let same = ap (slice_index memory.marks) there in
+              let same = ap (slice_index memory.marks.bytes) there in
               absurd (omega arith)
         ]
 
@@ -166,7 +166,7 @@ module _ (locals heap : ℕ) (memory : Memory) (shape : IsMemory locals heap mem
         let o = object_at objects birth in
         let same : addr ≡ places birth + offset = at.stands.address in
         first_of_slot (is_slot o.slots offset) (touches_slot o.slots offset 1)
-        (sym ((at.keeps.standing birth at.stands.there).marks.bytes offset slot_below) ∙ sym (ap (slice_index memory.marks) same) ∙ slot.first)
+        (sym ((at.keeps.standing birth at.stands.there).marks.bytes.bytes offset slot_below) ∙ sym (ap (slice_index memory.marks.bytes) same) ∙ slot.first)
 
     slot_fits : offset + 4 ≤ (object_at objects birth).size
     slot_fits =
@@ -178,7 +178,7 @@ module _ (locals heap : ℕ) (memory : Memory) (shape : IsMemory locals heap mem
   null_is_none stands =
       let first = slot.first in
       let null = shape.null in
-      let same = ap (slice_index memory.marks) stands in
+      let same = ap (slice_index memory.marks.bytes) stands in
       omega arith
 
   pub slot_allowed : (p : Pointer) → KeepsAt memory places objects p addr → (at : Place) × (access_pointer objects p ≡ Ok at)

@@ -1,10 +1,10 @@
 -- One object more.
-use Rattle.std.specs.Prelude.{◌≡◌, ◌+◌, ℕ, cond, nat_eq, List, [], ◌∷◌, ◌++◌, map, filter, length, slice_get, Option, Some, IfSome, MatchOption, option_map}
+use Rattle.std.specs.Prelude.{◌≡◌, ℕ, cond, nat_eq, List, [], ◌∷◌, ◌++◌, map, filter, length, slice_get, Option, Some, IfSome, MatchOption, option_map}
 use Rattle.hs_base.specs.declared.values.Pointer.{Pointer}
 use Rattle.hs_base.specs.Object.{Object, Local, Static}
 use Rattle.c_types.specs.declared.layouts.Layout.{Layout}
 use Rattle.adjusters.specs.ObjectSlots.{Element, element_of, object_slots}
-use Rattle.byte_marks.specs.Marks.{ChangesOnly, HasMarks}
+use Rattle.byte_marks.specs.Marks.{ChangesMarks, IsMarked, MarksModel}
 use Rattle.heap_blocks.specs.Held.{address_of, fit_of}
 use Rattle.object_meaning.specs.objects.Making.{blank, heap_object}
 use Rattle.flat_objects.specs.Memory.{Memory, Range, heap_of}
@@ -62,11 +62,11 @@ TracksStatic old new index layout size placed =
 
 -- Marks
 
--- only the marks of an object of a size where it was placed, and of the byte behind it, changed, and none where it was not
-abbrev pub MarksOnly : List ℕ → List ℕ → Option ℕ → ℕ → Type 0
-MarksOnly old new placed size = MatchOption placed (new ≡ old) (λ addr. ChangesOnly old new addr (size + 1))
+-- only the marks of an object of a size where it was placed changed, and none where it was not
+abbrev pub MarksOnly : MarksModel → MarksModel → Option ℕ → ℕ → Type 0
+MarksOnly old new placed size = MatchOption placed (new ≡ old) (λ addr. ChangesMarks old new addr size)
 
 -- it has the marks of elements of a layout
-abbrev pub HasMarksOf : List Element → ℕ → List ℕ → Option ℕ → ℕ → Type 0
+abbrev pub HasMarksOf : List Element → ℕ → MarksModel → Option ℕ → ℕ → Type 0
 HasMarksOf forms layout marks placed size =
-    (form : Element) → slice_get forms layout ≡ Some form → IfSome placed (λ addr. HasMarks marks addr size (object_slots form size))
+    (form : Element) → slice_get forms layout ≡ Some form → IfSome placed (λ addr. IsMarked marks addr size (object_slots form size))

@@ -13,7 +13,7 @@ use Rattle.adjusters.specs.ObjectSlots.{Element, object_slots}
 use Rattle.heap_blocks.specs.declared.headers.Header.{Header}
 use Rattle.heap_blocks.specs.Heads.{header_at}
 use Rattle.heap_blocks.specs.Held.{Holds}
-use Rattle.byte_marks.specs.Marks.{HasMarks}
+use Rattle.byte_marks.specs.Marks.{IsMarked}
 use Rattle.flat_objects.specs.Memory.{Memory, Range, heap_of, is_of, range_of}
 use Rattle.flat_objects.specs.Standing.{IsThere, IsAddressOf}
 
@@ -71,8 +71,8 @@ pub record StandsAt (memory : Memory) (places : ℕ → ℕ) (objects : List Obj
   -- the address in each slot stands for its pointer
   pub many : length o.pointers ≡ length o.slots
   pub pointers : (k : ℕ) → k < length o.slots → IsAddressOf places objects (slice_index_or o.pointers k Null) (word memory.bytes (addr + slice_index o.slots k) 4)
-  -- its bytes have their marks
-  pub marks : HasMarks memory.marks addr o.size o.slots
+  -- its bytes have their marks, and its end stands beside them
+  pub marks : IsMarked memory.marks addr o.size o.slots
 
 -- the memory keeps these objects at these places
 pub record Keeps (memory : Memory) (places : ℕ → ℕ) (objects : List Object) : Type 0 where

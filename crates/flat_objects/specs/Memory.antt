@@ -3,13 +3,14 @@ use Rattle.std.specs.Prelude.{◌≡◌, ◌+◌, ◌-◌, ◌*◌, ◌/◌, ◌
 use Rattle.c_types.specs.Layouts.{AreSlots}
 use Rattle.hs_base.specs.Object as object
 use Rattle.byte_marks.specs.declared.TheConstants.{NOTHING}
+use Rattle.byte_marks.specs.Marks.{MarksModel}
 use Rattle.adjusters.specs.ObjectSlots.{Element}
 use Rattle.count_table.specs.Table.{Table}
 use Rattle.delay_scopes.specs.Queue.{ScopesModel}
 use Rattle.heap_blocks.specs.Held.{HeapModel, HasBounds}
 
 -- its bytes, the three ranges of addresses in which objects stand, how many pointers count for each granule of 16 bytes, the open
--- scopes with the queue of freed objects, the elements of which objects are made, by number, and a mark for each byte
+-- scopes with the queue of freed objects, the elements of which objects are made, by number, and the marks of the bytes
 pub record Memory : Type 0 where
   pub bytes : List ℕ
   pub statics : HeapModel
@@ -18,7 +19,7 @@ pub record Memory : Type 0 where
   pub counts : Table
   pub scopes : ScopesModel
   pub forms : List Element
-  pub marks : List ℕ
+  pub marks : MarksModel
 
 -- a range for each sort of objects
 pub data Range : Type 0 where
@@ -55,8 +56,9 @@ pub record IsForm (form : Element) : Type 0 where
   pub slots : AreSlots 0 form.size form.slots
 
 -- an object of a size at an address, and the byte behind its end, have marks; its addresses have 4 bytes
-pub record IsMarkable (marks : List ℕ) (size addr : ℕ) : Type 0 where
-  pub inside : addr + size < length marks
+pub record IsMarkable (marks : MarksModel) (size addr : ℕ) : Type 0 where
+  pub inside : addr + size < length marks.bytes
+  pub granules : (addr + size) / 16 < length marks.ends
   pub fits : addr + size < 2 ^ 32
 
 -- the ranges stand side by side within the bytes, those of locals and of the heap from these addresses on
@@ -73,9 +75,11 @@ pub record IsMemory (locals heap : ℕ) (memory : Memory) : Type 0 where
   pub granules : length memory.bytes < 16 * length memory.counts.counts
   pub room : length memory.bytes / 4 ≤ memory.counts.most
   pub forms : All IsForm memory.forms
-  -- there is a mark for each byte, and null is no byte of an object
-  pub marked : length memory.bytes ≤ length memory.marks
-  pub null : slice_index memory.marks 0 ≡ NOTHING
+  -- there is a mark for each byte and an end for each granule, and null is no byte of an object and has the end 0
+  pub marked : length memory.bytes ≤ length memory.marks.bytes
+  pub ends : length memory.bytes / 16 < length memory.marks.ends
+  pub null : slice_index memory.marks.bytes 0 ≡ NOTHING
+  pub null_end : slice_index memory.marks.ends 0 ≡ 0
 
 -- the ranges have the bounds that they had, as many pointers can count, and the elements are the same
 pub record SameFrame (before after : Memory) : Type 0 where

@@ -58,7 +58,7 @@ impl FlatObjects {
     #[inline(always)]
     fn are_plain(&self, addr: u32, n: u32) -> bool
         requires { (n ≡ 1) ⊎ ((n ≡ 2) ⊎ ((n ≡ 4) ⊎ (n ≡ 8))) }
-        ensures { IsTrue result → AreBytes self.now.marks addr n × (addr % n ≡ 0) }
+        ensures { IsTrue result → AreBytes self.now.marks.bytes addr n × (addr % n ≡ 0) }
     {
         self.marks.are_bytes(addr, n) && addr % n == 0
     }
@@ -66,7 +66,7 @@ impl FlatObjects {
     /// Says whether a slot stands at an address that is a multiple of 4: a look at its first mark.
     #[inline(always)]
     fn is_pointer(&self, addr: u32) -> bool
-        ensures { IsTrue result → IsSlotAt self.now.marks addr × (addr % 4 ≡ 0) }
+        ensures { IsTrue result → IsSlotAt self.now.marks.bytes addr × (addr % 4 ≡ 0) }
     {
         self.marks.is_slot(addr) && addr % 4 == 0
     }

@@ -14,13 +14,13 @@ use core_tree::CmpOp;
 use hs_base::{IntKind, TrapKind};
 use std::sync::ledger::Ledger;
 
-/// A number from 0 on that is below 2^31, as most counts and sizes are.
+/// A number from 0 on that is below 2^32, as most counts and sizes are.
 #[inline(always)]
 fn short(n: i128) -> Option<u64>
     ensures value { IfSome result (λ m. pos m ≡ n) }
-    ensures small { IfSome result (λ m. m < 2 ^ 31) }
+    ensures small { IfSome result (λ m. m < 2 ^ 32) }
 {
-    if 0 <= n && n < 0x8000_0000 {
+    if 0 <= n && n < 0x1_0000_0000 {
         Some(n as u64)
     } else {
         None
@@ -31,7 +31,7 @@ fn short(n: i128) -> Option<u64>
 #[inline(always)]
 fn short_product(one: i128, other: i128) -> Option<u64>
     ensures value { IfSome result (λ product. pos product ≡ one *ℤ other) }
-    ensures small { IfSome result (λ product. product < 2 ^ 62) }
+    ensures small { IfSome result (λ product. product + 2 ^ 32 < 2 ^ 64) }
 {
     let Some(first) = short(one) else {
         return None;
@@ -50,19 +50,6 @@ fn address_within(start: u32, size: u32, place: i128) -> Result<u32, TrapKind>
 {
     if 0 <= place && place <= i128::from(size) {
         Ok(start + place as u32)
-    } else {
-        Err(TrapKind::Range)
-    }
-}
-
-/// The address so many bytes behind the start of an object of a size, up to one past its end.
-#[inline(always)]
-fn address_behind(start: u32, size: u32, bytes: u64) -> Result<u32, TrapKind>
-    requires { start + size < 2 ^ 32 }
-    ensures { MovesTo start size (pos bytes) result }
-{
-    if bytes <= u64::from(size) {
-        Ok(start + bytes as u32)
     } else {
         Err(TrapKind::Range)
     }
@@ -171,27 +158,31 @@ impl FlatObjects {
         }
     }
 
-    /// An address moved up by so many bytes, which 62 bits count. Null is moved by 0 alone.
+    /// An address moved up by so many elements of a size. Where both are short a look at the end of its object is enough for each
+    /// place up to that end.
     #[inline(always)]
-    fn moved_on<L: Ledger>(
+    pub fn moved_up<L: Ledger>(
         &self,
         addr: u32,
-        bytes: u64,
+        count: i128,
+        size: i128,
         steps: &mut Steps<L>,
     ) -> Result<u32, TrapKind>
-        requires kept { IsKept self.now addr }
-        requires small { bytes < 2 ^ 62 }
-        ensures { IsMovedBy self.now addr (pos bytes) result }
+        requires { IsKept self.now addr }
+        ensures { IsMovedBy self.now addr (count *ℤ size) result }
     {
-        if addr == 0 {
-            return if bytes == 0 {
-                Ok(0)
-            } else {
-                Err(TrapKind::Null)
-            };
+        let _ = &self.bytes;
+        match short_product(count, size) {
+            Some(bytes) => {
+                let target = u64::from(addr) + bytes;
+                if target <= u64::from(self.marks.end(addr)) {
+                    Ok(target as u32)
+                } else {
+                    self.moved_up_far(addr, count, size, steps)
+                }
+            }
+            None => self.moved_up_far(addr, count, size, steps),
         }
-        let found = self.spot(addr, steps);
-        address_behind(found.start, found.size, u64::from(found.offset) + bytes)
     }
 
     /// An address moved down by so many bytes. Null is moved by 0 alone.
@@ -214,24 +205,6 @@ impl FlatObjects {
         }
         let found = self.spot(addr, steps);
         address_before(found.start, found.size, found.offset, bytes)
-    }
-
-    /// An address moved up by so many elements of a size.
-    #[inline(always)]
-    pub fn moved_up<L: Ledger>(
-        &self,
-        addr: u32,
-        count: i128,
-        size: i128,
-        steps: &mut Steps<L>,
-    ) -> Result<u32, TrapKind>
-        requires { IsKept self.now addr }
-        ensures { IsMovedBy self.now addr (count *ℤ size) result }
-    {
-        match short_product(count, size) {
-            Some(bytes) => self.moved_on(addr, bytes, steps),
-            None => self.moved_up_far(addr, count, size, steps),
-        }
     }
 
     /// An address moved down by so many elements of a size, however far.

@@ -1,4 +1,4 @@
-use Rattle.std.proofs.Common.{◌≡◌, ◌∷◌, ◌++◌, [], ℕ, Some, refl, sym, subst, ◌<◌, arith}
+use Rattle.std.proofs.Common.{◌≡◌, ◌∷◌, ◌++◌, [], ℕ, Some, refl, sym, subst, ◌≤◌, arith}
 use Rattle.std.specs.Prelude.{option_map, slice_get}
 use Rattle.adjusters.specs.ObjectSlots.{element_of}
 use Rattle.object_meaning.specs.objects.Making.{heap_object}
@@ -18,7 +18,7 @@ invariant_of-self g c =
     let memory : Memory = record { bytes = c.self.inside.bytes; statics = c.self.inside.statics; locals = c.self.inside.locals; heap = c.self.inside.heap; counts = c.self.inside.counts; scopes = c.self.inside.scopes; forms = c.self.inside.forms; marks = c.self.inside.marks } in
     still_memory c.self.inside.locals_from c.self.inside.heap_from memory (record memory { bytes = c.place-placed.new.bytes; heap = c.place-placed.new.self; marks = c.mark.new.marks }) c.self.invariant
     (frame_heap memory memory c.place-placed.new.bytes c.mark.new.marks c.place-placed.new.self refl c.place-placed.ensures.bounds c.place-placed.ensures.long) refl
-    (placed_marks memory.marks c.mark.new.marks c.place-placed.result c.args.size c.mark.ensures.changes (some_more c.place-placed.result (IsWithin memory.heap c.args.size) (λ addr. 0 < addr) (λ addr within. omega (arith, within.start)) c.place-placed.ensures.within))
+    (placed_marks memory.marks c.mark.new.marks c.place-placed.result c.args.size c.mark.ensures.changes (some_more c.place-placed.result (IsWithin memory.heap c.args.size) (λ addr. 32 ≤ addr) (λ addr within. omega (arith, within.start)) c.place-placed.ensures.within))
 
 pub mark-requires-clause-forms : goal.mark-requires-clause-forms
 mark-requires-clause-forms g c = c.self.invariant.forms
