@@ -1,4 +1,5 @@
 pub mod Examples
 pub mod NumberedNames
+pub mod LayerParts
 pub mod SameTypes
 pub mod ScopeLemmas

@@ -1,5 +1,6 @@
 pub mod IntegerTypes
 pub mod Constants
+pub mod Layered
 pub mod Named
 pub mod ScopeList
 pub mod BuiltIns

@@ -19,7 +19,7 @@ abbrev pub plain_named : Named → PlainNamed
 plain_named (n.Object type index) = Object (plain type) index
 plain_named (n.Register type index) = Register (plain type) index
 plain_named (n.Function type index) = Function (plain type) index
-plain_named (n.Typedef type) = Typedef (plain type)
+plain_named (n.Typedef type) = Typedef type
 plain_named (n.Constant type value) = Constant type value
 plain_named (n.BuiltIn index) = BuiltIn index
 plain_named (n.Tag type) = Tag (plain type)

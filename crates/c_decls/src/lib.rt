@@ -4,6 +4,8 @@
 //!   the start, and those inside it. Contracts see them as lists of names in order of declaration
 //!   (`specs/ScopeList.antt`), the innermost scope first; what [`Scopes::declare`] and [`Scopes::find`] answer is by these
 //!   lists alone. Types are seen as plain data (`specs/Named.antt`). An error changes nothing.
+//! - [`LayeredType`] is a type with a part of it and how often that part stands in it, as the name of a type keeps it: so a type
+//!   of very many array layers is measured by its part.
 //! - [`BuiltIn`] is a name that stands in every text; its number is its place in [`BuiltIn::ALL`].
 //! - [`promoted`], [`common_type`] and [`number_type`] are the integer promotions, the usual arithmetic conversions and the
 //!   type of a number (`specs/IntegerTypes.antt`): `int` and `long` are different types of one width.
@@ -20,6 +22,7 @@
 mod built_in;
 mod constant;
 mod integers;
+mod layered;
 mod lines;
 mod named;
 mod refusal;
@@ -31,6 +34,7 @@ mod typed;
 pub use built_in::BuiltIn;
 pub use constant::Constant;
 pub use integers::{common_type, number_type, promoted};
+pub use layered::LayeredType;
 pub use lines::{init_line, inner_line, line_of};
 pub use named::{Named, tag_name};
 pub use refusal::{TypeError, TypeKind};

@@ -4,6 +4,7 @@ ghost use Rattle.std.specs.Prelude.{◌≡◌, ◌↔◌, IsTrue, IfOk};
 ghost use Rattle.c_decls.specs.Named.{plain_named};
 ghost use Rattle.c_decls.specs.ScopeList.{IsSameAgain, tag_name};
 
+use crate::layered::LayeredType;
 use c_types::{CType, IntType, same_type};
 use hs_base::{Items, NoMemory};
 use std::alloc::Global;
@@ -18,7 +19,7 @@ pub enum Named {
     /// A function, by its number in the order of first declaration.
     Function { ty: CType, index: u32 },
     /// A name of a type.
-    Typedef { ty: CType },
+    Typedef { ty: LayeredType },
     /// An enumerator.
     Constant { ty: IntType, value: i128 },
     /// A name that stands in every text, by its place in [`BuiltIn::ALL`](crate::BuiltIn::ALL).
@@ -34,7 +35,9 @@ pub(crate) fn is_same_again(before: &Named, again: &Named) -> bool
     match (before, again) {
         (Named::Object { ty, .. }, Named::Object { ty: other, .. }) => same_type(ty, other),
         (Named::Function { ty, .. }, Named::Function { ty: other, .. }) => same_type(ty, other),
-        (Named::Typedef { ty }, Named::Typedef { ty: other }) => same_type(ty, other),
+        (Named::Typedef { ty }, Named::Typedef { ty: other }) => {
+            same_type(&ty.ty(), &other.ty())
+        }
         _ => false,
     }
 }

@@ -59,8 +59,8 @@ none_left (layer ∷ rest) = grind arith
 -- a layer of a parameter that is refused
 pub param_refused : (tags : TagTable) (before after : List CodeLayer) (layer : CodeLayer) (type : PlainType) (is_last : Bool)
     (error : TypeError) → before ≡ after ++ layer ∷ [] → is_last ≡ (length after == 0) →
-    Meets plain (Err error) (layered_last tags (with_length (plain_layer layer) is_last) is_last type) →
-    Meets plain (Err error) (with_param_layers tags (plain_layers before) type)
+    Meets (λ (type : PlainType). type) (Err error) (layered_last tags (with_length (plain_layer layer) is_last) is_last type) →
+    Meets (λ (type : PlainType). type) (Err error) (with_param_layers tags (plain_layers before) type)
 param_refused tags before after layer type is_last (e.Bad kind line) popped last h =
     let same : is_none_left (plain_layers after) ≡ is_last =
     none_left (plain_layers after)

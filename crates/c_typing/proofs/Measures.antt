@@ -53,13 +53,8 @@ pub measured_ok : (r : Result (Option ℕ) NoMemory) (whole size part : Option �
 measured_ok (Ok all) whole size part count h e is s = all_counted whole size all count (subst (λ (o : Option ℕ). IsCounted whole count o) (sym e) h) is s
 measured_ok (Err e) whole size part count h same is s = tt
 
-sized_array : (o : Option Layout) (n each bytes : ℕ) → option_map (λ (l : Layout). l.size) o ≡ Some each → bytes ≡ n * each →
-    option_map (λ (l : Layout). l.size) (option_map (array_layout n) o) ≡ Some bytes
-sized_array None n each bytes some all = cc
-sized_array (Some l) n each bytes some all = let same : l.size ≡ each = cc in ap Some (sym (all ∙ ap (λ (m : ℕ). n * m) (sym same)))
-
--- an array's size by that of its elements
-pub array_size : (table : TagTable) (array element : PlainType) (size : Option ℕ) (n each bytes : ℕ) → size ≡ size_in table element → size ≡ Some each →
-    array ≡ Array element n → bytes ≡ n * each → size_in table array ≡ Some bytes
-array_size table array element size n each bytes is some shape all =
-    ap (size_in table) shape ∙ sized_array (layout_of (known table.completed) element) n each bytes (sym is ∙ some) all
+-- the size of a whole by that of a part that stands in it so often
+pub sized_by_part : (r : Result (Option ℕ) NoMemory) (whole size part : Option ℕ) (count : ℕ) → IfOk r (λ all. all ≡ option_map (λ n. n * count) size) → size ≡ part →
+    whole ≡ option_map (λ n. n * count) part → IfOk r (λ all. all ≡ whole)
+sized_by_part (Ok all) whole size part count h e w = h ∙ ap (option_map (λ n. n * count)) e ∙ sym w
+sized_by_part (Err e) whole size part count h same w = tt

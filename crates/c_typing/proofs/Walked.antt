@@ -264,7 +264,7 @@ sizeof_walks kind line type t c d p r is at named h =
 
 pub sizeof_refused : (kind : ExprKind) (line : ℕ) (type : Box TypeName Global) (t : TypeName) (c d : Context) (error : TypeError) →
     kind ≡ x.SizeofType type → t ≡ type.value →
-    Walks plain d (Err error) (typename (typename_view t) c) →
+    Walks (λ (type : PlainType). type) d (Err error) (typename (typename_view t) c) →
     Walks plain_typed d (Err error) (typed (expr_tree kind line) c)
 sizeof_refused kind line type t c d (e.Bad k l) is at h =
     sizeof_is kind line type c is
@@ -299,7 +299,7 @@ cast_walks kind line type operand t b c d f p y r is at same named valued h =
 
 pub cast_type_refused : (kind : ExprKind) (line : ℕ) (type : Box TypeName Global) (operand : Box Expr Global) (t : TypeName)
     (c d : Context) (error : TypeError) → kind ≡ x.Cast type operand → t ≡ type.value →
-    Walks plain d (Err error) (typename (typename_view t) c) →
+    Walks (λ (type : PlainType). type) d (Err error) (typename (typename_view t) c) →
     Walks plain_typed d (Err error) (typed (expr_tree kind line) c)
 cast_type_refused kind line type operand t c d (e.Bad k l) is at h =
     cast_is kind line type operand c is

@@ -1,13 +1,13 @@
 -- The layers of a declarator as the code keeps them: the last one stands next to the specs.
-use Rattle.std.specs.Prelude.{◌≡◌, IfSome, ℕ, Bool, true, false, List, [], ◌∷◌, map, reverse, Option, Some, None}
-use Rattle.c_types.specs.Types.{PlainType, plain, plain_list}
-use Rattle.c_types.specs.TagTable.{TagTable, size_in}
+use Rattle.std.specs.Prelude.{ℕ, Bool, true, false, List, [], ◌∷◌, map, reverse, Option, Some, None, Result}
+use Rattle.c_types.specs.Types.{PlainType, plain_list}
+use Rattle.c_types.specs.TagTable.{TagTable}
 use Rattle.c_decls.specs.declared.refusal.TypeKind.TheVariants.{LeftOut}
-use Rattle.c_decls.specs.Refusals.{Checked, refused, then}
+use Rattle.c_decls.specs.declared.refusal.TypeError.{TypeError}
+use Rattle.c_decls.specs.Refusals.{Checked, Meets, refused, then}
 use Rattle.c_decls.specs.TypeNames.{Layer, PointerTo, ArrayOf, FunctionOf, layered}
 use Rattle.c_typing.specs.declared.layers.Layer.{Layer as CodeLayer}
 use Rattle.c_typing.specs.declared.layers.Layer.TheVariants as l
-use Rattle.c_typing.specs.declared.layers.Grown.{Grown}
 
 abbrev pub plain_layer : CodeLayer → Layer
 plain_layer (l.PointerTo line) = PointerTo line
@@ -37,6 +37,6 @@ abbrev pub with_length : Layer → Bool → Layer
 with_length (ArrayOf line None) true = ArrayOf line (Some 1)
 with_length layer is_last = layer
 
--- a size that is known is that of the type
-abbrev pub IsMeasured : TagTable → Grown → Type 0
-IsMeasured tags grown = IfSome grown.size (λ n. size_in tags (plain grown.ty) ≡ Some n)
+-- code that makes a type with layers, against the type that is to be made, or its refusal
+abbrev pub Makes : Result PlainType TypeError → Checked PlainType → Type 0
+Makes result wanted = Meets (λ type. type) result wanted

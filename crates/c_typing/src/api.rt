@@ -12,7 +12,9 @@ ghost use Rattle.c_typing.specs.Walks.{Walks, here, with_new};
 
 use crate::lent::Around;
 use crate::typer::{Typer, is_made};
-use c_decls::{Constant, Folded, Scopes, TypeError, TypeKind, Typed, line_of, refused};
+use c_decls::{
+    Constant, Folded, LayeredType, Scopes, TypeError, TypeKind, Typed, line_of, refused,
+};
 use c_tree::{Expr, Spec, TypeName};
 use c_types::{CType, TagInfo, Tags};
 use hs_base::{Line, NoMemory};
@@ -66,8 +68,8 @@ pub fn special_type(
     tags: &mut Tags,
     line: Line,
     word: &Spec,
-) -> Result<CType, TypeError>
-    ensures { Walks plain (here scopes.new tags.new) result (special_type line (spec_tree word.now) (here scopes.old tags.old)) }
+) -> Result<LayeredType, TypeError>
+    ensures { Walks (λ type. type) (here scopes.new tags.new) result (special_type line (spec_tree word.now) (here scopes.old tags.old)) }
 {
     let mut typer = Typer {
         alloc,
@@ -108,7 +110,7 @@ pub fn typename(
     } = typer;
     *scopes = after.into_own()?;
     make_tags(tags, new_tags)?;
-    Ok(answer)
+    Ok(answer.ty())
 }
 
 /// An expression whose value is wanted, at a place whose scopes and tags are only lent: what it declares is forgotten.

@@ -1,15 +1,16 @@
 //! The types that the layers of a declarator make (C99 6.7.5).
 
-ghost use Rattle.std.specs.Prelude.{◌≡◌, IfOk};
+ghost use Rattle.std.specs.Prelude.{◌≡◌};
 ghost use Rattle.c_types.specs.Types.{plain};
-ghost use Rattle.c_types.specs.TagTable.{TagTable, size_in};
-ghost use Rattle.c_decls.specs.Refusals.{Answers, Meets};
+ghost use Rattle.c_decls.specs.Refusals.{Answers};
 ghost use Rattle.c_decls.specs.Typed.{plain_typed};
 ghost use Rattle.c_decls.specs.TypeNames as rules;
-ghost use Rattle.c_typing.specs.Layers.{plain_layer, plain_layers, layered_last, buried_line, with_length, IsMeasured};
+ghost use Rattle.c_typing.specs.Layers.{plain_layer, plain_layers, layered_last, buried_line, with_length, Makes};
 
-use crate::places::measured;
-use c_decls::{Folded, TypeError, TypeKind, Typed, is_array, is_function, is_record, refused};
+use crate::places::size_of_layered;
+use c_decls::{
+    Folded, LayeredType, TypeError, TypeKind, Typed, is_array, is_function, is_record, refused,
+};
 use c_types::{CType, Signature, Tags};
 use hs_base::{Line, NoMemory};
 use std::alloc::Global;
@@ -36,35 +37,15 @@ pub fn array_length(line: Line, e: &Typed) -> Result<u128, TypeError>
 /// The greatest size of a type, in bytes.
 const LIMIT: u128 = 268_435_456;
 
-/// A type to which layers are added, with its size where that is known: so a type is measured once, and not at each layer.
-#[derive(Drop)]
-struct Grown {
-    ty: CType,
-    size: Option<u64>,
-}
-
-/// The size of a type, or `None` where it has none.
-fn size_of_grown(tags: &Tags, grown: &Grown) -> Result<Option<u64>, NoMemory>
-    requires { IsMeasured tags.now grown.now }
-    ensures { IfOk result (λ size. size ≡ size_in tags.now (plain grown.now.ty)) }
-{
-    match grown.size {
-        Some(size) => Ok(Some(size)),
-        None => measured(tags, &grown.ty),
-    }
-}
-
 /// An array of elements of this size, if they have one (C99 6.7.5.2).
-#[tactic(auto, using(crate::proofs::Measures::array_size))]
 fn array_of(
     alloc: Global,
     line: Line,
-    element: CType,
+    element: LayeredType,
     size: Option<u64>,
     length: Option<u128>,
-) -> Result<Grown, TypeError>
-    ensures array { Meets (λ grown. plain grown.ty) result (rules.array_of line (plain element) size length) }
-    ensures measured { (tags : TagTable) → size ≡ size_in tags (plain element) → IfOk result (IsMeasured tags) }
+) -> Result<LayeredType, TypeError>
+    ensures { Makes result (rules.array_of line element size length) }
 {
     let (Some(size), Some(length)) = (size, length) else {
         return refused(TypeKind::Incomplete, line);
@@ -72,42 +53,42 @@ fn array_of(
     match length.checked_mul(u128::from(size)) {
         Some(bytes) if bytes <= LIMIT => {
             let length = u32::try_from(length).map_err(|_| NoMemory)?;
-            let ty = CType::array_of(alloc, element, length)?;
-            let size = Some(bytes as u64);
-            Ok(Grown { ty, size })
+            Ok(element.array_of(alloc, length)?)
         }
         _ => refused(TypeKind::TypeTooLarge, line),
     }
 }
 
 /// A type with one layer more (C99 6.7.5.1 to 6.7.5.3).
-fn layered(alloc: Global, tags: &Tags, layer: Layer, grown: Grown) -> Result<Grown, TypeError>
-    requires { IsMeasured tags.now grown }
-    ensures layered { Meets (λ it. plain it.ty) result (rules.layered tags.now (plain_layer layer) (plain grown.ty)) }
-    ensures measured { IfOk result (IsMeasured tags.now) }
+fn layered(
+    alloc: Global,
+    tags: &Tags,
+    layer: Layer,
+    inner: LayeredType,
+) -> Result<LayeredType, TypeError>
+    ensures { Makes result (rules.layered tags.now (plain_layer layer) inner) }
 {
+    let ty = inner.ty();
     match layer {
         Layer::PointerTo(line) => {
-            if is_function(&grown.ty) {
+            if is_function(&ty) {
                 return refused(TypeKind::LeftOut, line);
             }
-            let ty = CType::pointer_to(alloc, grown.ty)?;
-            Ok(Grown { ty, size: None })
+            Ok(LayeredType::of(CType::pointer_to(alloc, ty)?))
         }
         Layer::ArrayOf(line, length) => {
-            if is_function(&grown.ty) {
+            if is_function(&ty) {
                 return refused(TypeKind::LeftOut, line);
             }
-            let size = size_of_grown(tags, &grown)?;
-            array_of(alloc, line, grown.ty, size, length)
+            let size = size_of_layered(tags, &inner)?;
+            array_of(alloc, line, inner, size, length)
         }
         Layer::FunctionOf(line, params) => {
-            if is_array(&grown.ty) || is_function(&grown.ty) || is_record(&grown.ty) {
+            if is_array(&ty) || is_function(&ty) || is_record(&ty) {
                 return refused(TypeKind::LeftOut, line);
             }
-            let result = grown.ty;
-            let ty = CType::function_of(alloc, Signature { result, params })?;
-            Ok(Grown { ty, size: None })
+            let signature = Signature { result: ty, params };
+            Ok(LayeredType::of(CType::function_of(alloc, signature)?))
         }
     }
 }
@@ -128,17 +109,15 @@ fn layered_before(
     tags: &Tags,
     layer: Layer,
     is_last: bool,
-    grown: Grown,
-) -> Result<Grown, TypeError>
-    requires { IsMeasured tags.now grown }
-    ensures layered { Meets (λ it. plain it.ty) result (layered_last tags.now (plain_layer layer) is_last (plain grown.ty)) }
-    ensures measured { IfOk result (IsMeasured tags.now) }
+    inner: LayeredType,
+) -> Result<LayeredType, TypeError>
+    ensures { Makes result (layered_last tags.now (plain_layer layer) is_last inner) }
 {
     let buried = buried_line(&layer, is_last);
-    let grown = layered(alloc, tags, layer, grown)?;
+    let ty = layered(alloc, tags, layer, inner)?;
     match buried {
         Some(line) => refused(TypeKind::LeftOut, line),
-        None => Ok(grown),
+        None => Ok(ty),
     }
 }
 
@@ -147,19 +126,16 @@ pub fn with_layers(
     alloc: Global,
     tags: &Tags,
     layers: Vec<Layer>,
-    base: CType,
-) -> Result<CType, TypeError>
-    ensures { Meets plain result (rules.with_layers tags.now (plain_layers layers.items) (plain base)) }
+    base: LayeredType,
+) -> Result<LayeredType, TypeError>
+    ensures { Makes result (rules.with_layers tags.now (plain_layers layers.items) base) }
 {
     let mut left = layers;
-    let mut grown = Grown {
-        ty: base,
-        size: None,
-    };
+    let mut ty = base;
     while let Some(layer) = left.pop() {
-        grown = layered_before(alloc, tags, layer, left.is_empty(), grown)?;
+        ty = layered_before(alloc, tags, layer, left.is_empty(), ty)?;
     }
-    Ok(grown.ty)
+    Ok(ty)
 }
 
 /// The layer next to the name of a parameter: an array needs no length there.
@@ -178,14 +154,11 @@ fn param_layered(
     tags: &Tags,
     layer: Layer,
     is_last: bool,
-    grown: Grown,
-) -> Result<Grown, TypeError>
-    requires { IsMeasured tags.now grown }
-    ensures layered { Meets (λ it. plain it.ty) result
-        (layered_last tags.now (with_length (plain_layer layer) is_last) is_last (plain grown.ty)) }
-    ensures measured { IfOk result (IsMeasured tags.now) }
+    inner: LayeredType,
+) -> Result<LayeredType, TypeError>
+    ensures { Makes result (layered_last tags.now (with_length (plain_layer layer) is_last) is_last inner) }
 {
-    layered_before(alloc, tags, with_length(layer, is_last), is_last, grown)
+    layered_before(alloc, tags, with_length(layer, is_last), is_last, inner)
 }
 
 /// The same for a parameter, whose array next to the name needs no length (C99 6.7.5.3).
@@ -193,19 +166,16 @@ pub fn with_param_layers(
     alloc: Global,
     tags: &Tags,
     layers: Vec<Layer>,
-    base: CType,
-) -> Result<CType, TypeError>
-    ensures { Meets plain result (rules.with_param_layers tags.now (plain_layers layers.items) (plain base)) }
+    base: LayeredType,
+) -> Result<LayeredType, TypeError>
+    ensures { Makes result (rules.with_param_layers tags.now (plain_layers layers.items) base) }
 {
     let mut left = layers;
-    let mut grown = Grown {
-        ty: base,
-        size: None,
-    };
+    let mut ty = base;
     while let Some(layer) = left.pop() {
-        grown = param_layered(alloc, tags, layer, left.is_empty(), grown)?;
+        ty = param_layered(alloc, tags, layer, left.is_empty(), ty)?;
     }
-    Ok(grown.ty)
+    Ok(ty)
 }
 
 /// A parameter of array type is a pointer (C99 6.7.5.3).

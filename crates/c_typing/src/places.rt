@@ -9,8 +9,8 @@ ghost use Rattle.c_decls.specs.TypeRules.{moving};
 ghost use Rattle.c_decls.specs.PlaceRules as rules;
 
 use c_decls::{
-    Folded, Operand, TypeError, TypeKind, Typed, chosen, common_type, has_no_size, immovable,
-    is_array, is_record, is_same, is_scalar, is_void, operand_of, refused, value_unless,
+    Folded, LayeredType, Operand, TypeError, TypeKind, Typed, chosen, common_type, has_no_size,
+    immovable, is_array, is_record, is_same, is_scalar, is_void, operand_of, refused, value_unless,
 };
 use c_tree::AssignOp;
 use c_types::{CType, IntType, Tags, size_of};
@@ -176,14 +176,47 @@ pub fn measured(tags: &Tags, ty: &CType) -> Result<Option<u64>, NoMemory>
     }
 }
 
+/// So many times a size that is known.
+fn so_often(count: u64, size: Option<u64>) -> Result<Option<u64>, NoMemory>
+    ensures { IfOk result (λ all. all ≡ option_map (λ n. n * count) size) }
+{
+    match size {
+        None => Ok(None),
+        Some(size) => Ok(Some(size.checked_mul(count).ok_or(NoMemory)?)),
+    }
+}
+
+/// The size of a type with layers, by the part of it that was measured last.
+pub(crate) fn size_of_layered(tags: &Tags, ty: &LayeredType) -> Result<Option<u64>, NoMemory>
+    ensures { IfOk result (λ size. size ≡ size_in tags.now ty.now) }
+{
+    let (part, count) = ty.part();
+    let size = measured(tags, &part)?;
+    so_often(count, size)
+}
+
+/// `sizeof` of a type of this size, if it has one (C99 6.5.3.4).
+fn size_answer(line: Line, size: Option<u64>) -> Result<Typed, TypeError>
+    ensures { Meets plain_typed result (rules.size_answer line size) }
+{
+    match size {
+        Some(size) => Ok(Typed::integer(IntType::UInt, Folded::Is(i128::from(size)))),
+        None => refused(TypeKind::Incomplete, line),
+    }
+}
+
 /// `sizeof` of a type (C99 6.5.3.4).
 pub fn size(line: Line, tags: &Tags, ty: &CType) -> Result<Typed, TypeError>
     ensures { Meets plain_typed result (rules.size line tags.now (plain ty.now)) }
 {
-    match measured(tags, ty)? {
-        Some(size) => Ok(Typed::integer(IntType::UInt, Folded::Is(i128::from(size)))),
-        None => refused(TypeKind::Incomplete, line),
-    }
+    size_answer(line, measured(tags, ty)?)
+}
+
+/// `sizeof` of a type with layers (C99 6.5.3.4).
+pub(crate) fn layered_size(line: Line, tags: &Tags, ty: &LayeredType) -> Result<Typed, TypeError>
+    ensures { Meets plain_typed result (rules.size line tags.now ty.now) }
+{
+    size_answer(line, size_of_layered(tags, ty)?)
 }
 
 /// The element to which a pointer points, which may be moved in its array (C99 6.5.2.1).

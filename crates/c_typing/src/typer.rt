@@ -12,7 +12,9 @@ ghost use Rattle.c_typing.specs.Walks.{Walks, context_of};
 
 use crate::lent::Around;
 use crate::words::{special_word, word_type};
-use c_decls::{Named, TypeError, TypeKind, is_function, is_record, is_void, refused, tag_name};
+use c_decls::{
+    LayeredType, Named, TypeError, TypeKind, is_function, is_record, is_void, refused, tag_name,
+};
 use c_tree::{RecordSort, Spec, Specs, TagKind};
 use c_types::{CType, IntType, TagId, TagInfo, Tags};
 use hs_base::{Items, Line, NoMemory};
@@ -162,13 +164,13 @@ impl Typer<'_> {
     }
 
     /// The name of a type; `size_t` is the first of the built-in names.
-    fn type_named(&self, line: Line, name: &[u8]) -> Result<CType, TypeError>
-        ensures { (context : Context) → Meets (λ ty. (context, plain ty)) result
+    fn type_named(&self, line: Line, name: &[u8]) -> Result<LayeredType, TypeError>
+        ensures { (context : Context) → Meets (λ type. (context, type)) result
             (rules.type_named line context (found self.now.scopes name.now)) }
     {
         match self.scopes.find(name) {
-            Some(Named::Typedef { ty }) => Ok(*ty),
-            Some(Named::BuiltIn { index: 0 }) => Ok(CType::Int(IntType::UInt)),
+            Some(Named::Typedef { ty }) => Ok(ty.copied()),
+            Some(Named::BuiltIn { index: 0 }) => Ok(LayeredType::of(CType::Int(IntType::UInt))),
             _ => refused(TypeKind::Undeclared, line),
         }
     }
@@ -189,13 +191,21 @@ impl Typer<'_> {
 
     /// A tag without braces, or the name of a type (C99 6.7.2).
     #[tactic(auto, unfolding(c_tree::specs::View::spec_tree))]
-    pub fn special_type(&mut self, tags: &Tags, line: Line, word: &Spec) -> Result<CType, TypeError>
-        ensures { Walks plain (context_of self.new tags.now) result
+    pub fn special_type(
+        &mut self,
+        tags: &Tags,
+        line: Line,
+        word: &Spec,
+    ) -> Result<LayeredType, TypeError>
+        ensures { Walks (λ type. type) (context_of self.new tags.now) result
             (rules.special_type line (spec_tree word.now) (context_of self.old tags.now)) }
     {
         match word {
             Spec::Named(name) => self.type_named(line, name.as_slice()),
-            Spec::Tag(tag) => self.tag_type(tags, tag.line, &tag.kind),
+            Spec::Tag(tag) => {
+                let ty = self.tag_type(tags, tag.line, &tag.kind)?;
+                Ok(LayeredType::of(ty))
+            }
             Spec::Static
             | Spec::Extern
             | Spec::Typedef
@@ -211,8 +221,12 @@ impl Typer<'_> {
     }
 
     /// The type of specs.
-    pub(crate) fn specs_type(&mut self, tags: &Tags, specs: &Specs) -> Result<CType, TypeError>
-        ensures { Walks plain (context_of self.new tags.now) result
+    pub(crate) fn specs_type(
+        &mut self,
+        tags: &Tags,
+        specs: &Specs,
+    ) -> Result<LayeredType, TypeError>
+        ensures { Walks (λ type. type) (context_of self.new tags.now) result
             (rules.specs_type specs.now.line (trees spec_tree specs.now.words.items) (trees spec_tree specs.now.words.items)
             (context_of self.old tags.now)) }
     {

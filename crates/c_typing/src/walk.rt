@@ -18,12 +18,12 @@ use crate::layers::{Layer, adjusted, array_length, with_layers, with_param_layer
 use crate::literals::{char_constant, first_literal, int_constant, joined, string};
 use crate::members::{arrow, dot};
 use crate::places::{
-    assigned, behind_comma, cast, changed, choice, element, held_place, size, stepped,
+    assigned, behind_comma, cast, changed, choice, element, held_place, layered_size, size, stepped,
 };
 use crate::typer::Typer;
 use c_decls::{
-    TypeError, TypeKind, Typed, address, binary, inner_line, is_function, is_void, line_of,
-    refused, unary,
+    LayeredType, TypeError, TypeKind, Typed, address, binary, inner_line, is_function, is_void,
+    line_of, refused, unary,
 };
 use c_tree::{
     AssignOp, Base, Declarator, Expr, ExprKind, Param, Suffix, SuffixKind, TypeName, UnaryOp,
@@ -132,10 +132,10 @@ impl Typer<'_> {
             }
             ExprKind::SizeofType(typename) => {
                 let ty = self.typename(tags, typename)?;
-                size(line, tags, &ty)
+                layered_size(line, tags, &ty)
             }
             ExprKind::Cast(typename, operand) => {
-                let ty = self.typename(tags, typename)?;
+                let ty = self.typename(tags, typename)?.ty();
                 let x = self.cast_operand(tags, is_void(&ty), operand)?;
                 cast(line, ty, &x)
             }
@@ -248,14 +248,14 @@ impl Typer<'_> {
     /// The name of a type (C99 6.7.6).
     #[cycle(walk)]
     #[tactic(auto, unfolding(c_decls::specs::Expressions::typename))]
-    pub fn typename(&mut self, tags: &Tags, typename: &TypeName) -> Result<CType, TypeError>
-        ensures { Walks plain (context_of self.new tags.now) result
+    pub fn typename(&mut self, tags: &Tags, typename: &TypeName) -> Result<LayeredType, TypeError>
+        ensures { Walks (λ type. type) (context_of self.new tags.now) result
             (rules.typename (typename_view typename.now) (context_of self.old tags.now)) }
     {
         let base = self.specs_type(tags, &typename.specs)?;
         let layers = self.layers(tags, &typename.declarator)?;
         let ty = with_layers(self.alloc, tags, layers, base)?;
-        if is_function(&ty) {
+        if is_function(&ty.ty()) {
             return refused(TypeKind::LeftOut, typename.line);
         }
         Ok(ty)
@@ -367,6 +367,6 @@ impl Typer<'_> {
         let layers = self.layers(tags, &param.declarator)?;
         let ty = with_param_layers(self.alloc, tags, layers, base)?;
         let name = declared_name(&param.declarator);
-        self.declared_param(tags, param.line, name, adjusted(ty))
+        self.declared_param(tags, param.line, name, adjusted(ty.ty()))
     }
 }

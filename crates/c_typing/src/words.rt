@@ -9,6 +9,7 @@ ghost use Rattle.c_decls.specs.TypeNames as rules;
 ghost use Rattle.c_typing.specs.SpecWords.{is_special, keyword, passes};
 ghost use Rattle.c_typing.specs.WordCounts.{words_type};
 
+use c_decls::LayeredType;
 use c_tree::Spec;
 use c_types::{CType, IntType};
 
@@ -173,8 +174,8 @@ impl Words {
 }
 
 /// The type of keywords in any order (C99 6.7.2).
-pub fn word_type(words: &[Spec]) -> CType
-    ensures { plain result ≡ rules.word_type (trees spec_tree words.now) }
+pub fn word_type(words: &[Spec]) -> LayeredType
+    ensures { result ≡ rules.word_type (trees spec_tree words.now) }
 {
     let words = Words {
         has_void: has_void(words),
@@ -184,5 +185,5 @@ pub fn word_type(words: &[Spec]) -> CType
         has_unsigned: has_unsigned(words),
         longs: longs(words),
     };
-    words.ty()
+    LayeredType::of(words.ty())
 }

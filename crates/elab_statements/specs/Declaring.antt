@@ -29,24 +29,24 @@ use Rattle.elab_statements.specs.GivenLengths.{held}
 use Rattle.elab_statements.specs.Alone.{is_no_tag}
 
 -- a declarator with its initializer, and such entries in turn
-abbrev pub entry : Bool → ℕ → Storage → CType → Declarator → Option Init → Context → Checked Context
+abbrev pub entry : Bool → ℕ → Storage → PlainType → Declarator → Option Init → Context → Checked Context
 entry file line storage base declarator init c =
-    rules.entry file line (plain_storage storage) (plain base) (declarator_tree declarator) (held init) c
+    rules.entry file line (plain_storage storage) base (declarator_tree declarator) (held init) c
 
-abbrev pub entries : Bool → ℕ → Storage → CType → List (Declarator × Option Init) → Context → Checked Context
+abbrev pub entries : Bool → ℕ → Storage → PlainType → List (Declarator × Option Init) → Context → Checked Context
 entries file line storage base names c =
-    rules.entries file line (plain_storage storage) (plain base) (trees entry_view names) c
+    rules.entries file line (plain_storage storage) base (trees entry_view names) c
 
 -- a name of a type with its initializer: anywhere, inside a function, and at file scope
-abbrev pub name_in : Bool → ℕ → Storage → List ℕ → CType → Option (Bor Init) → Context → Checked Context
+abbrev pub name_in : Bool → ℕ → Storage → List ℕ → PlainType → Option (Bor Init) → Context → Checked Context
 name_in file line storage name type init c =
-    rules.name_in file line (plain_storage storage) (Some name) (plain type) (held (given init)) c
+    rules.name_in file line (plain_storage storage) (Some name) type (held (given init)) c
 
-abbrev pub local_name : ℕ → Storage → List ℕ → CType → Option (Bor Init) → Context → Checked Context
-local_name line storage name type init c = rules.local_name line (plain_storage storage) name (plain type) (held (given init)) c
+abbrev pub local_name : ℕ → Storage → List ℕ → PlainType → Option (Bor Init) → Context → Checked Context
+local_name line storage name type init c = rules.local_name line (plain_storage storage) name type (held (given init)) c
 
-abbrev pub file_name : ℕ → Storage → List ℕ → CType → Option (Bor Init) → Context → Checked Context
-file_name line storage name type init c = rules.file_name line (plain_storage storage) name (plain type) (held (given init)) c
+abbrev pub file_name : ℕ → Storage → List ℕ → PlainType → Option (Bor Init) → Context → Checked Context
+file_name line storage name type init c = rules.file_name line (plain_storage storage) name type (held (given init)) c
 
 -- a local object, and what it holds first
 abbrev pub local_object : ℕ → List ℕ → CType → Option (Bor Init) → Context → Checked Context

@@ -36,5 +36,5 @@ abbrev pub length_by_init : CType → Init → Option ℕ
 length_by_init element init = given_length (plain element) (init_view init ▹ none)
 
 -- the type that layers make of a base, where an initializer gives the length of an array
-abbrev pub layers_with_init : {Z : Type 0} → TagTable → Vec CodeLayer Z → Option Init → CType → Checked PlainType
-layers_with_init tags layers init base = with_init_layers tags (plain_layers layers.items) (held init) (plain base)
+abbrev pub layers_with_init : {Z : Type 0} → TagTable → Vec CodeLayer Z → Option Init → PlainType → Checked PlainType
+layers_with_init tags layers init base = with_init_layers tags (plain_layers layers.items) (held init) base

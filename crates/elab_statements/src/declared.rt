@@ -36,7 +36,7 @@ fn definition(
     let layers = layers(state, declarator)?;
     let ty = with_layers(state.alloc(), state.tags(), layers, base)?;
     match declared_name(declarator) {
-        Some(name) => defined(state, line, name.as_slice(), ty, list, end),
+        Some(name) => defined(state, line, name.as_slice(), ty.ty(), list, end),
         None => refused(TypeKind::Operands, line),
     }
 }

@@ -15,7 +15,9 @@ use crate::braces::initialize;
 use crate::targets::Target;
 use crate::unwanted::surplus;
 use crate::words::Storage;
-use c_decls::{Named, TypeError, TypeKind, has_no_size, init_line, is_function, refused};
+use c_decls::{
+    LayeredType, Named, TypeError, TypeKind, has_no_size, init_line, is_function, refused,
+};
 use c_tree::Init;
 use c_types::CType;
 use core_tree::Start;
@@ -115,13 +117,13 @@ pub(crate) fn file_name(
     line: Line,
     storage: Storage,
     name: &[u8],
-    ty: CType,
+    ty: LayeredType,
     init: Option<&Init>,
 ) -> Result<(), TypeError>
     ensures { Becomes state.new result (file_name line storage name.now ty init.entry state.old) }
 {
     match storage {
         Storage::Typedef => state.declared_as(line, name, Named::Typedef { ty }),
-        Storage::Outside | Storage::Plain => file_value(state, line, name, ty, init),
+        Storage::Outside | Storage::Plain => file_value(state, line, name, ty.ty(), init),
     }
 }

@@ -4,14 +4,13 @@ ghost use Rattle.std.specs.Prelude.{◌≡◌, IfOk, option_copied};
 ghost use Rattle.c_types.specs.Types.{plain};
 ghost use Rattle.c_tree.specs.Tree.{none, ◌▹◌};
 ghost use Rattle.c_tree.specs.StatementView.{expr_view, init_view};
-ghost use Rattle.c_decls.specs.Refusals.{Meets};
-ghost use Rattle.c_typing.specs.Layers.{plain_layer, plain_layers};
+ghost use Rattle.c_typing.specs.Layers.{plain_layer, plain_layers, Makes};
 ghost use Rattle.elaboration.specs.Initializers as rules;
 ghost use Rattle.elab_statements.specs.GivenLengths.{held, given_behind, with_given, layers_with_init, length_by_init, length_by_text};
 ghost use Rattle.elab_base.specs.MaybeNames.{given};
 
 use crate::strings::is_character;
-use c_decls::TypeError;
+use c_decls::{LayeredType, TypeError};
 use c_tree::{Expr, ExprKind, Init, InitKind};
 use c_types::{CType, Tags};
 use c_typing::{Layer, joined, with_layers};
@@ -82,11 +81,11 @@ pub fn with_init_layers(
     tags: &Tags,
     layers: Vec<Layer>,
     init: Option<&Init>,
-    base: CType,
-) -> Result<CType, TypeError>
-    ensures { Meets plain result (layers_with_init tags.now layers (given init.entry) base) }
+    base: LayeredType,
+) -> Result<LayeredType, TypeError>
+    ensures { Makes result (layers_with_init tags.now layers (given init.entry) base) }
 {
-    let given = given_length(alloc, layers.len(), &base, init)?;
+    let given = given_length(alloc, layers.len(), &base.ty(), init)?;
     let mut layers = layers;
     if let Some(layer) = layers.get_mut(0) {
         give_length(layer, given);

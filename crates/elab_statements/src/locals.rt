@@ -13,7 +13,7 @@ ghost use Rattle.elab_statements.specs.Declaring.{fill_at, fill_memory, fill_reg
 use crate::braces::initialize;
 use crate::targets::Target;
 use crate::words::Storage;
-use c_decls::{Named, TypeError, TypeKind, has_no_size, is_function, refused};
+use c_decls::{LayeredType, Named, TypeError, TypeKind, has_no_size, is_function, refused};
 use c_tree::Init;
 use c_types::CType;
 use core_tree::{Atom, StmKind};
@@ -139,7 +139,7 @@ pub(crate) fn local_name(
     line: Line,
     storage: Storage,
     name: &[u8],
-    ty: CType,
+    ty: LayeredType,
     init: Option<&Init>,
 ) -> Result<(), TypeError>
     ensures { Becomes state.new result (local_name line storage name.now ty init.entry state.old) }
@@ -147,6 +147,6 @@ pub(crate) fn local_name(
     match storage {
         Storage::Typedef => state.declared_as(line, name, Named::Typedef { ty }),
         Storage::Outside => refused(TypeKind::LeftOut, line),
-        Storage::Plain => local_object(state, line, name, ty, init),
+        Storage::Plain => local_object(state, line, name, ty.ty(), init),
     }
 }

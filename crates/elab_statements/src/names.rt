@@ -16,9 +16,8 @@ use crate::files::file_name;
 use crate::lengths::with_init_layers;
 use crate::locals::local_name;
 use crate::words::{Storage, specs_before, storage_of};
-use c_decls::TypeError;
+use c_decls::{LayeredType, TypeError};
 use c_tree::{Declarator, Init, Specs};
-use c_types::CType;
 use c_typing::declared_name;
 use elab_base::Elaborator;
 use elab_types::layers;
@@ -31,7 +30,7 @@ fn name_in(
     line: Line,
     storage: Storage,
     name: &[u8],
-    ty: CType,
+    ty: LayeredType,
     init: Option<&Init>,
 ) -> Result<(), TypeError>
     ensures { Becomes state.new result (name_in file line storage name.now ty init.entry state.old) }
@@ -49,14 +48,14 @@ fn entry(
     file: bool,
     line: Line,
     storage: Storage,
-    base: &CType,
+    base: &LayeredType,
     declarator: &Declarator,
     init: Option<&Init>,
 ) -> Result<(), TypeError>
     ensures { Becomes state.new result (entry file line storage base.now declarator.now (given init.entry) state.old) }
 {
     let layers = layers(state, declarator)?;
-    let ty = with_init_layers(state.alloc(), state.tags(), layers, init, *base)?;
+    let ty = with_init_layers(state.alloc(), state.tags(), layers, init, base.copied())?;
     match declared_name(declarator) {
         Some(name) => name_in(state, file, line, storage, name.as_slice(), ty, init),
         None => Ok(()),
@@ -69,7 +68,7 @@ fn named_entry(
     file: bool,
     line: Line,
     storage: Storage,
-    base: &CType,
+    base: &LayeredType,
     name: &(Declarator, Option<Init>),
 ) -> Result<(), TypeError>
     ensures { Becomes state.new result (entry file line storage base.now name.now.0 name.now.1 state.old) }
@@ -83,7 +82,7 @@ fn entries(
     file: bool,
     line: Line,
     storage: Storage,
-    base: &CType,
+    base: &LayeredType,
     names: &[(Declarator, Option<Init>)],
 ) -> Result<(), TypeError>
     ensures { Becomes state.new result (entries file line storage base.now names.now state.old) }

@@ -14,11 +14,11 @@ ghost use Rattle.elaboration.specs.Declarations as rules;
 ghost use Rattle.elaboration.specs.Declarators.{with_type};
 ghost use Rattle.elab_statements.specs.Alone.{lone_tag, is_typedef_word, is_no_tag, is_of_sort};
 ghost use Rattle.elab_statements.specs.PlainStorage.{plain_storage};
-ghost use Rattle.elab_base.specs.Outcomes.{Types};
+ghost use Rattle.elab_base.specs.Outcomes.{Gives, Types};
 ghost use Rattle.c_decls.specs.Refusals.{Meets};
 ghost use Rattle.elab_statements.specs.Declaring.{has_no_tag, specs_before, tag_here};
 
-use c_decls::{Named, TypeError, TypeKind, refused, tag_name};
+use c_decls::{LayeredType, Named, TypeError, TypeKind, refused, tag_name};
 use c_tree::{Declarator, Init, RecordSort, Spec, Specs, Tag, TagKind};
 use c_types::CType;
 use elab_base::Elaborator;
@@ -181,12 +181,15 @@ fn lone_tag(words: &[Spec]) -> Option<&Tag>
 
 /// The type of specs that are one tag: `struct s;` alone declares the tag in its scope, whatever stands outside.
 #[tactic(auto, using(crate::proofs::SpecWords::alone_record, crate::proofs::SpecWords::alone_body, crate::proofs::SpecWords::alone_enum, crate::proofs::SpecWords::alone_enum_body))]
-fn tag_alone(state: &mut Elaborator, words: &Specs, tag: &Tag) -> Result<CType, TypeError>
+fn tag_alone(state: &mut Elaborator, words: &Specs, tag: &Tag) -> Result<LayeredType, TypeError>
     requires { lone_tag words.now.words.items ≡ Some tag.now }
-    ensures { Types state.new result (rules.specs_alone (specs_view words.now) state.old) }
+    ensures { Gives state.new result (rules.specs_alone (specs_view words.now) state.old) }
 {
     match &tag.kind {
-        TagKind::Record(sort, name) => tag_here(state, tag.line, *sort, name.as_slice()),
+        TagKind::Record(sort, name) => {
+            let ty = tag_here(state, tag.line, *sort, name.as_slice())?;
+            Ok(LayeredType::of(ty))
+        }
         TagKind::RecordBody(_, _, _) => specs(state, words),
         TagKind::Enum(_) => specs(state, words),
         TagKind::EnumBody(_, _, _) => specs(state, words),
@@ -195,8 +198,8 @@ fn tag_alone(state: &mut Elaborator, words: &Specs, tag: &Tag) -> Result<CType, 
 
 /// The type of specs without names.
 #[tactic(auto, using(crate::proofs::SpecWords::none_alone))]
-fn specs_alone(state: &mut Elaborator, words: &Specs) -> Result<CType, TypeError>
-    ensures { Types state.new result (rules.specs_alone (specs_view words.now) state.old) }
+fn specs_alone(state: &mut Elaborator, words: &Specs) -> Result<LayeredType, TypeError>
+    ensures { Gives state.new result (rules.specs_alone (specs_view words.now) state.old) }
 {
     match lone_tag(&words.words) {
         Some(tag) => tag_alone(state, words, tag),
@@ -210,8 +213,8 @@ pub(crate) fn specs_before(
     state: &mut Elaborator,
     words: &Specs,
     names: &[(Declarator, Option<Init>)],
-) -> Result<CType, TypeError>
-    ensures { Types state.new result (specs_before words.now names.now state.old) }
+) -> Result<LayeredType, TypeError>
+    ensures { Gives state.new result (specs_before words.now names.now state.old) }
 {
     if names.len() == 0 {
         specs_alone(state, words)

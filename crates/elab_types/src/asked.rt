@@ -1,6 +1,5 @@
 //! What the rules of types say of expressions and names, with what these declare (C99 6.5, 6.6, 6.7.2).
 
-ghost use Rattle.c_types.specs.Types.{plain};
 ghost use Rattle.c_tree.specs.View.{spec_tree};
 ghost use Rattle.c_tree.specs.StatementView.{expr_view};
 ghost use Rattle.c_decls.specs.Refusals.{Meets};
@@ -10,14 +9,14 @@ ghost use Rattle.c_typing.specs.Layers.{plain_layer};
 ghost use Rattle.elaboration.specs.Context.{asked};
 ghost use Rattle.elaboration.specs.Declarators as plain;
 ghost use Rattle.elab_types.specs.Steps.{with_told, typed_in, wanted_in, array_layer};
-ghost use Rattle.elab_base.specs.Outcomes.{Types, Gives};
+ghost use Rattle.elab_base.specs.Outcomes.{Gives};
 ghost use Rattle.std.specs.Prelude.{◌≡◌};
 ghost use Rattle.elab_types.specs.Outcomes.{FindsLayer};
 ghost use Rattle.elab_types.specs.Parts.{type_of_word};
 
-use c_decls::{Constant, Scopes, TypeError, Typed, line_of};
+use c_decls::{Constant, LayeredType, Scopes, TypeError, Typed, line_of};
 use c_tree::{Expr, Spec};
-use c_types::{CType, Tags};
+use c_types::Tags;
 use c_typing as types;
 use c_typing::{Layer, array_length, constant_from};
 use elab_base::Elaborator;
@@ -62,8 +61,12 @@ pub(crate) fn array_layer(state: &mut Elaborator, line: Line, e: &Expr) -> Resul
 }
 
 /// A tag without braces, or the name of a type, at a line (C99 6.7.2).
-pub fn special_type(state: &mut Elaborator, line: Line, word: &Spec) -> Result<CType, TypeError>
-    ensures { Types state.new result (type_of_word line word.now state.old) }
+pub fn special_type(
+    state: &mut Elaborator,
+    line: Line,
+    word: &Spec,
+) -> Result<LayeredType, TypeError>
+    ensures { Gives state.new result (type_of_word line word.now state.old) }
 {
     let alloc = state.alloc();
     let (mut scopes, mut tags) = state.swap_asked(Scopes::none(alloc), Tags::new(alloc)?);

@@ -18,7 +18,7 @@ use crate::enums::enum_body;
 use crate::member_table::MemberTable;
 use crate::members::member;
 use crate::params::param;
-use c_decls::TypeError;
+use c_decls::{LayeredType, TypeError};
 use c_tree::{
     Base, Declarator, Member, Param, RecordSort, Spec, Specs, Suffix, SuffixKind, Tag, TagKind,
 };
@@ -42,16 +42,16 @@ fn bytes(name: &Option<Items<u8>>) -> Option<&[u8]>
 /// The type that specs say (C99 6.7.2).
 #[cycle(walk)]
 #[tactic(auto, unfolding(elaboration::specs::Declarators::specs))]
-pub fn specs(state: &mut Elaborator, specs: &Specs) -> Result<CType, TypeError>
-    ensures { Types state.new result (plain.specs (specs_view specs.now) state.old) }
+pub fn specs(state: &mut Elaborator, specs: &Specs) -> Result<LayeredType, TypeError>
+    ensures { Gives state.new result (plain.specs (specs_view specs.now) state.old) }
 {
     words_type(state, specs.line, &specs.words)
 }
 
 /// The type that the words of specs at a line say: a tag or the name of a type says it alone.
 #[cycle(walk)]
-fn words_type(state: &mut Elaborator, line: Line, words: &[Spec]) -> Result<CType, TypeError>
-    ensures { Types state.new result (type_of_words line words.now state.old) }
+fn words_type(state: &mut Elaborator, line: Line, words: &[Spec]) -> Result<LayeredType, TypeError>
+    ensures { Gives state.new result (type_of_words line words.now state.old) }
 {
     for word in words {
         if is_special(word) {
@@ -64,8 +64,8 @@ fn words_type(state: &mut Elaborator, line: Line, words: &[Spec]) -> Result<CTyp
 /// The type that a tag or the name of a type says.
 #[cycle(walk)]
 #[tactic(auto, unfolding(c_tree::specs::View::spec_tree, elaboration::specs::Declarators::tag_type))]
-fn one_type(state: &mut Elaborator, line: Line, word: &Spec) -> Result<CType, TypeError>
-    ensures { Types state.new result (plain.tag_type line (spec_tree word.now) state.old) }
+fn one_type(state: &mut Elaborator, line: Line, word: &Spec) -> Result<LayeredType, TypeError>
+    ensures { Gives state.new result (plain.tag_type line (spec_tree word.now) state.old) }
 {
     match word {
         Spec::Tag(tag) => tag_type(state, line, tag, word),
@@ -76,18 +76,23 @@ fn one_type(state: &mut Elaborator, line: Line, word: &Spec) -> Result<CType, Ty
 /// The type that a tag says, which is the word.
 #[cycle(walk)]
 #[tactic(auto, using(crate::proofs::Nodes::record_is, crate::proofs::Nodes::enum_is), unfolding(c_tree::specs::View::tag_tree, elaboration::specs::Declarators::tag_type))]
-fn tag_type(state: &mut Elaborator, line: Line, tag: &Tag, word: &Spec) -> Result<CType, TypeError>
+fn tag_type(
+    state: &mut Elaborator,
+    line: Line,
+    tag: &Tag,
+    word: &Spec,
+) -> Result<LayeredType, TypeError>
     requires { spec_tree word.now ≡ tag_tree tag.now.kind tag.now.line }
-    ensures { Types state.new result (plain.tag_type line (tag_view tag.now) state.old) }
+    ensures { Gives state.new result (plain.tag_type line (tag_view tag.now) state.old) }
 {
     match &tag.kind {
         TagKind::RecordBody(sort, name, list) => {
             let ty = record_body(state, list, tag.line, *sort, bytes(name))?;
-            Ok(ty)
+            Ok(LayeredType::of(ty))
         }
         TagKind::EnumBody(name, list, _) => {
             let ty = enum_body(state, tag.line, bytes(name), list)?;
-            Ok(ty)
+            Ok(LayeredType::of(ty))
         }
         TagKind::Record(_, _) | TagKind::Enum(_) => special_type(state, line, word),
     }
@@ -141,10 +146,10 @@ fn member_names(
     state: &mut Elaborator,
     list: &[Declarator],
     line: Line,
-    base: &CType,
+    base: &LayeredType,
     before: MemberTable,
 ) -> Result<MemberTable, TypeError>
-    ensures { Gives state.new result (members_named line (plain base.now) list.now before state.old) }
+    ensures { Gives state.new result (members_named line base.now list.now before state.old) }
 {
     let mut all = before;
     for declarator in list {
@@ -159,14 +164,14 @@ fn member_by(
     state: &mut Elaborator,
     declarator: &Declarator,
     line: Line,
-    base: &CType,
+    base: &LayeredType,
     before: MemberTable,
 ) -> Result<MemberTable, TypeError>
-    ensures { Gives state.new result (member_named line (plain base.now) declarator.now before state.old) }
+    ensures { Gives state.new result (member_named line base.now declarator.now before state.old) }
 {
     let found = layers(state, declarator)?;
-    let ty = with_layers(state.alloc(), state.tags(), found, *base)?;
-    member(state, line, declared_name(declarator), ty, before)
+    let ty = with_layers(state.alloc(), state.tags(), found, base.copied())?;
+    member(state, line, declared_name(declarator), ty.ty(), before)
 }
 
 /// The layers of a declarator, of which the last one stands next to the specs (C99 6.7.5).
@@ -263,6 +268,6 @@ fn param_by(state: &mut Elaborator, part: &Param) -> Result<CType, TypeError>
         state,
         part.line,
         declared_name(&part.declarator),
-        adjusted(ty),
+        adjusted(ty.ty()),
     )
 }

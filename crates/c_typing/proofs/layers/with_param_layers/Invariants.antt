@@ -1,13 +1,13 @@
 use Rattle.std.proofs.Common.{◌≡◌, vec_len}
-use Rattle.c_types.specs.Types.{plain}
 use Rattle.c_decls.specs.TypeNames.{with_param_layers}
-use Rattle.c_typing.specs.Layers.{plain_layers, IsMeasured}
+use Rattle.c_typing.specs.Layers.{plain_layers}
 use Rattle.c_typing.proofs.layers.with_param_layers.Given as goal
 
 -- the layers that are left make of the type so far what all make of the base
 abbrev pub invariant-loop-layer : goal.invariant-loop-layer
 invariant-loop-layer l =
-    (with_param_layers l.tags (plain_layers l.left.items) (plain l.grown.ty) ≡ with_param_layers l.tags (plain_layers l.initial.left.items) (plain l.initial.grown.ty)) × IsMeasured l.tags l.grown
+    with_param_layers l.tags (plain_layers l.left.items) l.ty
+    ≡ with_param_layers l.tags (plain_layers l.initial.left.items) l.initial.ty
 
 abbrev pub decreases-loop-layer : goal.decreases-loop-layer
 decreases-loop-layer l = vec_len l.left

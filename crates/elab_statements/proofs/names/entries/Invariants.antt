@@ -1,5 +1,4 @@
 use Rattle.std.proofs.Common.{◌≡◌, drop}
-use Rattle.c_types.specs.Types.{plain}
 use Rattle.c_tree.specs.StatementView.{trees, entry_view}
 use Rattle.elaboration.specs.Declarations.{entries}
 use Rattle.elab_statements.specs.PlainStorage.{plain_storage}
@@ -8,5 +7,5 @@ use Rattle.elab_statements.proofs.names.entries.Given as goal
 -- what is left decides
 abbrev pub invariant-loop-name : goal.invariant-loop-name
 invariant-loop-name l =
-    entries l.file l.line (plain_storage l.storage) (plain l.base) (trees entry_view (drop l.name-index l.names)) l.state
-    ≡ entries l.file l.line (plain_storage l.storage) (plain l.base) (trees entry_view l.names) l.initial.state
+    entries l.file l.line (plain_storage l.storage) l.base (trees entry_view (drop l.name-index l.names)) l.state
+    ≡ entries l.file l.line (plain_storage l.storage) l.base (trees entry_view l.names) l.initial.state

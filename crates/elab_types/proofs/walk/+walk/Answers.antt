@@ -28,7 +28,7 @@ words_type-loop-word-preserved t c =
 
 pub words_type-returns-then-is_special : goal.words_type-returns-then-is_special
 words_type-returns-then-is_special t c =
-    subst (λ (w : With PlainType). Meets (λ (ty : CType). (c.one_type.new.state, plain ty)) c.one_type.result w)
+    subst (λ (w : With PlainType). Meets (λ (type : PlainType). (c.one_type.new.state, type)) c.one_type.result w)
     (word_found c.args.line (trees spec_tree c.args.words.now) c.args.words.now c.loop-word.word-index c.word-item.result c.loop-word.state _
     c.word-item.is c.loop-word-test.true (sym c.is_special.ensures ∙ c.if-is_special.true) c.loop-word.invariant)
     c.one_type.ensures
@@ -58,7 +58,7 @@ members-returns-in_err-all t c =
 pub member_names-loop-declarator-preserved : goal.member_names-loop-declarator-preserved
 member_names-loop-declarator-preserved t c =
     let line = c.args.line in
-    let base = plain c.args.base.now in
+    let base = c.args.base.now in
     left_next declarator_tree (name_step line base) (names_walk line base) (λ all d. (d, all)) (names_end line base) (names_go line base)
     c.args.list.now c.loop-declarator.declarator-index c.declarator-item.result c.loop-declarator.all c.in_ok-all.all c.loop-declarator.state c.member_by.new.state _
     c.declarator-item.is c.loop-declarator-test.true c.in_ok-all.ensures c.loop-declarator.invariant
@@ -66,14 +66,14 @@ member_names-loop-declarator-preserved t c =
 pub member_names-returns : goal.member_names-returns
 member_names-returns t c =
     let line = c.args.line in
-    let base = plain c.args.base.now in
+    let base = c.args.base.now in
     left_none declarator_tree (name_step line base) (names_walk line base) (λ all d. (d, all)) (names_end line base) (names_go line base)
     c.args.list.now c.loop-declarator.declarator-index c.loop-declarator.all c.loop-declarator.state _ c.loop-declarator-test.false c.loop-declarator.invariant
 
 pub member_names-returns-in_err-all : goal.member_names-returns-in_err-all
 member_names-returns-in_err-all t c =
     let line = c.args.line in
-    let base = plain c.args.base.now in
+    let base = c.args.base.now in
     let p = err_from_is_err_and c.from_residual.result c.from_residual.ensures.1 in
     let view : Members → Context × Members = λ all. (c.member_by.new.state, all) in
     rw (p.1, p.2)

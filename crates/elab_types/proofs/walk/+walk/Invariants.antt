@@ -22,8 +22,8 @@ invariant-members-loop-part l =
 
 abbrev pub invariant-member_names-loop-declarator : goal.invariant-member_names-loop-declarator
 invariant-member_names-loop-declarator l =
-    member_names l.line (plain l.base) (trees declarator_tree (drop l.declarator-index l.list)) l.all l.state
-    ≡ member_names l.line (plain l.base) (trees declarator_tree l.list) l.initial.all l.initial.state
+    member_names l.line l.base (trees declarator_tree (drop l.declarator-index l.list)) l.all l.state
+    ≡ member_names l.line l.base (trees declarator_tree l.list) l.initial.all l.initial.state
 
 abbrev pub invariant-suffix_layers-loop-suffix : goal.invariant-suffix_layers-loop-suffix
 invariant-suffix_layers-loop-suffix l =

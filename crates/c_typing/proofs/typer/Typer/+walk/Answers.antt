@@ -223,8 +223,8 @@ kind-returns-in_err-values-in-Call t c =
 pub kind-returns-in_ok-ty-in-SizeofType : goal.kind-returns-in_ok-ty-in-SizeofType
 kind-returns-in_ok-ty-in-SizeofType t c =
     sizeof_walks c.args.kind.now c.args.line c.in-SizeofType.typename c.deref-in-SizeofType.result.now
-    (context_of c.args.self.now c.args.tags.now) (context_of c.typename.new.self c.args.tags.now) (plain c.in_ok-ty-in-SizeofType.ty) c.size-in-SizeofType.result
-    c.in-SizeofType.is c.deref-in-SizeofType.ensures c.in_ok-ty-in-SizeofType.ensures c.size-in-SizeofType.ensures
+    (context_of c.args.self.now c.args.tags.now) (context_of c.typename.new.self c.args.tags.now) c.in_ok-ty-in-SizeofType.ty c.layered_size.result
+    c.in-SizeofType.is c.deref-in-SizeofType.ensures c.in_ok-ty-in-SizeofType.ensures c.layered_size.ensures
 
 pub kind-returns-in_err-ty-in-SizeofType : goal.kind-returns-in_err-ty-in-SizeofType
 kind-returns-in_err-ty-in-SizeofType t c =
@@ -234,31 +234,37 @@ kind-returns-in_err-ty-in-SizeofType t c =
     (context_of c.args.self.now c.args.tags.now) (context_of c.typename.new.self c.args.tags.now) c.in_err-ty-in-SizeofType.field-0.0
     c.in-SizeofType.is c.deref-in-SizeofType.ensures c.in_err-ty-in-SizeofType.ensures)
 
-pub kind-returns-in_err-ty-in-Cast : goal.kind-returns-in_err-ty-in-Cast
-kind-returns-in_err-ty-in-Cast t c =
-    let p = err_from_is_err_and c.from_residual-in_err-ty-in-Cast.result c.from_residual-in_err-ty-in-Cast.ensures.1 in
+pub kind-returns-in_err-typename-in-Cast : goal.kind-returns-in_err-typename-in-Cast
+kind-returns-in_err-typename-in-Cast t c =
+    let p = err_from_is_err_and c.from_residual-in_err-typename-in-Cast.result c.from_residual-in_err-typename-in-Cast.ensures.1 in
     rw (p.1, p.2)
     (cast_type_refused c.args.kind.now c.args.line c.in-Cast.typename c.in-Cast.operand c.deref-in-Cast.result.now
-    (context_of c.args.self.now c.args.tags.now) (context_of c.typename-in-Cast.new.self c.args.tags.now) c.in_err-ty-in-Cast.field-0.0
-    c.in-Cast.is c.deref-in-Cast.ensures c.in_err-ty-in-Cast.ensures)
+    (context_of c.args.self.now c.args.tags.now) (context_of c.typename-in-Cast.new.self c.args.tags.now) c.in_err-typename-in-Cast.field-0.0
+    c.in-Cast.is c.deref-in-Cast.ensures c.in_err-typename-in-Cast.ensures)
 
 pub kind-returns-in_err-x-in-Cast : goal.kind-returns-in_err-x-in-Cast
 kind-returns-in_err-x-in-Cast t c =
     let p = err_from_is_err_and c.from_residual-in_err-x-in-Cast.result c.from_residual-in_err-x-in-Cast.ensures.1 in
+    let named =
+    c.in_ok-typename-in-Cast.ensures
+    ∙ ap (λ (p : PlainType). let found : Checked (Context × PlainType) = Ok (context_of c.typename-in-Cast.new.self c.args.tags.now, p) in found) (sym c.ty-ty.ensures) in
     rw (p.1, p.2)
     (cast_value_refused c.args.kind.now c.args.line c.in-Cast.typename c.in-Cast.operand c.deref-in-Cast.result.now c.deref-in-Cast-2.result.now
     (context_of c.args.self.now c.args.tags.now) (context_of c.typename-in-Cast.new.self c.args.tags.now) (context_of c.cast_operand.new.self c.args.tags.now)
-    (plain c.in_ok-ty-in-Cast.ty) c.in_err-x-in-Cast.field-0.0
-    c.in-Cast.is c.deref-in-Cast.ensures c.deref-in-Cast-2.ensures c.in_ok-ty-in-Cast.ensures
+    (plain c.ty-ty.result) c.in_err-x-in-Cast.field-0.0
+    c.in-Cast.is c.deref-in-Cast.ensures c.deref-in-Cast-2.ensures named
     (subst (λ (k : Bool). Walks plain_typed (context_of c.cast_operand.new.self c.args.tags.now) (Err c.in_err-x-in-Cast.field-0.0) (operand_of k (expr_view c.deref-in-Cast-2.result.now) (typed (expr_view c.deref-in-Cast-2.result.now) (context_of c.typename-in-Cast.new.self c.args.tags.now))))
     c.is_void.ensures c.in_err-x-in-Cast.ensures))
 
 pub kind-returns-in_ok-x-in-Cast : goal.kind-returns-in_ok-x-in-Cast
 kind-returns-in_ok-x-in-Cast t c =
+    let named =
+    c.in_ok-typename-in-Cast.ensures
+    ∙ ap (λ (p : PlainType). let found : Checked (Context × PlainType) = Ok (context_of c.typename-in-Cast.new.self c.args.tags.now, p) in found) (sym c.ty-ty.ensures) in
     cast_walks c.args.kind.now c.args.line c.in-Cast.typename c.in-Cast.operand c.deref-in-Cast.result.now c.deref-in-Cast-2.result.now
     (context_of c.args.self.now c.args.tags.now) (context_of c.typename-in-Cast.new.self c.args.tags.now) (context_of c.cast_operand.new.self c.args.tags.now)
-    (plain c.in_ok-ty-in-Cast.ty) (plain_typed c.in_ok-x-in-Cast.x) c.cast.result
-    c.in-Cast.is c.deref-in-Cast.ensures c.deref-in-Cast-2.ensures c.in_ok-ty-in-Cast.ensures
+    (plain c.ty-ty.result) (plain_typed c.in_ok-x-in-Cast.x) c.cast.result
+    c.in-Cast.is c.deref-in-Cast.ensures c.deref-in-Cast-2.ensures named
     (ap (λ (k : Bool). operand_of k (expr_view c.deref-in-Cast-2.result.now) (typed (expr_view c.deref-in-Cast-2.result.now) (context_of c.typename-in-Cast.new.self c.args.tags.now))) (sym c.is_void.ensures) ∙ c.in_ok-x-in-Cast.ensures) c.cast.ensures
 
 -- assignments

@@ -1,7 +1,7 @@
 use Rattle.std.proofs.Common.{◌≡◌, ◌∙◌, ap, sym, subst}
 use Rattle.std.specs.Prelude.{Ok, option_copied}
 use Rattle.std.specs.List.{find}
-use Rattle.c_types.specs.Types.{plain}
+use Rattle.c_types.specs.Types.{PlainType}
 use Rattle.c_tree.specs.View.{spec_tree}
 use Rattle.c_tree.specs.StatementView.{trees}
 use Rattle.c_decls.specs.TypeNames.{word_type}
@@ -17,7 +17,7 @@ returns-in-Some c =
     let line = c.args.specs.now.line in
     let all = trees spec_tree words in
     let found = ap (find is_special) (sym c.deref.ensures.value) ∙ sym c.special_word.ensures ∙ ap option_copied c.in-Some.is in
-    subst (λ w. Walks plain (context_of c.special_type.new.self c.args.tags.now) c.special_type.result w)
+    subst (λ w. Walks (λ (type : PlainType). type) (context_of c.special_type.new.self c.args.tags.now) c.special_type.result w)
     (sym (specs_decided line all words context ∙ ap (decided line all context) found)) c.special_type.ensures
 
 pub returns-in-None : goal.returns-in-None
