@@ -4,7 +4,7 @@ use Rattle.std.proofs.Math.Nat.{div-lt_iff_lt-mul, pow-suc}
 use Rattle.std.proofs.lemmas.List.{set_split, drop-drop, drop_at, take_at, drop-append-le, take-append-le, take-append-drop}
 use borrow.Rule.Slice.PartMut.{put_mid}
 use Rattle.hs_base.specs.Access.{little_endian, bytes_of}
-use Rattle.hs_base.proofs.NumberBytes.{length-bytes_of}
+use Rattle.hs_base.specs.AccessEquations.{length-bytes_of}
 use Rattle.byte_memory.specs.Bytes.{part, word, put_word}
 
 -- Reading

@@ -7,7 +7,7 @@ use Rattle.hs_base.specs.Cut.{Cut, fits, cut_from, cut, refused_ending, ending_o
 use Rattle.hs_base.specs.declared.ends.Limits.{Limits}
 use Rattle.hs_base.specs.Runs as runs
 use Rattle.hs_base.specs.Runs.{led, moved, after}
-use Rattle.hs_base.proofs.Running.{moved_stays, one_end}
+use Rattle.hs_base.specs.RunsEquations.{moved_stays, one_end}
 use Rattle.core_tree.specs.declared.program.Core.{Core}
 use Rattle.core_tree.specs.Sound.{IsSound}
 use Rattle.object_meaning.specs.objects.Going.{Next}

@@ -8,7 +8,7 @@ use Rattle.hs_base.specs.State.{State}
 use Rattle.hs_base.specs.Trace.{Event, Out, In, New, Gone, Enter, Leave, Ending, bytes_out, bytes_in, end_of}
 use Rattle.hs_base.specs.Trace as meant
 use Rattle.hs_base.specs.Runs as runs
-use Rattle.hs_base.proofs.Running.{after_zero, after_more, after_stays, one_end}
+use Rattle.hs_base.specs.RunsEquations.{after_zero, after_more, after_stays, one_end}
 use Rattle.core_tree.specs.declared.program.Core.{Core}
 use Rattle.core_tree.specs.Sound.{IsSound}
 use Rattle.object_meaning.specs.objects.Going.{Next}

@@ -5,7 +5,7 @@ use Rattle.hs_base.specs.declared.values.Value.{Value}
 use Rattle.hs_base.specs.declared.ends.IntKind.TheVariants.{I32}
 use Rattle.hs_base.specs.Access.{Refusal}
 use Rattle.hs_base.specs.State.{State}
-use Rattle.hs_base.proofs.Wrapping.{low_bits_lt}
+use Rattle.hs_base.specs.NumbersEquations.{low_bits_lt}
 use Rattle.hs_base.specs.Numbers.{wrapped}
 use Rattle.c_print.specs.Pieces.{pieces_of}
 use Rattle.core_tree.specs.declared.statements.LibName.{LibName}

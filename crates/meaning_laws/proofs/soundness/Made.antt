@@ -9,7 +9,7 @@ use Rattle.std.proofs.Math.Nat.{mul-le-mul_left}
 use Rattle.hs_base.specs.declared.values.Pointer.TheVariants as pointer
 use Rattle.hs_base.specs.Freeing.{is_heap}
 use Rattle.hs_base.specs.Object.{Object, Sort, Local, Live, Dead, is_dead, is_queued, no_object, object_at}
-use Rattle.hs_base.proofs.Wrapping.{low_bits_lt}
+use Rattle.hs_base.specs.NumbersEquations.{low_bits_lt}
 use Rattle.c_types.specs.declared.layouts.Layout.{Layout}
 use Rattle.c_types.specs.Layouts.{AreSlots, IsSound, array_layout}
 use Rattle.c_types.proofs.Sound.{array_sound, slots_within}

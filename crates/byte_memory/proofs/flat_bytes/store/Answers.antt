@@ -1,6 +1,6 @@
 use Rattle.std.proofs.Common.{◌≡◌, ◌*◌, ◌<◌, ◌^◌, subst, sym, ap, ◌∙◌, arith}
 use Rattle.byte_memory.specs.Bytes.{put_word}
-use Rattle.hs_base.proofs.NumberBytes.{bytes_are}
+use Rattle.hs_base.specs.AccessEquations.{bytes_are}
 use Rattle.byte_memory.proofs.Words.{stored, stored_byte}
 use Rattle.byte_memory.proofs.flat_bytes.store.Goals as goal
 

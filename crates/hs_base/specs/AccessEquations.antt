@@ -1,7 +1,7 @@
--- The bytes of a number: how many, and that they are std's.
-use Rattle.std.proofs.Common.{◌≡◌, ◌/◌, ◌%◌, ◌^◌, ℕ, zero, suc, ◌∷◌, length, refl, sym, ap, ◌∙◌, arith}
+-- The bytes of a number: how many, and that they are std's. Equations, proved from `Access`.
+use Rattle.std.proofs.Common.{◌≡◌, ◌/◌, ◌%◌, ◌^◌, ℕ, zero, suc, ◌∷◌, length, refl, sym, ap, ◌∙◌, div-one, pow-suc}
 use Rattle.std.specs.Int.{byte_at, bytes_low_first}
-use Rattle.std.proofs.Math.Nat.{pow-suc, div-div-eq-div-mul}
+use Rattle.std.proofs.Math.Nat.{div-div-eq-div-mul}
 use Rattle.hs_base.specs.Access.{bytes_of}
 
 pub length-bytes_of : (n value : ℕ) → length (bytes_of n value) ≡ n
@@ -10,7 +10,7 @@ length-bytes_of (suc n) value = ap suc (length-bytes_of n (value / 256))
 
 -- std's bytes of a number, from byte i upward
 byte_is : (i value : ℕ) → byte_at i value ≡ value / 256 ^ i % 256
-byte_is zero value = ap (λ n. n % 256) (omega arith)
+byte_is zero value = ap (λ n. n % 256) (sym (div-one value))
 byte_is (suc i) value = refl
 
 bytes_from : (i n value : ℕ) → bytes_low_first i n value ≡ bytes_of n (value / 256 ^ i)
@@ -21,4 +21,4 @@ bytes_from i (suc n) value =
     λ k. byte_is i value k ∷ tail k
 
 pub bytes_are : (n value : ℕ) → bytes_low_first 0 n value ≡ bytes_of n value
-bytes_are n value = bytes_from 0 n value ∙ ap (bytes_of n) (omega arith)
+bytes_are n value = bytes_from 0 n value ∙ ap (bytes_of n) (div-one value)
