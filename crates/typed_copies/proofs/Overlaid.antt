@@ -3,7 +3,7 @@ use Rattle.std.proofs.Common.{◌≡◌, ◌<◌, ◌≤◌, ◌+◌, ◌-◌, �
 use Rattle.std.proofs.lemmas.List.{append-nil, drop_more, ext_get_or, get_or_append_left, get_or-append-add, get_or-replicate, length-replicate, length_push, replicate_more, set_at, take_more, take-append-drop}
 use Rattle.hs_base.specs.Access.{little_endian, overlaid}
 use Rattle.byte_memory.specs.Bytes.{part, put_word, word}
-use Rattle.byte_memory.proofs.Words.{stored_byte}
+use Rattle.byte_memory.specs.BytesEquations.{stored_byte}
 
 -- Parts
 
