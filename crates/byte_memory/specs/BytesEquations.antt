@@ -2,7 +2,7 @@
 use Rattle.std.proofs.Common.{◌≡◌, ◌≤◌, ◌<◌, ◌+◌, ◌-◌, ◌*◌, ◌/◌, ◌%◌, ◌^◌, ℕ, zero, suc, List, ◌∷◌, ◌++◌, length, get_or, take, drop, set, refl, sym, ap, ◌∙◌, subst, append_assoc, length-append, length-drop, drop-cons, add-one, add-zero, add_assoc, le_trans, le-add_right, add-sub_of_le, mod-eq_of_lt, div-lt_iff_lt-mul, zero-lt-suc, div-add-mod', pow-suc, add_comm, mul_comm, not-suc-le-zero, le_of_suc-le-suc}
 use Rattle.std.proofs.Math.Arith.{add-le_cancel_left}
 use Rattle.std.proofs.lemmas.List.{set_split, drop-drop, drop_at, take_at, drop-append-le, take-append-le, take-append-drop, length-take-le}
-use Rattle.hs_base.specs.Access.{little_endian, bytes_of}
+use Rattle.hs_base.specs.Access.{little_endian, bytes_of, overlaid}
 use Rattle.hs_base.specs.AccessEquations.{length-bytes_of}
 use Rattle.byte_memory.specs.Bytes.{part, word, put_word}
 
@@ -63,6 +63,24 @@ part_back front rest place from n long past =
     ∙ ap (take n) (sym (drop-drop (from - place) place (front ++ rest)))
     ∙ ap (λ l. take n (drop (from - place) l)) (drop_at front rest place long)
 
+-- as many bytes as were asked for
+pub part_len : (bytes : List ℕ) (addr n : ℕ) → addr + n ≤ length bytes → length (part bytes addr n) ≡ n
+unfolding part
+part_len bytes addr n inside =
+    length-take-le n (drop addr bytes)
+    (subst (λ m. n ≤ m) (sym (length-drop addr bytes)) (left_behind addr n (length bytes) inside))
+
+-- a part before new bytes
+pub part_before_new : (bytes : List ℕ) (place : ℕ) (new : List ℕ) → place + length new ≤ length bytes → (from n : ℕ) → from + n ≤ place →
+    part (overlaid bytes place new) from n ≡ part bytes from n
+part_before_new bytes place new inside from n before =
+    let long = length-take-le place bytes (le_trans (le-add_right place (length new)) inside) in
+    let short : from + n ≤ length (take place bytes) = subst (λ m. from + n ≤ m) (sym long) before in
+    ap (λ l. part l from n) (append_assoc (take place bytes) new (drop (place + length new) bytes))
+    ∙ part_front (take place bytes) (new ++ drop (place + length new) bytes) from n short
+    ∙ sym (part_front (take place bytes) (drop place bytes) from n short)
+    ∙ ap (λ l. part l from n) (take-append-drop place bytes)
+
 -- Reading a part after a write
 
 module _ (bytes : List ℕ) (addr width value : ℕ) (inside : addr + width ≤ length bytes) where
@@ -104,12 +122,10 @@ part_inside bytes addr width value from n inside low high =
 -- a part before it
 pub part_before : (bytes : List ℕ) (addr width value from n : ℕ) → addr + width ≤ length bytes → from + n ≤ addr →
     part (put_word bytes addr width value) from n ≡ part bytes from n
+unfolding put_word
 part_before bytes addr width value from n inside before =
-    let short : from + n ≤ length (take addr bytes) = subst (λ m. from + n ≤ m) (sym (front_length bytes addr width value inside)) before in
-    ap (λ l. part l from n) (put_word_is bytes addr width value)
-    ∙ part_front (take addr bytes) (bytes_of width value ++ drop (addr + width) bytes) from n short
-    ∙ sym (part_front (take addr bytes) (drop addr bytes) from n short)
-    ∙ ap (λ l. part l from n) (take-append-drop addr bytes)
+    let new = bytes_of width value in
+    part_before_new bytes addr new (subst (λ m. addr + m ≤ length bytes) (sym (length-bytes_of width value)) inside) from n before
 
 -- a part past it
 pub part_past : (bytes : List ℕ) (addr width value from n : ℕ) → addr + width ≤ length bytes → addr + width ≤ from →

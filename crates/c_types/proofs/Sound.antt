@@ -11,13 +11,10 @@ use Rattle.c_types.specs.declared.layouts.Layout.{Layout}
 use Rattle.c_types.specs.declared.types.IntType.{IntType}
 use Rattle.c_types.specs.declared.types.IntType.TheVariants as i
 use Rattle.c_types.specs.TagTable.{CompletedTag, learn, known, tag_layout, member_layout}
-use Rattle.c_types.proofs.MemberLemmas.{some_array}
+use Rattle.c_types.specs.TagTableEquations.{some_array}
 use Rattle.c_types.specs.Types.{PlainType, Void, Int, Pointer, Array, Struct, Union, Function, width_of}
 use Rattle.c_types.specs.Layouts.{Known, Placed, IsAlignment, AreSlots, IsSound, moved, array_layout, number_layout, no_layout, pointer_layout, layout_of, place, placed, none_placed, members_layout, has_slot}
-
-pub slots_within : (low more high less : ℕ) (ss : List ℕ) → more ≤ low → high ≤ less → AreSlots low high ss → AreSlots more less ss
-slots_within low more high less [] a b h = tt
-slots_within low more high less (s ∷ ss) a b h = (omega arith, omega arith, h.2, slots_within (s + 4) (s + 4) high less ss (omega arith) b h.3)
+use Rattle.c_types.specs.LayoutsEquations.{slots_within}
 
 pub slots_append : (low mid high : ℕ) (xs ys : List ℕ) → low ≤ mid → mid ≤ high → AreSlots low mid xs → AreSlots mid high ys → AreSlots low high (xs ++ ys)
 slots_append low mid high [] ys a b h g = slots_within mid low high high ys a (omega arith) g
@@ -58,9 +55,6 @@ rounded_whole n align (inl e) = rw e (omega arith)
 rounded_whole n align (inr (inl e)) = rw e (omega arith)
 rounded_whole n align (inr (inr (inl e))) = rw e (omega arith)
 rounded_whole n align (inr (inr (inr e))) = rw e (omega arith)
-
-pub rounded_le : (n align : ℕ) → n ≤ next_multiple_of n align
-rounded_le n align = omega arith
 
 max_words : (a b : ℕ) → IsAlignment a → IsAlignment b → a % 4 ≡ 0 → max a b % 4 ≡ 0
 max_words a b p (inl e) w = let some = aligned_some a p in omega arith

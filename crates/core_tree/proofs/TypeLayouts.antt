@@ -8,7 +8,7 @@ use Rattle.c_types.specs.declared.tags.TagError.TheVariants.{PointerInUnion, Too
 use Rattle.c_types.specs.Types.{PlainType, Void, Int, Pointer, Array, Struct, Union, Function, width_of}
 use Rattle.c_types.specs.Layouts.{Known, ArraysFit, IsSound, layout_of, number_layout, pointer_layout, keeps_union_rule}
 use Rattle.c_types.specs.TagTable.{CompletedTag, known, learn, tag_layout, member_layout, refusal}
-use Rattle.c_types.proofs.MemberLemmas.{some_array}
+use Rattle.c_types.specs.TagTableEquations.{some_array}
 use Rattle.c_types.proofs.Sound.{layout_sound, known_sound}
 use Rattle.core_tree.specs.LayoutsOfTypes.{AreCompleted, IsLayoutOfType}
 

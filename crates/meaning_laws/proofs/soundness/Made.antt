@@ -12,7 +12,8 @@ use Rattle.hs_base.specs.Object.{Object, Sort, Local, Live, Dead, is_dead, is_qu
 use Rattle.hs_base.specs.NumbersEquations.{low_bits_lt}
 use Rattle.c_types.specs.declared.layouts.Layout.{Layout}
 use Rattle.c_types.specs.Layouts.{AreSlots, IsSound, array_layout}
-use Rattle.c_types.proofs.Sound.{array_sound, slots_within}
+use Rattle.c_types.specs.LayoutsEquations.{slots_within}
+use Rattle.c_types.proofs.Sound.{array_sound}
 use Rattle.object_meaning.specs.objects.Values.{size_in}
 use Rattle.object_meaning.specs.objects.Making.{blank, heap_object}
 use Rattle.object_meaning.specs.objects.Holding.{is_among}
