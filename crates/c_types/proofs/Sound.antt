@@ -14,7 +14,7 @@ use Rattle.c_types.specs.TagTable.{CompletedTag, learn, known, tag_layout, membe
 use Rattle.c_types.specs.TagTableEquations.{some_array}
 use Rattle.c_types.specs.Types.{PlainType, Void, Int, Pointer, Array, Struct, Union, Function, width_of}
 use Rattle.c_types.specs.Layouts.{Known, Placed, IsAlignment, AreSlots, IsSound, moved, array_layout, number_layout, no_layout, pointer_layout, layout_of, place, placed, none_placed, members_layout, has_slot}
-use Rattle.c_types.specs.LayoutsEquations.{slots_within}
+use Rattle.c_types.specs.LayoutsEquations.{slots_within, rounded_le}
 
 pub slots_append : (low mid high : ℕ) (xs ys : List ℕ) → low ≤ mid → mid ≤ high → AreSlots low mid xs → AreSlots mid high ys → AreSlots low high (xs ++ ys)
 slots_append low mid high [] ys a b h g = slots_within mid low high high ys a (omega arith) g

@@ -1,6 +1,7 @@
 -- What is known of tags stays, and with it the layouts of types. Equations, proved from `TagTable` and `Layouts`.
 use Rattle.std.proofs.Common.{◌≡◌, ℕ, List, [], ◌∷◌, ◌==◌, cond, fold, Option, Some, None, IsSome, option_map, unwrap_or, refl, ap, sym, ◌∙◌}
 use Rattle.std.specs.Option.{option_or}
+use Rattle.std.proofs.lemmas.Bool.{false≢true}
 use Rattle.std.proofs.lemmas.Option.{none-some}
 use Rattle.c_types.specs.declared.layouts.Layout.{Layout}
 use Rattle.c_types.specs.Types.{PlainType, Void, Int, Pointer, Array, Struct, Union, Function}
@@ -36,10 +37,8 @@ layout_stays k more x (Function answer params) l e = absurd (none-some l e)
 pub sized_stays : (k more : Known) → Extends k more → (type : PlainType) → IsSome (layout_of k type) → layout_of k type ≡ layout_of more type
 sized_stays k more x type s =
     elim (layout_of k type) as (λ o. IsSome o → layout_of k type ≡ o → layout_of k type ≡ layout_of more type) [
-      | None ↦ λ h e. absurd (none_is h)
+      | None ↦ λ h e. absurd (false≢true h)
       | Some l ↦ λ h e. e ∙ sym (layout_stays k more x type l e)
     ]
     s
-    refl where
-      none_is : IsSome {T = Layout} None → ⊥
-      none_is h = h
+    refl

@@ -10,7 +10,7 @@ use Rattle.core_soundness.proofs.Words.Facts.{HasLayouts, Solid, TableFits, Whol
 use Rattle.c_types.specs.TagTableEquations.{some_array, Extends, layout_stays}
 use Rattle.c_types.specs.declared.types.IntType.TheVariants as i
 use Rattle.c_tree.specs.Forms as f
-use Rattle.c_decls.proofs.SameTypes.{same_equal}
+use Rattle.c_decls.specs.TypedEquations.{same_equal}
 use Rattle.c_decls.specs.BuiltIns as names
 use Rattle.c_decls.specs.Named as n
 use Rattle.core_soundness.proofs.Agreeing.{valued_agrees, found_agrees, came}
