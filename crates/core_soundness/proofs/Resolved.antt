@@ -14,7 +14,6 @@ use Rattle.core_soundness.proofs.Words.Core.{IntKind, I32, plain_byte, GoesOnPla
 use Rattle.core_soundness.proofs.Words.Elaborating.{Piece as CodePiece, Does, Here, Context, Walked, local_register, integer_temporary, pointer_temporary, file_variable, literal_object, Numbers, atom_by, atoms_by, numbered, body_of, register_by, static_by, numbers_of, temporary, pointer_register, function_of, variable_static, literal_static, core_of}
 use Rattle.core_soundness.proofs.Words.Facts.{World, walked_world, IsRegister, is_local, is_integer, is_pointer_temporary, IsObject, is_variable, is_literal, Holds, HoldAll, Receives, IsCall, IsPrinted, Fits, FitsAnswer, FitsIn, PiecesFit}
 use Rattle.c_print.specs.ItemEquations.{front_passes, rest_starts_outside, conv_is_letter, item_is_no_percent, width_bytes_value}
-use Rattle.c_print.proofs.Pieces.{some_bytes}
 use Rattle.core_tree.specs.declared.statements.Atom.TheVariants as atom
 use Rattle.core_soundness.proofs.Scopes.{get_left}
 use Rattle.core_soundness.proofs.Choices.{either_way, three_parts, some_same}
@@ -113,6 +112,9 @@ first_none b text h k (suc i) d below = k i d (omega (arith, below))
 
 none_none : All {X = ℕ} (λ (c : ℕ). c ≢ 0) []
 none_none k d below = absurd (omega (arith, below))
+
+some_bytes : (b : ℕ) (text : List ℕ) → b ∷ text ≢ []
+some_bytes b text e = cc
 
 -- one plain byte in front of pieces
 plain_first : (b : ℕ) (bytes rest : List ℕ) (pieces : List Piece) → bytes ≡ plain_byte b ++ rest → b ≢ 0 → ReadsPieces rest pieces [] → ReadsPieces bytes (join (Plain (b ∷ [])) pieces) []

@@ -1,6 +1,8 @@
 pub mod Memory
+pub mod MemoryEquations
 pub mod Standing
 pub mod Keeping
+pub mod KeptEquations
 pub mod Reaching
 pub mod Answering
 pub mod Counting
@@ -15,4 +17,5 @@ pub mod Ranges
 pub mod Tries
 pub mod Leaks
 pub mod Ending
+pub mod EndingEquations
 pub mod EndingSteps

@@ -6,6 +6,7 @@ pub mod Arithmetic
 pub mod Object
 pub mod State
 pub mod Trace
+pub mod TraceEquations
 pub mod Access
 pub mod AccessEquations
 pub mod Freeing

@@ -20,25 +20,7 @@ use Rattle.meaning_run.specs.declared.halt.Halt.TheVariants as halt
 use Rattle.meaning_run.specs.Leading.{with_input, AsksByte, events_of, PutsPart, SeenEnd, Seen}
 use Rattle.meaning_run.proofs.Quiet.{held_append}
 use Rattle.meaning_run.specs.Meant.{end_in, StopsAtIn, Stopped, Whole, MeanAnswers, Begins, answer_of}
-
-pub out_append : (a b : List Event) → bytes_out (a ++ b) ≡ bytes_out a ++ bytes_out b
-out_append [] b = refl
-out_append (Out byte ∷ a) b = ap (λ bs. byte ∷ bs) (out_append a b)
-out_append (In byte ∷ a) b = out_append a b
-out_append (New birth size line ∷ a) b = out_append a b
-out_append (Gone birth ∷ a) b = out_append a b
-out_append (Enter cost line ∷ a) b = out_append a b
-out_append (Leave ∷ a) b = out_append a b
-
-pub in_append : (a b : List Event) → bytes_in (a ++ b) ≡ bytes_in a ++ bytes_in b
-in_append [] b = refl
-in_append (Out byte ∷ a) b = in_append a b
-in_append (In (Some byte) ∷ a) b = ap (λ bs. byte ∷ bs) (in_append a b)
-in_append (In None ∷ a) b = in_append a b
-in_append (New birth size line ∷ a) b = in_append a b
-in_append (Gone birth ∷ a) b = in_append a b
-in_append (Enter cost line ∷ a) b = in_append a b
-in_append (Leave ∷ a) b = in_append a b
+use Rattle.hs_base.specs.TraceEquations.{out_append, in_append}
 
 -- A trace is only added to
 
