@@ -4,6 +4,7 @@ pub mod Gaps
 pub mod Literals
 pub mod Names
 pub mod Numbers
+pub mod NumbersEquations
 pub mod Pieces
 pub mod Readers
 pub mod Signs

@@ -24,7 +24,7 @@ use Rattle.parser_parts.specs.declared.error.ReadError.TheVariants as errors
 use Rattle.grammar_reading.specs.Declarators.{is_void_list, function_suffix_at}
 use Rattle.grammar_reading.specs.Statements.{else_by, if_at, body_at}
 use Rattle.c_parser.specs.Pieces.{open_at, open_function_at}
-use Rattle.grammar_reading.proofs.sound.Options.{none_some, some_same, bind_some}
+use Rattle.grammar_reading.specs.ReadingEquations.{none_some, some_same, bind_some}
 use Rattle.grammar_reading.proofs.sound.Rooms.{trees_are_read}
 
 -- some names are more than others

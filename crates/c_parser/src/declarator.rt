@@ -153,7 +153,7 @@ fn enclosed<'a>(
 }
 
 /// A name, where the sort of declarator may have one.
-#[tactic(auto, using(parser_parts::proofs::TokenWords::name_words), unfolding(c_tree::specs::Depth::below, c_tree::specs::Depth::layers, c_tree::specs::Depth::layers_all, c_tree::specs::Depth::greatest_depth, c_tree::specs::Depth::greatest_below, c_tree::specs::Depth::is_of_declarator, c_tree::specs::Depth::layer, c_tree::specs::Scopes::name_of, c_tree::specs::Scopes::name_among, c_tree::specs::Scopes::leads_to_name, c_tree::specs::Scopes::params_of, c_tree::specs::Scopes::params_among, c_tree::specs::Scopes::suffix_params))]
+#[tactic(auto, using(parser_parts::specs::WordEquations::name_words), unfolding(c_tree::specs::Depth::below, c_tree::specs::Depth::layers, c_tree::specs::Depth::layers_all, c_tree::specs::Depth::greatest_depth, c_tree::specs::Depth::greatest_below, c_tree::specs::Depth::is_of_declarator, c_tree::specs::Depth::layer, c_tree::specs::Scopes::name_of, c_tree::specs::Scopes::name_among, c_tree::specs::Scopes::leads_to_name, c_tree::specs::Scopes::params_of, c_tree::specs::Scopes::params_among, c_tree::specs::Scopes::suffix_params))]
 fn name<'a>(
     alloc: Global,
     reader: &mut Reader<'a>,

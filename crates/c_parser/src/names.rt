@@ -83,7 +83,7 @@ fn inits(alloc: Global, reader: &mut Reader, room: usize) -> Result<Vec<Init>, R
 }
 
 /// Puts an initializer behind others.
-#[tactic(auto, using(parser_parts::proofs::Parts::trees_behind))]
+#[tactic(auto, using(parser_parts::specs::TreesEquations::trees_behind))]
 fn push_init(list: &mut Vec<Init>, next: Init) -> Result<(), NoMemory>
     ensures { IfOk result (λ _. trees init_view list.new.items ≡ snoc (trees init_view list.old.items) (init_view next)) }
 {
@@ -171,7 +171,7 @@ pub fn names_more(
 }
 
 /// Puts a name behind others.
-#[tactic(auto, using(parser_parts::proofs::Parts::trees_behind))]
+#[tactic(auto, using(parser_parts::specs::TreesEquations::trees_behind))]
 fn push_entry(
     list: &mut Items<(Declarator, Option<Init>)>,
     next: (Declarator, Option<Init>),

@@ -437,7 +437,7 @@ pub fn items(alloc: Global, reader: &mut Reader, room: usize) -> Result<Vec<Stmt
 }
 
 /// Puts a statement behind others.
-#[tactic(auto, using(parser_parts::proofs::Parts::trees_behind))]
+#[tactic(auto, using(parser_parts::specs::TreesEquations::trees_behind))]
 fn push(list: &mut Vec<Stmt>, stmt: Stmt) -> Result<(), NoMemory>
     ensures { IfOk result (λ _. trees stmt_view list.new.items ≡ snoc (trees stmt_view list.old.items) (stmt_view stmt)) }
 {

@@ -35,7 +35,7 @@ pub fn strings(alloc: Global, reader: &mut Reader) -> Result<Items<Items<u8>>, R
 }
 
 /// Puts a string literal behind others.
-#[tactic(auto, using(parser_parts::proofs::Parts::leaves_behind))]
+#[tactic(auto, using(parser_parts::specs::TreesEquations::leaves_behind))]
 fn push(list: &mut Items<Items<u8>>, literal: Items<u8>) -> Result<(), NoMemory>
     ensures { IfOk result (λ _. literal_leaves list.new ≡ snoc (literal_leaves list.old) (Leaf (Str literal))) }
 {

@@ -78,7 +78,7 @@ fn next(alloc: Global, reader: &mut Reader) -> Result<Decl, ParseError>
 }
 
 /// Puts a declaration behind others.
-#[tactic(auto, using(parser_parts::proofs::Parts::trees_behind))]
+#[tactic(auto, using(parser_parts::specs::TreesEquations::trees_behind))]
 fn push(list: &mut Items<Decl>, decl: Decl) -> Result<(), NoMemory>
     ensures { IfOk result (λ _. trees decl_view list.new ≡ snoc (trees decl_view list.old) (decl_view decl)) }
 {

@@ -2,3 +2,4 @@ pub mod Table
 pub mod Lives
 pub mod Sites
 pub mod WellFormed
+pub mod WellFormedEquations

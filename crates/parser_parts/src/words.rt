@@ -31,7 +31,7 @@ impl DeepWords {
     }
 
     /// With a keyword or a typedef name, which have no depth.
-    #[tactic(auto, using(crate::proofs::Parts::trees_behind, crate::proofs::Parts::depth_behind))]
+    #[tactic(auto, using(crate::specs::TreesEquations::trees_behind, crate::proofs::Parts::depth_behind))]
     fn with_flat(self, word: Spec) -> Result<DeepWords, NoMemory>
         requires { depth_of (spec_tree word) ≡ 0 }
         ensures list { IfOk result (λ x. trees spec_tree x.list.items ≡ snoc (trees spec_tree self.list.items) (spec_tree word)) }
@@ -44,7 +44,7 @@ impl DeepWords {
     }
 
     /// With a tag.
-    #[tactic(auto, using(crate::proofs::Parts::trees_behind, crate::proofs::Parts::depth_behind))]
+    #[tactic(auto, using(crate::specs::TreesEquations::trees_behind, crate::proofs::Parts::depth_behind))]
     pub fn with_tag(self, tag: DeepTag) -> Result<DeepWords, NoMemory>
         ensures list { IfOk result (λ x. trees spec_tree x.list.items ≡ snoc (trees spec_tree self.list.items) (tag_view tag.tree)) }
         ensures depth { IfOk result (λ x. x.depth ≡ max self.depth tag.depth) }

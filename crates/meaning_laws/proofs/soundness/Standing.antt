@@ -46,8 +46,8 @@ use Rattle.meaning_laws.proofs.soundness.Touching.{Changed}
 use Rattle.meaning_laws.proofs.dangling.Giving.{Lives}
 use Rattle.meaning_laws.proofs.soundness.Made.{heap_is, append_grows, one_more, one_queue, one_born, new_start}
 use Rattle.meaning_laws.proofs.soundness.Queues.{alike_queue}
-use Rattle.meaning_laws.proofs.soundness.Ready.{Ready}
 use Rattle.meaning_laws.proofs.soundness.Frames.{Holds, holds_of, holds_grow, holds_put, moves}
+use Rattle.flat_code.specs.WellFormedEquations.{Ready}
 
 -- a new heap object has no pointers
 pub heap_living : (objects : List Object) (line size : ℕ) (element : Layout) (x : ℕ) → inside_living x (objects ++ heap_object line size element ∷ []) ≡ inside_living x objects
