@@ -18,6 +18,7 @@ use crate::places::Places;
 use crate::sites::{count_at, registers_of};
 use c_types::Layout;
 use core_tree::{Func, Mem, Reg, Stm, StmKind};
+use count_insertion::listed_pins_are_exact;
 use flat_code::Entry;
 use hs_base::{Items, NoMemory};
 use object_meaning::Pin;
@@ -120,6 +121,7 @@ impl Emitter {
         requires listed { pins.now ≡ func_pins func.now }
         ensures { IfOk result (λ _. self.new.code ≡ fold (with_point (place_in places.now) func.now) self.old.code (enumerate_from 0 func.now.body)) }
     {
+        listed_pins_are_exact();
         let mut left = pins;
         for (point, stm) in func.body.as_slice().iter().enumerate() {
             let count = count_at(left, fit(point)?);
