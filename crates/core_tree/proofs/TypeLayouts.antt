@@ -9,7 +9,6 @@ use Rattle.c_types.specs.Types.{PlainType, Void, Int, Pointer, Array, Struct, Un
 use Rattle.c_types.specs.Layouts.{Known, ArraysFit, IsSound, layout_of, number_layout, pointer_layout, keeps_union_rule}
 use Rattle.c_types.specs.TagTable.{CompletedTag, known, learn, tag_layout, member_layout, refusal}
 use Rattle.c_types.specs.TagTableEquations.{some_array}
-use Rattle.c_types.proofs.Sound.{layout_sound, known_sound}
 use Rattle.core_tree.specs.LayoutsOfTypes.{AreCompleted, IsLayoutOfType}
 
 abbrev IsSmall : Layout → Type 0
@@ -80,8 +79,10 @@ layout_small k a (Struct tag) l f e = a tag l e
 layout_small k a (Union tag) l f e = a tag l e
 layout_small k a (Function answer params) l f e = cc
 
-pub type_layout_sound : (l : Layout) → IsLayoutOfType l → IsSound l
-type_layout_sound l h = layout_sound (known h.tags) (known_sound h.tags) h.type l h.layout
+-- the layouts of types over completed tags are sound: the law `layouts_are_sound` of `c_types`
+pub type_layout_sound : ((tags : List CompletedTag) (t : PlainType) (l : Layout) → layout_of (known tags) t ≡ Some l → IsSound l) →
+    (l : Layout) → IsLayoutOfType l → IsSound l
+type_layout_sound sound l h = sound h.tags h.type l h.layout
 
 pub type_layout_small : (l : Layout) → IsLayoutOfType l → l.size ≤ 268435456
 type_layout_small l h =

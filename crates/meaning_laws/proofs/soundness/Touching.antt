@@ -17,7 +17,8 @@ use Rattle.hs_base.specs.Object.{Object, object_at, no_object, is_dead}
 use Rattle.hs_base.specs.AccessEquations.{length-bytes_of}
 use Rattle.object_meaning.specs.objects.Values.{is_stale}
 use Rattle.object_meaning.specs.objects.Memory.{loaded, loaded_pointer, stored, stored_pointer, pointers_in_range, copied}
-use Rattle.meaning_laws.proofs.dangling.Alive.{at_set, is_within}
+use Rattle.meaning_laws.specs.objects.GoodEquations.{is_within}
+use Rattle.meaning_laws.proofs.dangling.Alive.{at_set}
 use Rattle.meaning_laws.proofs.dangling.Touching.{Done, trapped, then_done, so_done, so_skipped}
 use Rattle.meaning_laws.specs.code.Objects.{IsThere, IsPointer, IsByte, IsObject, AreObjects}
 use Rattle.meaning_laws.proofs.soundness.Lists.{overlaid_length, overlaid_all, all_or}
