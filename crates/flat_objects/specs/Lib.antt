@@ -6,6 +6,7 @@ pub mod KeptEquations
 pub mod Reaching
 pub mod Answering
 pub mod Counting
+pub mod SumEquations
 pub mod Freeing
 pub mod Holders
 pub mod Searching
