@@ -6,6 +6,7 @@ pub mod Names
 pub mod Numbers
 pub mod NumbersEquations
 pub mod Pieces
+pub mod PiecesEquations
 pub mod Readers
 pub mod Signs
 pub mod Tokens

@@ -22,7 +22,7 @@ use Rattle.c_lexer.specs.declared.token.LexKind.TheVariants.{BadByte, LiteralToo
 use Rattle.c_lexer.specs.declared.piece.PieceKind.{PieceKind}
 use Rattle.c_lexer.specs.declared.piece.PieceKind.TheVariants.{Gap, Token, Refused}
 use Rattle.c_lexer.specs.declared.piece.Piece.{Piece}
-use Rattle.c_lexer.proofs.Cuts.{longest_one}
+use Rattle.c_lexer.specs.PiecesEquations.{longest_one}
 use Rattle.c_lexer.proofs.WrittenTokens.{token_longest}
 use Rattle.c_tree.specs.declared.word.Sign.{Sign}
 use Rattle.c_tree.specs.declared.word.Sign.TheVariants as s
