@@ -10,7 +10,7 @@ use Rattle.c_types.specs.TagTableEquations.{Extends, some_array, layout_stays}
 use Rattle.c_types.specs.TagTableEquations.{stays_known}
 use Rattle.c_types.specs.LayoutsEquations.{rounded_le}
 use Rattle.c_types.specs.Layouts.{place}
-use Rattle.core_tree.proofs.TypeLayouts.{type_layout_small}
+use Rattle.core_tree.specs.LayoutsOfTypesEquations.{type_layout_small}
 use Rattle.c_decls.specs.Named as n
 
 abbrev pub nothing : Known
