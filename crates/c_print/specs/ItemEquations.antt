@@ -50,12 +50,12 @@ digits_test : IsDigitsTest (λ ds. list_all is_ascii_digit ds ≡ true)
 digits_test = record {
   empty = refl;
   parts = λ c cs all.
-    let both = and_parts (is_ascii_digit c) (list_all is_ascii_digit cs) all in
-    let range = and_parts (nat_le 48 c) (nat_le c 57) both.0 in
-    ((leb-true 48 c range.0, leb-true c 57 range.1), both.1);
+      let both = and_parts (is_ascii_digit c) (list_all is_ascii_digit cs) all in
+      let range = and_parts (nat_le 48 c) (nat_le c 57) both.0 in
+      ((leb-true 48 c range.0, leb-true c 57 range.1), both.1);
   more = λ c cs range rest.
-    and_from (is_ascii_digit c) (list_all is_ascii_digit cs)
-    (and_from (nat_le 48 c) (nat_le c 57) (le-leb 48 c range.0) (le-leb c 57 range.1)) rest;
+      and_from (is_ascii_digit c) (list_all is_ascii_digit cs)
+      (and_from (nat_le 48 c) (nat_le c 57) (le-leb 48 c range.0) (le-leb c 57 range.1)) rest;
 }
 
 pub all_digits : IsNumeralModel (λ ds. list_all is_ascii_digit ds ≡ true) (digits_value 10)

@@ -82,4 +82,3 @@ covers_next words k a b below covered lowered granule =
     ap (into_granule granule) (take_more words k 0 below) ∙ into_both granule (take k words) (get_or words k 0 ∷ []) in
     let part : into_granule granule (take (k + 1) words) ≤ into_granule granule words = sum_by-take-le (λ w. cond (leads_into granule w) 1 0) words (k + 1) in
     omega (arith, covered granule, lowered.exact granule)
-

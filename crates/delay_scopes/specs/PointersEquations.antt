@@ -17,11 +17,11 @@ lowers_both xs ys a b c first second = record {
   most = second.most ∙ first.most;
   long = second.long ∙ first.long;
   exact = λ granule.
-    let left = get_or c.counts granule 0 in
-    let one = into_granule granule xs in
-    let two = into_granule granule ys in
-    ap (λ n. left + n) (into_both granule xs ys ∙ add_comm one two) ∙ sym (add_assoc left two one)
-    ∙ ap (λ n. n + one) (second.exact granule) ∙ first.exact granule;
+      let left = get_or c.counts granule 0 in
+      let one = into_granule granule xs in
+      let two = into_granule granule ys in
+      ap (λ n. left + n) (into_both granule xs ys ∙ add_comm one two) ∙ sym (add_assoc left two one)
+      ∙ ap (λ n. n + one) (second.exact granule) ∙ first.exact granule;
 }
 
 -- the words of the objects of a queue, one object more
