@@ -2,7 +2,7 @@
 
 ghost use Rattle.c_lexer.specs.Characters.{StringsAreCharacters, ConstantsAreCharacters};
 ghost use Rattle.c_lexer.specs.Tokens.{OneAnswer};
-ghost use Rattle.c_lexer.specs.Written.{WrittenIsRead};
+ghost use Rattle.c_lexer.specs.Written.{TokensAreLongest, WrittenIsRead};
 
 /// Every text has exactly one answer: its tokens, or its first bad place.
 pub fn every_text_has_one_answer()
@@ -20,4 +20,9 @@ pub fn written_tokens_are_read_again()
 pub fn literals_are_characters()
     ensures strings { StringsAreCharacters }
     ensures constants { ConstantsAreCharacters }
+{}
+
+/// A token with a space or byte 10 behind it is the longest piece there.
+pub fn tokens_are_longest()
+    ensures { TokensAreLongest }
 {}
