@@ -21,7 +21,7 @@ use crate::kind::NameSort;
 use crate::levels::CONDITION;
 use crate::specifiers::plain_specs;
 use c_tree::{Base, Keyword, Param, Sign, Suffix, TypeName};
-use grammar_reading::Kind;
+use grammar_reading::{Kind, trees_are_read};
 use parser_parts::{
     DeepBase, DeepDeclarator, DeepMaybeExpr, DeepParam, DeepParams, DeepSuffix, DeepSuffixes,
     DeepTypename, ReadError, Reader, is_mark,
@@ -338,6 +338,7 @@ fn function(alloc: Global, reader: &mut Reader, room: usize) -> Result<DeepSuffi
     requires room { room < 401 }
     ensures { ReadsSuffix result reader.new (spec.function_suffix_at (less room) room reader.old) }
 {
+    trees_are_read();
     let outer = reader.enter();
     let suffix = open_function(alloc, reader, room)?;
     reader.leave_params(alloc, outer)?;

@@ -25,7 +25,7 @@ use crate::pieces::{
     break_out, continue_on, empty, evaluation, for_start, local, maybe_expr, return_with,
 };
 use c_tree::{Expr, Keyword, Sign, Stmt};
-use grammar_reading::Kind;
+use grammar_reading::{Kind, trees_are_read};
 use hs_base::{Line, NoMemory};
 use parser_parts::{Outer, ReadError, Reader};
 use std::alloc::Global;
@@ -100,6 +100,7 @@ fn compound(
     requires some { 0 < room }
     ensures { Reads stmt_view result reader.new (scoped (open_at (less room) room keyword) reader.old) }
 {
+    trees_are_read();
     let outer = reader.enter();
     let read = open(alloc, reader, room, keyword);
     ended(reader, outer, read)
@@ -134,6 +135,7 @@ fn branch(alloc: Global, reader: &mut Reader, room: usize) -> Result<Stmt, ReadE
     requires room { room < 401 }
     ensures { Reads stmt_view result reader.new (read room Branch reader.old) }
 {
+    trees_are_read();
     let outer = reader.enter();
     let read = statement(alloc, reader, room);
     ended(reader, outer, read)
@@ -160,6 +162,7 @@ fn block(alloc: Global, reader: &mut Reader, room: usize) -> Result<Stmt, ReadEr
     requires some { 0 < room }
     ensures { Reads stmt_view result reader.new (scoped (fixed (less room) form.Block) reader.old) }
 {
+    trees_are_read();
     let outer = reader.enter();
     let read = open_block(alloc, reader, room);
     ended(reader, outer, read)
