@@ -10,5 +10,6 @@ pub mod PiecesEquations
 pub mod Readers
 pub mod Signs
 pub mod Tokens
+pub mod Cutting
 pub mod Words
 pub mod Written

@@ -1,6 +1,7 @@
 //! Laws of the definitions, each the contract of a function that does nothing.
 
 ghost use Rattle.c_lexer.specs.Characters.{StringsAreCharacters, ConstantsAreCharacters};
+ghost use Rattle.c_lexer.specs.Cutting.{PiecesAreTheCut, TokensHaveForms};
 ghost use Rattle.c_lexer.specs.Tokens.{OneAnswer};
 ghost use Rattle.c_lexer.specs.Written.{TokensAreLongest, WrittenIsRead};
 
@@ -25,4 +26,10 @@ pub fn literals_are_characters()
 /// A token with a space or byte 10 behind it is the longest piece there.
 pub fn tokens_are_longest()
     ensures { TokensAreLongest }
+{}
+
+/// The pieces that are read one after another are the one cut of a text, and the tokens of its answer have the forms of tokens.
+pub fn pieces_are_the_cut()
+    ensures cut { PiecesAreTheCut }
+    ensures forms { TokensHaveForms }
 {}
