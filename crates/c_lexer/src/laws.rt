@@ -1,7 +1,7 @@
 //! Laws of the definitions, each the contract of a function that does nothing.
 
 ghost use Rattle.c_lexer.specs.Characters.{StringsAreCharacters, ConstantsAreCharacters};
-ghost use Rattle.c_lexer.specs.Cutting.{PiecesAreTheCut, TokensHaveForms};
+ghost use Rattle.c_lexer.specs.Cutting.{ConstantsFit, PiecesAreTheCut, TokensHaveForms};
 ghost use Rattle.c_lexer.specs.Tokens.{OneAnswer};
 ghost use Rattle.c_lexer.specs.Written.{TokensAreLongest, WrittenIsRead};
 
@@ -32,4 +32,9 @@ pub fn tokens_are_longest()
 pub fn pieces_are_the_cut()
     ensures cut { PiecesAreTheCut }
     ensures forms { TokensHaveForms }
+{}
+
+/// The value of an integer constant has at most 64 bits (C99 6.4.4.1).
+pub fn constants_fit()
+    ensures { ConstantsFit }
 {}
