@@ -1,12 +1,10 @@
 -- A text is cut into pieces in one way, and so has one answer.
-use Rattle.std.proofs.Common.{◌≡◌, ℕ, zero, suc, ◌-◌, ◌<◌, ◌≤◌, Bool, inl, inr, List, [], ◌∷◌, length, take, drop, refl, ap, subst, sym, ◌∙◌, arith}
-use Rattle.std.proofs.lemmas.Bool.{cases_order}
-use Rattle.std.specs.Prelude.{Option, Some, None, Result, Ok, Err}
-use Rattle.c_lexer.specs.Pieces.{kind_of, Longest}
+use Rattle.std.proofs.Common.{◌≡◌, ℕ, zero, suc, ◌-◌, ◌<◌, ◌≤◌, inl, inr, List, [], ◌∷◌, length, take, drop, refl, ap, subst, sym, ◌∙◌, arith}
+use Rattle.std.specs.Prelude.{Result, Ok, Err}
+use Rattle.c_lexer.specs.Pieces.{Longest}
 use Rattle.c_lexer.specs.Readers.{piece_at, pieces_from}
 use Rattle.c_lexer.specs.Tokens.{first_place, next_place, behind, IsCut, answer_with, answer_of, HasAnswer, HasTokens, IsRefused, IsOnlyAnswer, OneAnswer}
 use Rattle.c_lexer.specs.declared.place.Place.{Place}
-use Rattle.c_lexer.specs.declared.piece.PieceKind.{PieceKind}
 use Rattle.c_lexer.specs.declared.piece.Piece.{Piece}
 use Rattle.c_lexer.specs.declared.token.Token.{Token as TextToken}
 use Rattle.c_lexer.specs.declared.token.LexError.{LexError}

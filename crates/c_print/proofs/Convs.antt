@@ -1,16 +1,16 @@
 -- Lengths and conversions.
-use Rattle.std.proofs.Common.{◌≡◌, ◌≢◌, ◌≤◌, ℕ, Bool, true, false, cond, List, [], ◌∷◌, ◌++◌, ◌&&◌, take, length, nat_eq, nat_le, Some, None, refl, sym, ap, ◌∙◌, subst, ⊎_elim, codes, arith}
-use Rattle.std.specs.List.{list_all, starts_with}
+use Rattle.std.proofs.Common.{◌≡◌, ◌≢◌, ℕ, Bool, true, false, cond, List, [], ◌∷◌, ◌++◌, ◌&&◌, take, length, nat_eq, Some, None, refl, sym, ap, ◌∙◌, subst, codes}
+use Rattle.std.specs.List.{starts_with}
 use Rattle.std.specs.Option.{unwrap_or}
 use lib.Pointwise.{pointwise}
 use Rattle.std.proofs.lemmas.List.{append_cancel_left}
-use Rattle.std.proofs.lemmas.Bool.{eqb-true, leb-true, ne_eqb, or_cases, and_parts, false≢true}
+use Rattle.std.proofs.lemmas.Bool.{ne_eqb}
 use Rattle.hs_base.specs.declared.ends.IntKind.{IntKind}
 use Rattle.c_print.specs.declared.length.Length.{Length}
 use Rattle.c_print.specs.declared.length.Length.TheVariants.{Absent, Hh, H, L, Ll, Z}
-use Rattle.c_print.specs.Length.{length_bytes, signed_kind, unsigned_kind, byte_kind, is_one_of, kind_of}
+use Rattle.c_print.specs.Length.{length_bytes, kind_of}
 use Rattle.c_print.specs.Pieces.{length_at}
-use Rattle.c_print.specs.Item.{StartsOutside, ReadsConversion}
+use Rattle.c_print.specs.Item.{ReadsConversion}
 
 -- and no letter of a length
 pub conv_is_not : (length : Length) (conv : ℕ) (kind : IntKind) → kind_of length conv ≡ Some kind →

@@ -1,17 +1,17 @@
 -- An item has one reading.
-use Rattle.std.proofs.Common.{◌≡◌, ◌≢◌, ◌≤◌, ◌<◌, ℕ, Bool, true, false, List, [], ◌∷◌, ◌++◌, nat_eq, get_or, length, length-append, refl, sym, ap, ◌∙◌, subst, ⊎_elim, arith}
+use Rattle.std.proofs.Common.{◌≡◌, ◌≢◌, ◌≤◌, ◌<◌, ℕ, Bool, true, false, List, [], ◌∷◌, ◌++◌, get_or, length, length-append, refl, sym, ap, ◌∙◌, subst, ⊎_elim, arith}
 use Rattle.std.specs.List.{list_all}
 use Rattle.std.specs.Char.{is_ascii_digit}
 use Rattle.std.specs.Str.Parse.{digits_value}
 use Rattle.std.proofs.lemmas.Bool.{and_parts, cases_eq}
-use Rattle.std.proofs.lemmas.Fmt.{digits_decimal, first_decimal}
+use Rattle.std.proofs.lemmas.Fmt.{first_decimal}
 use Rattle.std.proofs.lemmas.Bool.Decides.{nat_tests}
 use Rattle.hs_base.specs.declared.ends.IntKind.{IntKind}
 use Rattle.c_print.specs.Item.{is_flag, StartsOutside, width_bytes, ReadsConversion, ReadsItem}
 use Rattle.c_print.proofs.Widths.{value_width_bytes}
 use Rattle.c_print.proofs.Fronts.{one_front}
 use Rattle.c_print.specs.Length.{length_bytes, is_one_of}
-use Rattle.c_print.specs.ItemEquations.{starts_outside, all_digits, width_bytes_some, width_digits}
+use Rattle.c_print.specs.ItemEquations.{starts_outside, width_bytes_some, width_digits}
 use Rattle.c_print.proofs.Convs.{one_conversion}
 
 width_front : (width : ℕ) → width ≤ 4095 → get_or (width_bytes width) 0 0 ≢ 48

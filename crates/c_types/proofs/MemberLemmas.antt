@@ -1,15 +1,15 @@
 -- Members with their layouts, whatever is known besides.
-use Rattle.std.proofs.Common.{◌≡◌, ℕ, List, [], ◌∷◌, Bool, true, false, cond, Option, Some, None, Bor, option_map, map, refl, ap, sym, ◌∙◌, IsSome}
+use Rattle.std.proofs.Common.{◌≡◌, ℕ, List, [], ◌∷◌, Bool, true, false, cond, Option, Some, None, Bor, option_map, map, refl, ap, ◌∙◌}
 use Rattle.std.specs.Prelude.{bytes_eq, find, option_copied}
 use Rattle.std.specs.List.{AllByRecursion, zip}
 use Rattle.c_types.specs.declared.layouts.Layout.{Layout}
 use Rattle.c_types.specs.declared.bodies.Body.{Body}
 use Rattle.c_types.specs.declared.bodies.Member.{Member}
-use Rattle.c_types.specs.Types.{PlainType, Void, Int, Pointer, Array, Struct, Union, Function, plain}
-use Rattle.c_types.specs.Layouts.{Known, array_layout, layout_of}
+use Rattle.c_types.specs.Types.{PlainType, plain}
+use Rattle.c_types.specs.Layouts.{Known, layout_of}
 use Rattle.c_types.specs.TagTable.{PlainMember, member_layout, plain_member, placed_members}
 use Rattle.c_types.specs.Bodies.{IsSized, IsPlaced, completed_tag}
-use Rattle.c_types.specs.TagTableEquations.{Extends, layout_stays, sized_stays}
+use Rattle.c_types.specs.TagTableEquations.{Extends, sized_stays}
 
 abbrev pub pairs : List Member → List (List ℕ × PlainType)
 pairs ms = map (λ m. (m.name, plain m.ty)) ms

@@ -1,10 +1,9 @@
 -- Types as plain data: functions, and lists of parameters.
 use Rattle.std.proofs.Common.{◌≡◌, ℕ, suc, List, [], ◌∷◌, Bor, refl, ap, ◌∙◌, rules, IsTrue, false, ◌↔◌, ◌<◌, ◌≤◌, zero, length, take, get_or, arith}
-use Rattle.c_types.specs.declared.types.CType.{CType, Row_of-CType, end_of-CType, more_of-CType, items-the_row-CType, size-CType, the_lemmas}
+use Rattle.c_types.specs.declared.types.CType.{CType, size-CType, the_lemmas}
 use Rattle.c_types.specs.declared.types.CType.TheVariants as c
-use Rattle.c_types.specs.declared.types.CType.TheBlock.{hidden-the_row-CType-0}
 use Rattle.c_types.specs.declared.types.Signature.{Signature}
-use Rattle.c_types.specs.Types.{Function, none, first, plain, plain_row, plain_list, plain_signature}
+use Rattle.c_types.specs.Types.{Function, none, first, plain, plain_list}
 
 pub result_below : (x : Bor Signature) → size-CType x.now.result ≤ size-CType (c.Function x)
 result_below x = search (rules, the_lemmas)

@@ -1,7 +1,6 @@
 -- Each layout of a type is sound.
-use Rattle.std.proofs.Common.{◌≡◌, ◌⊎◌, ◌≤◌, ◌+◌, ◌*◌, ◌%◌, ◌==◌, ℕ, suc, zero, Bool, true, false, List, [], ◌∷◌, ◌++◌, Some, None, unwrap_or, map, fold, filter, max, refl, ap, sym, ◌∙◌, append-nil, arith, subst, ⊎_elim, inl, inr}
-use Rattle.std.proofs.Math.Nat.{mod_self, max_comm, mul-zero, zero-mod}
-use Rattle.std.proofs.lemmas.Nat.{mul-mod_second}
+use Rattle.std.proofs.Common.{◌≡◌, ◌⊎◌, ◌≤◌, ◌+◌, ◌*◌, ◌%◌, ◌==◌, ℕ, suc, zero, Bool, true, false, List, [], ◌∷◌, ◌++◌, Some, None, unwrap_or, map, fold, filter, max, refl, ap, ◌∙◌, append-nil, arith, subst, ⊎_elim, inl, inr}
+use Rattle.std.proofs.Math.Nat.{mod_self, max_comm}
 use Rattle.c_types.proofs.PlacingLemmas.{max_is, max_aligned}
 use Rattle.std.proofs.lemmas.Grind.{flat_map-append}
 use Rattle.std.proofs.lemmas.Bool.{eqb-true}

@@ -1,6 +1,6 @@
 -- What the type of a function is as plain data. Equations, proved from `Types`.
-use Rattle.std.proofs.Common.{◌≡◌, List, Bor, refl, ap, ◌∙◌}
-use Rattle.c_types.specs.declared.types.CType.{CType, Row_of-CType, end_of-CType, more_of-CType, items-the_row-CType, items_hidden-the_row-CType-0}
+use Rattle.std.proofs.Common.{◌≡◌, Bor, refl, ap, ◌∙◌}
+use Rattle.c_types.specs.declared.types.CType.{Row_of-CType, end_of-CType, more_of-CType, items-the_row-CType, items_hidden-the_row-CType-0}
 use Rattle.c_types.specs.declared.types.CType.TheVariants as c
 use Rattle.c_types.specs.declared.types.CType.TheBlock.{hidden-the_row-CType-0}
 use Rattle.c_types.specs.declared.types.Signature.{Signature}

@@ -1,11 +1,8 @@
 -- The types of the words of specs.
-use Rattle.std.proofs.Common.{◌≡◌, ℕ, ◌+◌, Bool, true, false, cond, nat_eq, nat_lt, List, [], ◌∷◌, Option, Some, None, Ok, refl, sym, ap, ◌∙◌, count_by, zero-add, arith}
-use Rattle.std.specs.Prelude.{◌||◌}
+use Rattle.std.proofs.Common.{◌≡◌, ℕ, Bool, true, false, cond, nat_eq, List, [], ◌∷◌, Option, Some, None, Ok, refl, sym, ◌∙◌, count_by}
 use Rattle.std.specs.List.{find, list_any}
-use Rattle.std.proofs.lemmas.List.Sums.{sum_by-cons}
 use Rattle.c_types.specs.declared.types.IntType.TheVariants as i
 use Rattle.c_types.specs.Types.{PlainType, Void, Int}
-use Rattle.c_tree.specs.declared.word.Keyword.{Keyword}
 use Rattle.c_tree.specs.declared.tree.Spec.{Spec}
 use Rattle.c_tree.specs.declared.tree.Spec.TheVariants as s
 use Rattle.c_tree.specs.declared.tree.TagKind.{TagKind}
@@ -14,7 +11,7 @@ use Rattle.c_tree.specs.Tree.{Tree, Trees, ◌▹◌}
 use Rattle.c_tree.specs.View.{spec_tree, tag_tree}
 use Rattle.c_tree.specs.StatementView.{trees}
 use Rattle.c_decls.specs.Refusals.{Checked}
-use Rattle.c_decls.specs.TypeNames.{Context, many, has, is_void_word, is_char, is_short, is_long, is_signed_word, is_unsigned_word, word_type, special_type, specs_type}
+use Rattle.c_decls.specs.TypeNames.{Context, is_void_word, is_char, is_short, is_long, is_signed_word, is_unsigned_word, word_type, special_type, specs_type}
 use Rattle.c_typing.specs.SpecWords.{is_special, keyword, passes}
 use Rattle.c_typing.specs.declared.words.Words.{Words}
 use Rattle.c_typing.specs.WordCounts.{words_type}

@@ -1,7 +1,7 @@
 -- The parts of the walk over expressions.
-use Rattle.std.proofs.Common.{◌≡◌, ℕ, Bool, true, false, true≢false, List, [], ◌∷◌, ◌++◌, map, reverse, Result, Option, Some, None, Ok, Err, Box, Vec, Global, refl, sym, ap, subst, ◌∙◌}
+use Rattle.std.proofs.Common.{◌≡◌, ℕ, Bool, true, false, true≢false, List, ◌∷◌, ◌++◌, map, reverse, Result, Option, Some, None, Ok, Err, Box, Vec, Global, refl, sym, ap, subst, ◌∙◌}
 use Rattle.std.proofs.lemmas.List.{reverse-append}
-use Rattle.c_types.specs.Types.{PlainType, PlainTypes, none as no_types, first, plain, plain_list}
+use Rattle.c_types.specs.Types.{PlainType, PlainTypes, first, plain, plain_list}
 use Rattle.c_types.specs.declared.types.CType.{CType}
 use Rattle.c_tree.specs.declared.operator.AssignOp.{AssignOp}
 use Rattle.c_tree.specs.declared.operator.AssignOp.TheVariants as a

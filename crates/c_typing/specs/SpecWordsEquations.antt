@@ -9,7 +9,7 @@ use Rattle.c_tree.specs.declared.tree.Spec.{Spec}
 use Rattle.c_tree.specs.declared.tree.Spec.TheVariants as s
 use Rattle.c_tree.specs.declared.tree.TagKind.{TagKind}
 use Rattle.c_tree.specs.declared.tree.TagKind.TheVariants as t
-use Rattle.c_tree.specs.Tree.{Tree, Trees, ◌▹◌}
+use Rattle.c_tree.specs.Tree.{Trees, ◌▹◌}
 use Rattle.c_tree.specs.View.{spec_tree, tag_tree}
 use Rattle.c_tree.specs.StatementView.{trees}
 use Rattle.c_decls.specs.TypeNames.{many, has}

@@ -1,10 +1,10 @@
 -- Sums over lists, and over the numbers below one.
 use Rattle.std.proofs.Common.{◌≡◌, ◌<◌, ◌≤◌, ◌+◌, ◌*◌, ◌-◌, ◌⊎◌, inl, inr, ℕ, zero, suc, Bool, true, false, cond, List, [], ◌∷◌, length, get_or, take, refl, sym, ap, ◌∙◌, arith}
-use Rattle.std.specs.Prelude.{AllPairs, Contains, IsTrue, map, nat_eq, sum, ◌≢◌, ◌↔◌}
-use Rattle.std.specs.List.{sum_by, count_by, flat_map, enumerate_from, range_with_len}
+use Rattle.std.specs.Prelude.{AllPairs, Contains, IsTrue, nat_eq, sum, ◌≢◌, ◌↔◌}
+use Rattle.std.specs.List.{sum_by, count_by, enumerate_from, range_with_len}
 use Rattle.std.proofs.lemmas.Bool.{cases_Bool, cases_eq, cases_lt, cond-true, cond-false, ne_eqb, eq-eqb}
 use Rattle.std.proofs.Math.Seq.{take-length}
-use Rattle.std.proofs.lemmas.List.Sums.{sum_by-cons, sum_by-append, sum_by_more}
+use Rattle.std.proofs.lemmas.List.Sums.{sum_by-cons, sum_by_more}
 
 -- 1 or 0
 abbrev pub one_if : Bool → ℕ

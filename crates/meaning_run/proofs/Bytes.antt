@@ -2,7 +2,7 @@
 use Rattle.std.proofs.Common.{◌≡◌, ℕ, List, [], ◌∷◌, ◌++◌, map, Option, Some, Result, Ok, Err, refl, sym, ap, ◌∙◌}
 use Rattle.std.proofs.lemmas.List.{append-nil, map-append}
 use Rattle.hs_base.specs.State.{State}
-use Rattle.hs_base.specs.Trace.{Out, bytes_out, bytes_in}
+use Rattle.hs_base.specs.Trace.{Out}
 use Rattle.hs_base.specs.Runs as runs
 use Rattle.object_meaning.specs.objects.Going.{Next}
 use Rattle.object_meaning.specs.objects.Builtins.{get_byte}

@@ -1,5 +1,5 @@
 -- Parts behind parts: their trees and how deep they are.
-use Rattle.std.proofs.Common.{◌≡◌, ℕ, ◌+◌, List, [], ◌∷◌, ◌++◌, max, refl, ap, sym, ◌∙◌, arith}
+use Rattle.std.proofs.Common.{◌≡◌, ℕ, ◌+◌, List, [], ◌∷◌, max, refl, sym, ◌∙◌, arith}
 use Rattle.c_tree.specs.Tree.{Tree, Trees, Leaf, none, ◌▹◌}
 use Rattle.c_tree.specs.Depth.{depth, layers, layers_all, below, greatest_depth, greatest_below}
 use Rattle.c_tree.specs.Forms as f
@@ -8,7 +8,6 @@ use Rattle.std.specs.Prelude.{is_some}
 use Rattle.c_tree.specs.Tree.{At, Node}
 use Rattle.c_tree.specs.StatementView.{trees}
 use Rattle.c_tree.specs.View.{literal_leaves}
-use Rattle.c_tree.specs.Words as w
 use Rattle.grammar_reading.specs.Reading.{snoc}
 
 pub depth_behind : (parts : Trees) (last : Tree) → greatest_depth (snoc parts last) ≡ max (greatest_depth parts) (depth last)

@@ -1,6 +1,6 @@
 -- A list with another in place of as many items.
 use Rattle.std.proofs.Common.{◌≡◌, ◌<◌, ◌≤◌, ◌+◌, ◌-◌, ℕ, suc, List, [], ◌∷◌, ◌++◌, length, length-append, length-take, length-drop, append_assoc, get_or, get_or-take, get_or-drop, take, drop, set, replicate, refl, sym, ap, ◌∙◌, arith}
-use Rattle.std.proofs.lemmas.List.{append-nil, drop_more, ext_get_or, get_or_append_left, get_or-append-add, get_or-replicate, length-replicate, length_push, replicate_more, set_at, take_more, take-append-drop}
+use Rattle.std.proofs.lemmas.List.{drop_more, ext_get_or, get_or-replicate, length-replicate, length_push, replicate_more, set_at, take_more}
 use Rattle.hs_base.specs.Access.{little_endian, overlaid}
 use Rattle.byte_memory.specs.Bytes.{part, put_word, word}
 use Rattle.byte_memory.specs.BytesEquations.{stored_byte, part_len, part_before_new}

@@ -1,6 +1,5 @@
 -- The words in the slots of an object.
 use Rattle.std.proofs.Common.{◌≡◌, ◌<◌, ◌≤◌, ◌+◌, ℕ, List, length, length-take, length-drop, get_or, get_or-take, get_or-drop, drop, ◌∙◌, arith}
-use Rattle.std.proofs.lemmas.List.{get_or-map, length-map}
 use Rattle.c_types.specs.Layouts.{AreSlots}
 use Rattle.byte_memory.specs.Bytes.{word}
 use Rattle.adjusters.specs.ObjectSlots.{Element, object_slots}

@@ -1,7 +1,6 @@
 -- What an answer of some steps says of each.
 use Rattle.std.proofs.Common.{◌≡◌, Bool, true, false, inl, inr, ◌⊎◌, Option, Some, None, refl}
 use Rattle.std.specs.Prelude.{if◌then◌else◌}
-use Rattle.grammar_reading.specs.Reading.{◌>>=◌}
 use Rattle.grammar_reading.specs.ReadingEquations.{none_some}
 
 -- a test that must hold

@@ -1,13 +1,12 @@
 -- Pointers inside objects: how many there are once some objects change or die, and how many holders that is.
-use Rattle.std.proofs.Common.{◌≡◌, ℕ, zero, suc, ◌+◌, Bool, true, false, cond, ◌||◌, nat_eq, List, [], ◌∷◌, ◌++◌, length, map, get_or, refl, sym, ap, ◌∙◌, subst, arith}
-use Rattle.std.specs.Prelude.{filter, replicate}
+use Rattle.std.proofs.Common.{◌≡◌, ℕ, ◌+◌, Bool, true, false, cond, ◌||◌, nat_eq, List, [], ◌∷◌, ◌++◌, length, map, get_or, refl, sym, ap, ◌∙◌, subst, arith}
+use Rattle.std.specs.Prelude.{filter}
 use Rattle.std.specs.List.{sum_by, enumerate_from}
 use Rattle.std.proofs.lemmas.Bool.{eq-eqb, true≢false, or_left, or_right}
-use Rattle.std.proofs.lemmas.List.{get_or-set_same, get_or-set_other, length-map}
-use Rattle.std.proofs.lemmas.List.Sums.{sum_by-cons, sum_by-set, sum_by-append}
+use Rattle.std.proofs.lemmas.List.{get_or-set_other, length-map}
+use Rattle.std.proofs.lemmas.List.Sums.{sum_by-cons}
 use Rattle.hs_base.specs.declared.ends.Holder.{Holder}
 use Rattle.hs_base.specs.declared.values.Pointer.{Pointer}
-use Rattle.hs_base.specs.declared.values.Pointer.TheVariants as pointer
 use Rattle.hs_base.specs.Access.{with_object}
 use Rattle.hs_base.specs.Freeing.{is_pointer_to, pointers_to, pointers_inside, objects_of, queued, buried, buried_standing, ended}
 use Rattle.hs_base.specs.Object.{Object, Standing, Live, Queued, Dead, is_dead, is_queued, no_object, object_at}
@@ -15,7 +14,6 @@ use Rattle.core_tree.specs.declared.program.Mem.{Mem}
 use Rattle.object_meaning.specs.objects.Making.{local_object, local_objects}
 use Rattle.object_meaning.specs.objects.Holding.{is_among, inside_one, counted_inside, inside_objects}
 use Rattle.meaning_laws.specs.objects.Good.{Alive, Sane}
-use Rattle.meaning_laws.specs.objects.GoodEquations.{is_within}
 use Rattle.meaning_laws.specs.counted.Counts.{living, inside_living}
 use Rattle.meaning_laws.proofs.counts.Weighing.{Once, weigh, weigh_same, weigh_both, sum_weigh, filter_weigh, flat_weigh, sum_among}
 use Rattle.meaning_laws.specs.counted.CountsEquations.{set_living, set_same, no_pointers, append_living}

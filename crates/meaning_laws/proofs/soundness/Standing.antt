@@ -33,9 +33,8 @@ use Rattle.object_meaning.specs.counted.Counting.{renumbered}
 use Rattle.object_meaning.specs.code.CodeState.{CodeState, Next, kept, same_numbers, other_numbers}
 use Rattle.object_meaning.specs.code.Entering.{with_step}
 use Rattle.object_meaning.specs.code.Checking.{enter}
-use Rattle.meaning_laws.specs.counted.CountsEquations.{append_living, no_pointers, Renumbers, heap_living}
+use Rattle.meaning_laws.specs.counted.CountsEquations.{Renumbers, heap_living}
 use Rattle.meaning_laws.specs.counted.TouchedEquations.{OnDone, SamePointers, Changes}
-use Rattle.meaning_laws.specs.counted.Counts.{living, inside_living}
 use Rattle.meaning_laws.specs.code.Objects.{IsPointer, IsOfSort, IsOperand, IsByte, AreObjects, IsQueue}
 use Rattle.meaning_laws.specs.code.Counts.{AreCounts}
 use Rattle.meaning_laws.specs.code.Good.{IsNeeded, IsGood}

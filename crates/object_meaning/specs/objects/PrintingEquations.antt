@@ -1,5 +1,5 @@
 -- Printing, piece by piece. Equations, proved from `Printing`.
-use Rattle.std.proofs.Common.{◌≡◌, ℕ, suc, ◌+◌, ◌<◌, ◌≤◌, List, [], ◌∷◌, ◌++◌, Result, Ok, Err, Some, None, length, drop, get_or, refl, sym, ap, ◌∙◌, append_assoc, append-nil, add-one, add-zero, pos, drop_of_length-le}
+use Rattle.std.proofs.Common.{◌≡◌, ℕ, suc, ◌+◌, ◌<◌, ◌≤◌, List, [], ◌∷◌, ◌++◌, Ok, Err, Some, None, length, drop, get_or, refl, sym, ap, ◌∙◌, append_assoc, append-nil, add-one, add-zero, pos, drop_of_length-le}
 use Rattle.std.proofs.lemmas.List.{get_or-drop}
 use Rattle.std.proofs.Math.Seq.{drop-cons}
 use Rattle.hs_base.specs.declared.values.Value.{Value}
