@@ -7,10 +7,10 @@ use Rattle.core_soundness.proofs.Words.Types.{layout_of, number_layout, pointer_
 use Rattle.core_soundness.proofs.Words.Core.{low_bits, block_size, IsStatic, Core, Start}
 use Rattle.core_soundness.proofs.Words.Elaborating.{addressed_in, Code, Context, asked, Variable, first_context, Found, Fixed, Unknown, Nowhere, Inside, valued, size_or_zero, Storage, Typedef, storage_of, specs_before, declared_function, no_initializer, variable_number_of, with_new_variable, with_variable, start_of, start_in, started_variable, fill_variable, file_object, file_function, file_name, name_in, entry, entries, declaration, layers, walked, elaborated, found, begun, external, externals, Target, InRegister, InMemory, InStatic, bytes_of, static_integer, static_address, static_pointer, static_scalar, fill_scalar, scalar, whole, fill_text, is_character, text, by_text, by_expression, parts_of, takes_braces, is_scalar_type, all_surplus, initialize, initialize_parts, no_start, with_init_layers, is_twice_in, declared_as, reallocates, opened, core_of, with_static}
 use Rattle.core_soundness.proofs.Words.Facts.{HasLayouts, Solid, TableFits, Whole, Written, AllWritten, AreWritten}
-use Rattle.c_types.proofs.MemberLemmas.{some_array, Extends, layout_stays}
+use Rattle.c_types.specs.TagTableEquations.{some_array, Extends, layout_stays}
 use Rattle.c_types.specs.declared.types.IntType.TheVariants as i
 use Rattle.c_tree.specs.Forms as f
-use Rattle.c_decls.proofs.SameTypes.{same_equal}
+use Rattle.c_decls.specs.TypedEquations.{same_equal}
 use Rattle.c_decls.specs.BuiltIns as names
 use Rattle.c_decls.specs.Named as n
 use Rattle.core_soundness.proofs.Agreeing.{valued_agrees, found_agrees, came}

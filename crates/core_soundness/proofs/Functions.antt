@@ -1,5 +1,6 @@
 -- Each function of a core is sound, and so is the core.
 use Rattle.std.proofs.Common.{◌≡◌, Ok}
+use Rattle.c_lexer.specs.Cutting.{ConstantsFit}
 use Rattle.core_soundness.proofs.Words.Trees.{Trees}
 use Rattle.core_soundness.proofs.Words.Types.{TagTable}
 use Rattle.core_soundness.proofs.Words.Core.{EachFunc, IsFunction, IsSound, Core}
@@ -33,9 +34,9 @@ functions_sound unit core tags made q f func e =
       elements = ranges.elements;
     }
 
-pub cores_sound : (unit : Trees) (core : Core) (tags : TagTable) → IsOfTexts unit → elaborated unit ≡ Ok (core, tags) → IsSound core
-cores_sound unit core tags of q =
-    let made = made_all of.0 of.1 unit of.2 in
+pub cores_sound : ConstantsFit → (unit : Trees) (core : Core) (tags : TagTable) → IsOfTexts unit → elaborated unit ≡ Ok (core, tags) → IsSound core
+cores_sound fit unit core tags of q =
+    let made = made_all fit of.0 of.1 unit of.2 in
     let sizes = core_sizes unit core tags q in
     let lists = core_short unit core tags (made_weighed of.0 of.1 unit of.2 of.3) of.3.short q in
     record {

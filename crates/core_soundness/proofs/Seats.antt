@@ -8,9 +8,10 @@ use Rattle.core_soundness.proofs.Words.Types.{Placed, none_placed, offset_after,
 use Rattle.core_soundness.proofs.Words.Core.{Start}
 use Rattle.core_soundness.proofs.Words.Elaborating.{Context, size_or_zero, bytes_of, with_bytes, with_pointer, without_zeros, trimmed, elements, struct_parts, parts_of}
 use Rattle.core_soundness.proofs.Words.Facts.{Solid, AreMade, MembersWhole}
-use Rattle.c_types.proofs.MemberLemmas.{Extends, some_array}
-use Rattle.c_types.proofs.Places.{stays_known}
-use Rattle.c_types.proofs.Sound.{rounded_le, layout_sound, member_sound, known_sound}
+use Rattle.c_types.specs.TagTableEquations.{Extends, some_array}
+use Rattle.c_types.specs.TagTableEquations.{stays_known}
+use Rattle.c_types.specs.LayoutsEquations.{rounded_le}
+use Rattle.c_types.proofs.Sound.{layout_sound, member_sound, known_sound}
 use Rattle.c_types.specs.Layouts.{place}
 use Rattle.core_soundness.proofs.Ranged.{members_same, learnt, rest_placed, fold_rest}
 use Rattle.core_soundness.proofs.WholeTypes.{members_stay, learn_extends, placed_far}
