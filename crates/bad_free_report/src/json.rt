@@ -96,7 +96,8 @@ fn put_char<E: Sink>(err: &mut E, c: char) -> Result<(), Failed>
 /// Writes the characters of a string.
 fn put_chars<E: Sink>(err: &mut E, text: &[u8]) -> Result<(), Failed>
     requires { E.faults err.old + 1 < 2 ^ 64 }
-    ensures bytes { PutsAll (E.taken err.old) (E.taken err.new) (flat_map escaped (lossy_chars text.now)) result }
+    ensures bytes { PutsAll (E.taken err.old) (E.taken err.new)
+        (flat_map escaped (lossy_chars text.now)) result }
     ensures cause { CountsFaults (E.faults err.old) (E.faults err.new) result }
 {
     let mut chars = text.chars();
@@ -140,7 +141,8 @@ fn put_piece<E: Sink>(err: &mut E, piece: Piece<'_>) -> Result<(), Failed>
 /// their bytes was taken.
 pub(crate) fn put_pieces<E: Sink>(err: &mut E, pieces: &[Piece<'_>]) -> Result<(), Failed>
     requires { E.faults err.old + 1 < 2 ^ 64 }
-    ensures bytes { PutsAll (E.taken err.old) (E.taken err.new) (flat_map piece_text pieces.now) result }
+    ensures bytes { PutsAll (E.taken err.old) (E.taken err.new)
+        (flat_map piece_text pieces.now) result }
     ensures cause { CountsFaults (E.faults err.old) (E.faults err.new) result }
 {
     for piece in pieces {

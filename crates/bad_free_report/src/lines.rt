@@ -176,7 +176,8 @@ fn put_refusal_at<'a, E: Sink>(
 /// Writes the line of a refusal, and below it the line of the text, if it is at one.
 pub(crate) fn put_refusal_lines<E: Sink>(err: &mut E, refused: &Refused<'_>) -> Result<(), Failed>
     requires { E.faults err.old + 1 < 2 ^ 64 }
-    ensures bytes { PutsAll (E.taken err.old) (E.taken err.new) (lines (refused_of refused.now)) result }
+    ensures bytes { PutsAll (E.taken err.old) (E.taken err.new)
+        (lines (refused_of refused.now)) result }
     ensures cause { CountsFaults (E.faults err.old) (E.faults err.new) result }
 {
     let name = name_of(refused.file);

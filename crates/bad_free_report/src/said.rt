@@ -20,7 +20,8 @@ use hs_base::{Failed, Leak, Sink, put_all};
 /// Writes what an object says happened, and where, up to its first holder.
 fn put_before<E: Sink>(err: &mut E, facts: &Facts<'_>) -> Result<(), Failed>
     requires { E.faults err.old + 1 < 2 ^ 64 }
-    ensures bytes { PutsAll (E.taken err.old) (E.taken err.new) (members_before (told_facts facts.now)) result }
+    ensures bytes { PutsAll (E.taken err.old) (E.taken err.new)
+        (members_before (told_facts facts.now)) result }
     ensures cause { CountsFaults (E.faults err.old) (E.faults err.new) result }
 {
     let word = text_or_null(facts.word);
@@ -52,7 +53,8 @@ fn put_before<E: Sink>(err: &mut E, facts: &Facts<'_>) -> Result<(), Failed>
 /// Writes the first holder, up to what to mend.
 fn put_place<E: Sink>(err: &mut E, place: Option<Place<'_>>) -> Result<(), Failed>
     requires { E.faults err.old + 1 < 2 ^ 64 }
-    ensures bytes { PutsAll (E.taken err.old) (E.taken err.new) (place_text (option_map told_place place.entry)) result }
+    ensures bytes { PutsAll (E.taken err.old) (E.taken err.new)
+        (place_text (option_map told_place place.entry)) result }
     ensures cause { CountsFaults (E.faults err.old) (E.faults err.new) result }
 {
     let Some(place) = place else {
@@ -83,7 +85,8 @@ fn put_place<E: Sink>(err: &mut E, place: Option<Place<'_>>) -> Result<(), Faile
 /// Writes what to mend, up to the limit.
 fn put_help<E: Sink>(err: &mut E, help: Option<&[u8]>) -> Result<(), Failed>
     requires { E.faults err.old + 1 < 2 ^ 64 }
-    ensures bytes { PutsAll (E.taken err.old) (E.taken err.new) (help_text (option_copied help.entry)) result }
+    ensures bytes { PutsAll (E.taken err.old) (E.taken err.new)
+        (help_text (option_copied help.entry)) result }
     ensures cause { CountsFaults (E.faults err.old) (E.faults err.new) result }
 {
     let help = text_or_null(help);
@@ -93,7 +96,8 @@ fn put_help<E: Sink>(err: &mut E, help: Option<&[u8]>) -> Result<(), Failed>
 /// Writes the limit, up to the leaks.
 fn put_limit<E: Sink>(err: &mut E, limit: Option<Limit>) -> Result<(), Failed>
     requires { E.faults err.old + 1 < 2 ^ 64 }
-    ensures bytes { PutsAll (E.taken err.old) (E.taken err.new) (limit_text (option_map told_limit limit)) result }
+    ensures bytes { PutsAll (E.taken err.old) (E.taken err.new)
+        (limit_text (option_map told_limit limit)) result }
     ensures cause { CountsFaults (E.faults err.old) (E.faults err.new) result }
 {
     let Some(limit) = limit else {
@@ -116,7 +120,8 @@ fn put_limit<E: Sink>(err: &mut E, limit: Option<Limit>) -> Result<(), Failed>
 /// Writes an object up to its leaks.
 fn put_front<E: Sink>(err: &mut E, facts: &Facts<'_>) -> Result<(), Failed>
     requires { E.faults err.old + 1 < 2 ^ 64 }
-    ensures bytes { PutsAll (E.taken err.old) (E.taken err.new) (front (told_facts facts.now)) result }
+    ensures bytes { PutsAll (E.taken err.old) (E.taken err.new)
+        (front (told_facts facts.now)) result }
     ensures cause { CountsFaults (E.faults err.old) (E.faults err.new) result }
 {
     put_before(err, facts)?;
@@ -128,7 +133,8 @@ fn put_front<E: Sink>(err: &mut E, facts: &Facts<'_>) -> Result<(), Failed>
 /// Writes the object of a refusal.
 fn put_refusal_object<E: Sink>(err: &mut E, refused: &Refused<'_>) -> Result<(), Failed>
     requires { E.faults err.old + 1 < 2 ^ 64 }
-    ensures bytes { PutsAll (E.taken err.old) (E.taken err.new) (as_object (refused_of refused.now)) result }
+    ensures bytes { PutsAll (E.taken err.old) (E.taken err.new)
+        (as_object (refused_of refused.now)) result }
     ensures cause { CountsFaults (E.faults err.old) (E.faults err.new) result }
 {
     put_front(err, &refusal_facts(refused))?;
@@ -139,7 +145,8 @@ fn put_refusal_object<E: Sink>(err: &mut E, refused: &Refused<'_>) -> Result<(),
 /// a failure, which is the last call on the sink, a prefix was taken.
 pub fn say_refused<E: Sink>(err: &mut E, form: Form, refused: &Refused<'_>) -> Result<(), Failed>
     requires { E.faults err.old + 1 < 2 ^ 64 }
-    ensures bytes { PutsAll (E.taken err.old) (E.taken err.new) (said form (refused_of refused.now)) result }
+    ensures bytes { PutsAll (E.taken err.old) (E.taken err.new)
+        (said form (refused_of refused.now)) result }
     ensures cause { CountsFaults (E.faults err.old) (E.faults err.new) result }
 {
     match form {
@@ -151,7 +158,8 @@ pub fn say_refused<E: Sink>(err: &mut E, form: Form, refused: &Refused<'_>) -> R
 /// Writes the report of an end, and behind it what explains it, where its limits are given.
 fn put_end_lines<E: Sink>(err: &mut E, ending: &Ending<'_>) -> Result<(), Failed>
     requires { E.faults err.old + 1 < 2 ^ 64 }
-    ensures bytes { PutsAll (E.taken err.old) (E.taken err.new) (end_lines (ending_of ending.now)) result }
+    ensures bytes { PutsAll (E.taken err.old) (E.taken err.new)
+        (end_lines (ending_of ending.now)) result }
     ensures cause { CountsFaults (E.faults err.old) (E.faults err.new) result }
 {
     report(&ending.how, ending.core, ending.name, ending.text, err)?;
@@ -166,7 +174,8 @@ pub fn say_before_leaks<E: Sink>(
     status: u8,
 ) -> Result<(), Failed>
     requires { E.faults err.old + 1 < 2 ^ 64 }
-    ensures bytes { PutsAll (E.taken err.old) (E.taken err.new) (before_leaks form (ending_of ending.now) status) result }
+    ensures bytes { PutsAll (E.taken err.old) (E.taken err.new)
+        (before_leaks form (ending_of ending.now) status) result }
     ensures cause { CountsFaults (E.faults err.old) (E.faults err.new) result }
 {
     match form {
@@ -185,7 +194,8 @@ fn comma_if(later: bool) -> &'static [u8]
 /// Writes the object of a leak.
 fn put_leak<E: Sink>(err: &mut E, later: bool, leak: &Leak) -> Result<(), Failed>
     requires { E.faults err.old + 1 < 2 ^ 64 }
-    ensures bytes { PutsAll (E.taken err.old) (E.taken err.new) (leak_said Form.Json later leak.now) result }
+    ensures bytes { PutsAll (E.taken err.old) (E.taken err.new)
+        (leak_said Form.Json later leak.now) result }
     ensures cause { CountsFaults (E.faults err.old) (E.faults err.new) result }
 {
     put_pieces(
@@ -207,7 +217,8 @@ fn put_leak<E: Sink>(err: &mut E, later: bool, leak: &Leak) -> Result<(), Failed
 /// taken.
 pub fn say_leak<E: Sink>(err: &mut E, form: Form, later: bool, leak: &Leak) -> Result<(), Failed>
     requires { E.faults err.old + 1 < 2 ^ 64 }
-    ensures bytes { PutsAll (E.taken err.old) (E.taken err.new) (leak_said form later leak.now) result }
+    ensures bytes { PutsAll (E.taken err.old) (E.taken err.new)
+        (leak_said form later leak.now) result }
     ensures cause { CountsFaults (E.faults err.old) (E.faults err.new) result }
 {
     match form {
@@ -236,7 +247,8 @@ pub fn say_ended<E: Sink>(
     status: u8,
 ) -> Result<(), Failed>
     requires { E.faults err.old + 1 < 2 ^ 64 }
-    ensures bytes { PutsAll (E.taken err.old) (E.taken err.new) (said form (Ended (ending_of ending.now) [] status)) result }
+    ensures bytes { PutsAll (E.taken err.old) (E.taken err.new)
+        (said form (Ended (ending_of ending.now) [] status)) result }
     ensures cause { CountsFaults (E.faults err.old) (E.faults err.new) result }
 {
     say_before_leaks(err, form, ending, status)?;
