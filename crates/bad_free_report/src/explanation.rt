@@ -124,7 +124,7 @@ fn put_out_of_stack<E: Sink>(err: &mut E, limits: InForce) -> Result<(), Failed>
 /// spaces. One says what to mend, and behind a want of stack and the end of the steps another the limit that was in force and
 /// the option that raises it. Of an exit nothing is written, nor where the input or the output failed. After a failure, which is
 /// the last call on the sink, a prefix was taken.
-pub fn explain<E: Sink>(end: &End, asked: Option<InForce>, err: &mut E) -> Result<(), Failed>
+pub(crate) fn explain<E: Sink>(end: &End, asked: Option<InForce>, err: &mut E) -> Result<(), Failed>
     requires { E.faults err.old + 1 < 2 ^ 64 }
     ensures bytes { PutsAll (E.taken err.old) (E.taken err.new) (explanation end.now asked) result }
     ensures cause { CountsFaults (E.faults err.old) (E.faults err.new) result }

@@ -2,8 +2,7 @@
 //!
 //! [`say_refused`] says what a refusal or a failure is, and [`say_ended`] how a program ended; where leaks are told of,
 //! [`say_before_leaks`], [`say_leak`] and [`say_behind_leaks`] say the same in parts. Each says it in one of two forms: by lines, as
-//! a report with the source line that it names, or in their place by one object of JSON. [`complain`], [`complain_at`], [`report`],
-//! [`explain`] and [`leak_line`] write lines alone. All write to any sink, take no memory,
+//! a report with the source line that it names, or in their place by one object of JSON. All write to any sink, take no memory,
 //! refuse nothing, and fail only where the sink fails: what it took is then a prefix of what was to be written, and no further call
 //! is made. `specs/Notice.antt` says what is said in each form, by `specs/Report.antt` and `specs/Explanation.antt` for lines and
 //! by `specs/Json.antt` for the object.
@@ -22,12 +21,9 @@ mod parts;
 mod said;
 mod words;
 
-pub use ends::report;
-pub use explanation::{InForce, explain};
+pub use explanation::InForce;
 pub use facts::{Ending, Refused, Spot};
 pub use form::Form;
-pub use leaks::leak_line;
-pub use lines::{complain, complain_at, complain_labelled};
 pub use said::{
     ends_are_said_in_parts, say_before_leaks, say_behind_leaks, say_ended, say_leak, say_refused,
 };

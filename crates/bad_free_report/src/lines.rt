@@ -40,7 +40,7 @@ fn put_source_line<E: Sink>(err: &mut E, line: Line, text: &[u8]) -> Result<(), 
 }
 
 /// Writes `NAME: WORDS` and a line feed. After a failure, which is the last call on the sink, a prefix was taken.
-pub fn complain<E: Sink>(err: &mut E, name: &[u8], words: &[u8]) -> Result<(), Failed>
+pub(crate) fn complain<E: Sink>(err: &mut E, name: &[u8], words: &[u8]) -> Result<(), Failed>
     requires { E.faults err.old + 1 < 2 ^ 64 }
     ensures bytes { PutsAll (E.taken err.old) (E.taken err.new) (complaint name.now words.now) result }
     ensures cause { CountsFaults (E.faults err.old) (E.faults err.new) result }
@@ -66,7 +66,7 @@ fn put_heading<'a, E: Sink>(
 }
 
 /// What [`complain_at`] does, with words that begin with a label, as `trap: `.
-pub fn complain_labelled<E: Sink>(
+pub(crate) fn complain_labelled<E: Sink>(
     err: &mut E,
     name: &[u8],
     line: Line,
@@ -86,7 +86,7 @@ pub fn complain_labelled<E: Sink>(
 /// The line is shown without the bytes that end it (byte 10 and a byte 13 before it) and cut after 200 bytes; where the
 /// text has no byte there, nothing is written below. After a failure, which is the last call on the sink, a prefix was
 /// taken.
-pub fn complain_at<E: Sink>(
+pub(crate) fn complain_at<E: Sink>(
     err: &mut E,
     name: &[u8],
     line: Line,
