@@ -13,6 +13,7 @@ pub mod Canonical
 pub mod Reread
 pub mod View
 pub mod StatementView
+pub mod Made
 pub mod ViewEquations
 pub mod StatementViewEquations
 pub mod Renaming

@@ -3,11 +3,12 @@
 
 ghost use Rattle.std.specs.Prelude.{◌≡◌, IfOk, IfSome, IsNone, option_map};
 ghost use Rattle.c_tree.specs.Forms as form;
-ghost use Rattle.c_tree.specs.Places.{SpecWord, Nowhere};
+ghost use Rattle.c_tree.specs.Places.{Nowhere};
 ghost use Rattle.c_tree.specs.Grammar.{keyword_home};
 ghost use Rattle.c_tree.specs.Tree.{At, Node, none, ◌▹◌};
-ghost use Rattle.c_tree.specs.View.{name_leaf, key_leaf, maybe_name, spec_tree, enumerator_tree, declarator_tree, base_tree};
-ghost use Rattle.c_tree.specs.StatementView.{trees, maybe, expr_view, tag_view, member_view, suffix_view, param_view};
+ghost use Rattle.c_tree.specs.View.{name_leaf, spec_tree, declarator_tree, base_tree};
+ghost use Rattle.c_tree.specs.StatementView.{maybe_value, maybe_length, tag_view, record_body_view, enum_body_view, suffix_view, function_suffix_view, pointer_view, parens_view, direct_view};
+ghost use Rattle.c_tree.specs.Made.{IsSpecWord, MakesNode, MakesEnumerator};
 
 use crate::operator::RecordSort;
 use crate::tree::{
@@ -30,7 +31,7 @@ fn boxed(alloc: Global, value: Option<Expr>) -> Result<Option<Box<Expr>>, NoMemo
 impl Spec {
     /// The word of specs that a keyword is, or `None` where it is none.
     pub fn of_keyword(keyword: Keyword) -> Option<Spec>
-        ensures some { IfSome result (λ spec. (spec_tree spec ≡ key_leaf keyword) × (keyword_home keyword ≡ SpecWord)) }
+        ensures some { IfSome result (IsSpecWord keyword) }
         ensures none { IsNone result → keyword_home keyword ≡ Nowhere }
     {
         match keyword {
@@ -98,8 +99,7 @@ impl Tag {
         name: Option<Items<u8>>,
         members: Vec<Member>,
     ) -> Tag
-        ensures { tag_view result ≡
-            Node (form.RecordBody sort) (At line ▹ maybe_name name ▹ Node form.Members (trees member_view members.items) ▹ none) }
+        ensures { tag_view result ≡ record_body_view line sort name members.items }
     {
         Tag {
             line,
@@ -125,9 +125,7 @@ impl Tag {
         enumerators: Vec<Enumerator>,
         trailing: bool,
     ) -> Tag
-        ensures { tag_view result ≡
-            Node (form.EnumBody trailing)
-            (At line ▹ maybe_name name ▹ Node form.Enumerators (trees enumerator_tree enumerators.items) ▹ none) }
+        ensures { tag_view result ≡ enum_body_view line name enumerators.items trailing }
     {
         Tag {
             line,
@@ -145,8 +143,7 @@ impl Enumerator {
         name: Items<u8>,
         value: Option<Expr>,
     ) -> Result<Enumerator, NoMemory>
-        ensures { IfOk result (λ e. enumerator_tree e ≡
-            Node form.Enumerator (At line ▹ name_leaf name ▹ maybe form.MaybeValue expr_view value ▹ none)) }
+        ensures { MakesEnumerator result line (name_leaf name ▹ maybe_value value ▹ none) }
     {
         Ok(Enumerator {
             line,
@@ -164,7 +161,7 @@ impl Declarator {
         consts: usize,
         target: Declarator,
     ) -> Result<Declarator, NoMemory>
-        ensures { IfOk result (λ d. declarator_tree d ≡ Node (form.Pointer consts) (At line ▹ declarator_tree target ▹ none)) }
+        ensures { IfOk result (λ d. declarator_tree d ≡ pointer_view line consts target) }
     {
         Ok(Declarator::Pointer(line, consts, Box::new(alloc, target)?))
     }
@@ -172,8 +169,7 @@ impl Declarator {
     /// What suffixes stand behind, and the suffixes.
     #[tactic(auto, using(crate::specs::ViewEquations::direct_tree))]
     pub fn direct(base: Base, suffixes: Vec<Suffix>) -> Declarator
-        ensures { declarator_tree result ≡
-            Node form.Direct (base_tree base ▹ Node form.Suffixes (trees suffix_view suffixes.items) ▹ none) }
+        ensures { declarator_tree result ≡ direct_view base suffixes.items }
     {
         Declarator::Direct(base, suffixes)
     }
@@ -196,7 +192,7 @@ impl Base {
 
     /// Parentheses around a declarator.
     pub fn parens(alloc: Global, line: Line, declarator: Declarator) -> Result<Base, NoMemory>
-        ensures { IfOk result (λ b. base_tree b ≡ Node form.Parens (At line ▹ declarator_tree declarator ▹ none)) }
+        ensures { IfOk result (λ b. base_tree b ≡ parens_view line declarator) }
     {
         Ok(Base::Parens(line, Box::new(alloc, declarator)?))
     }
@@ -206,8 +202,7 @@ impl Suffix {
     /// `[length]`, where the length may be left out.
     #[tactic(auto, using(crate::specs::ViewEquations::array_tree))]
     pub fn array(alloc: Global, line: Line, length: Option<Expr>) -> Result<Suffix, NoMemory>
-        ensures { IfOk result (λ s. suffix_view s ≡
-            Node form.ArraySuffix (At line ▹ maybe form.MaybeLength expr_view length ▹ none)) }
+        ensures { MakesNode suffix_view result line form.ArraySuffix (maybe_length length ▹ none) }
     {
         Ok(Suffix {
             line,
@@ -228,8 +223,7 @@ impl Suffix {
     /// `(params)`
     #[tactic(auto, using(crate::specs::ViewEquations::params_tree))]
     pub fn params(line: Line, params: Vec<Param>) -> Suffix
-        ensures { suffix_view result ≡
-            Node form.FunctionSuffix (At line ▹ Node form.Params (trees param_view params.items) ▹ none) }
+        ensures { suffix_view result ≡ function_suffix_view line params.items }
     {
         Suffix {
             line,

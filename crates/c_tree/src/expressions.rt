@@ -1,12 +1,13 @@
 //! Expressions, made of their parts.
 #![tactic(auto, unfolding(crate::specs::View::expr_tree))]
 
-ghost use Rattle.std.specs.Prelude.{◌≡◌, IfOk};
+ghost use Rattle.std.specs.Prelude.{◌≡◌};
 ghost use Rattle.c_tree.specs.Forms as form;
 ghost use Rattle.c_tree.specs.Tree.{Leaf, At, Node, none, ◌▹◌};
 ghost use Rattle.c_tree.specs.Words as word;
-ghost use Rattle.c_tree.specs.View.{name_leaf, literal_leaves};
-ghost use Rattle.c_tree.specs.StatementView.{trees, expr_view, typename_view};
+ghost use Rattle.c_tree.specs.View.{name_leaf};
+ghost use Rattle.c_tree.specs.StatementView.{strings_view, call_parts, expr_view, typename_view};
+ghost use Rattle.c_tree.specs.Made.{MakesExpr};
 
 use crate::operator::{AssignOp, BinaryOp, UnaryOp};
 use crate::tree::{Expr, ExprKind, TypeName};
@@ -46,7 +47,7 @@ impl Expr {
 
     /// String literals one behind another, by their spellings.
     pub fn str(line: Line, spellings: Items<Items<u8>>) -> Expr
-        ensures { expr_view result ≡ Node form.Str (At line ▹ Node form.Strings (literal_leaves spellings) ▹ none) }
+        ensures { expr_view result ≡ Node form.Str (At line ▹ strings_view spellings ▹ none) }
     {
         Expr {
             line,
@@ -56,7 +57,7 @@ impl Expr {
 
     /// `(inner)`
     pub fn paren(alloc: Global, line: Line, inner: Expr) -> Result<Expr, NoMemory>
-        ensures { IfOk result (λ e. expr_view e ≡ Node form.Paren (At line ▹ expr_view inner ▹ none)) }
+        ensures { MakesExpr result line form.Paren (expr_view inner ▹ none) }
     {
         Ok(Expr {
             line,
@@ -66,7 +67,7 @@ impl Expr {
 
     /// `array[index]`
     pub fn index(alloc: Global, line: Line, array: Expr, index: Expr) -> Result<Expr, NoMemory>
-        ensures { IfOk result (λ e. expr_view e ≡ Node form.Index (At line ▹ expr_view array ▹ expr_view index ▹ none)) }
+        ensures { MakesExpr result line form.Index (expr_view array ▹ expr_view index ▹ none) }
     {
         Ok(Expr {
             line,
@@ -82,7 +83,7 @@ impl Expr {
         callee: Expr,
         arguments: Vec<Expr>,
     ) -> Result<Expr, NoMemory>
-        ensures { IfOk result (λ e. expr_view e ≡ Node form.Call (At line ▹ expr_view callee ▹ Node form.Arguments (trees expr_view arguments.items) ▹ none)) }
+        ensures { MakesExpr result line form.Call (call_parts callee arguments.items) }
     {
         Ok(Expr {
             line,
@@ -92,7 +93,7 @@ impl Expr {
 
     /// `whole.name`
     pub fn dot(alloc: Global, line: Line, whole: Expr, name: Items<u8>) -> Result<Expr, NoMemory>
-        ensures { IfOk result (λ e. expr_view e ≡ Node form.Dot (At line ▹ expr_view whole ▹ name_leaf name ▹ none)) }
+        ensures { MakesExpr result line form.Dot (expr_view whole ▹ name_leaf name ▹ none) }
     {
         Ok(Expr {
             line,
@@ -107,7 +108,7 @@ impl Expr {
         pointer: Expr,
         name: Items<u8>,
     ) -> Result<Expr, NoMemory>
-        ensures { IfOk result (λ e. expr_view e ≡ Node form.Arrow (At line ▹ expr_view pointer ▹ name_leaf name ▹ none)) }
+        ensures { MakesExpr result line form.Arrow (expr_view pointer ▹ name_leaf name ▹ none) }
     {
         Ok(Expr {
             line,
@@ -117,7 +118,7 @@ impl Expr {
 
     /// `operand++`
     pub fn post_inc(alloc: Global, line: Line, operand: Expr) -> Result<Expr, NoMemory>
-        ensures { IfOk result (λ e. expr_view e ≡ Node form.PostInc (At line ▹ expr_view operand ▹ none)) }
+        ensures { MakesExpr result line form.PostInc (expr_view operand ▹ none) }
     {
         Ok(Expr {
             line,
@@ -127,7 +128,7 @@ impl Expr {
 
     /// `operand--`
     pub fn post_dec(alloc: Global, line: Line, operand: Expr) -> Result<Expr, NoMemory>
-        ensures { IfOk result (λ e. expr_view e ≡ Node form.PostDec (At line ▹ expr_view operand ▹ none)) }
+        ensures { MakesExpr result line form.PostDec (expr_view operand ▹ none) }
     {
         Ok(Expr {
             line,
@@ -137,7 +138,7 @@ impl Expr {
 
     /// `++operand`
     pub fn pre_inc(alloc: Global, line: Line, operand: Expr) -> Result<Expr, NoMemory>
-        ensures { IfOk result (λ e. expr_view e ≡ Node form.PreInc (At line ▹ expr_view operand ▹ none)) }
+        ensures { MakesExpr result line form.PreInc (expr_view operand ▹ none) }
     {
         Ok(Expr {
             line,
@@ -147,7 +148,7 @@ impl Expr {
 
     /// `--operand`
     pub fn pre_dec(alloc: Global, line: Line, operand: Expr) -> Result<Expr, NoMemory>
-        ensures { IfOk result (λ e. expr_view e ≡ Node form.PreDec (At line ▹ expr_view operand ▹ none)) }
+        ensures { MakesExpr result line form.PreDec (expr_view operand ▹ none) }
     {
         Ok(Expr {
             line,
@@ -157,7 +158,7 @@ impl Expr {
 
     /// `sizeof operand`
     pub fn sizeof_expr(alloc: Global, line: Line, operand: Expr) -> Result<Expr, NoMemory>
-        ensures { IfOk result (λ e. expr_view e ≡ Node form.SizeofExpr (At line ▹ expr_view operand ▹ none)) }
+        ensures { MakesExpr result line form.SizeofExpr (expr_view operand ▹ none) }
     {
         Ok(Expr {
             line,
@@ -167,7 +168,7 @@ impl Expr {
 
     /// An operator before its operand.
     pub fn unary(alloc: Global, line: Line, op: UnaryOp, operand: Expr) -> Result<Expr, NoMemory>
-        ensures { IfOk result (λ e. expr_view e ≡ Node (form.Unary op) (At line ▹ expr_view operand ▹ none)) }
+        ensures { MakesExpr result line (form.Unary op) (expr_view operand ▹ none) }
     {
         Ok(Expr {
             line,
@@ -178,7 +179,7 @@ impl Expr {
     /// `sizeof(typename)`
     #[tactic(auto, using(crate::specs::ViewEquations::sizeof_type_tree))]
     pub fn sizeof_type(alloc: Global, line: Line, typename: TypeName) -> Result<Expr, NoMemory>
-        ensures { IfOk result (λ e. expr_view e ≡ Node form.SizeofType (At line ▹ typename_view typename ▹ none)) }
+        ensures { MakesExpr result line form.SizeofType (typename_view typename ▹ none) }
     {
         Ok(Expr {
             line,
@@ -194,7 +195,7 @@ impl Expr {
         typename: TypeName,
         operand: Expr,
     ) -> Result<Expr, NoMemory>
-        ensures { IfOk result (λ e. expr_view e ≡ Node form.Cast (At line ▹ typename_view typename ▹ expr_view operand ▹ none)) }
+        ensures { MakesExpr result line form.Cast (typename_view typename ▹ expr_view operand ▹ none) }
     {
         Ok(Expr {
             line,
@@ -210,7 +211,7 @@ impl Expr {
         left: Expr,
         right: Expr,
     ) -> Result<Expr, NoMemory>
-        ensures { IfOk result (λ e. expr_view e ≡ Node (form.Binary op) (At line ▹ expr_view left ▹ expr_view right ▹ none)) }
+        ensures { MakesExpr result line (form.Binary op) (expr_view left ▹ expr_view right ▹ none) }
     {
         Ok(Expr {
             line,
@@ -226,7 +227,7 @@ impl Expr {
         yes: Expr,
         no: Expr,
     ) -> Result<Expr, NoMemory>
-        ensures { IfOk result (λ e. expr_view e ≡ Node form.Cond (At line ▹ expr_view test ▹ expr_view yes ▹ expr_view no ▹ none)) }
+        ensures { MakesExpr result line form.Cond (expr_view test ▹ expr_view yes ▹ expr_view no ▹ none) }
     {
         Ok(Expr {
             line,
@@ -246,7 +247,7 @@ impl Expr {
         left: Expr,
         right: Expr,
     ) -> Result<Expr, NoMemory>
-        ensures { IfOk result (λ e. expr_view e ≡ Node (form.Assign op) (At line ▹ expr_view left ▹ expr_view right ▹ none)) }
+        ensures { MakesExpr result line (form.Assign op) (expr_view left ▹ expr_view right ▹ none) }
     {
         Ok(Expr {
             line,
@@ -256,7 +257,7 @@ impl Expr {
 
     /// `left, right`
     pub fn comma(alloc: Global, line: Line, left: Expr, right: Expr) -> Result<Expr, NoMemory>
-        ensures { IfOk result (λ e. expr_view e ≡ Node form.Comma (At line ▹ expr_view left ▹ expr_view right ▹ none)) }
+        ensures { MakesExpr result line form.Comma (expr_view left ▹ expr_view right ▹ none) }
     {
         Ok(Expr {
             line,

@@ -4,8 +4,8 @@
 ghost use Rattle.std.specs.Prelude.{◌≡◌, IfOk, option_map, Option, Some, None};
 ghost use Rattle.c_tree.specs.Forms as form;
 ghost use Rattle.c_tree.specs.Tree.{At, Node, none, ◌▹◌};
-ghost use Rattle.c_tree.specs.View.{declarator_tree};
-ghost use Rattle.c_tree.specs.StatementView.{trees, expr_view, specs_view, init_view, names_view, maybe_expr, start_view, stmt_view, if_view, body_view, decl_view};
+ghost use Rattle.c_tree.specs.StatementView.{expr_view, init_view, init_list_view, declaration_parts, maybe_expr, stmt_view, items_view, branch_view, for_view, function_view, decl_view};
+ghost use Rattle.c_tree.specs.Made.{MakesStmt};
 
 use crate::statement::{Decl, ForStart, Init, InitKind, Stmt, StmtKind};
 use crate::tree::{Declarator, Expr, Specs};
@@ -26,8 +26,7 @@ impl Init {
     /// `{ inits }`, where a comma may stand behind the last one.
     #[tactic(auto, using(crate::specs::StatementViewEquations::init_list_tree))]
     pub fn list(line: Line, inits: Vec<Init>, trailing: bool) -> Init
-        ensures { init_view result ≡
-            Node (form.InitList trailing) (At line ▹ Node form.Inits (trees init_view inits.items) ▹ none) }
+        ensures { init_view result ≡ init_list_view line inits.items trailing }
     {
         Init {
             line,
@@ -70,7 +69,7 @@ impl Stmt {
     /// `{ items }`
     #[tactic(auto, using(crate::specs::StatementViewEquations::block_tree))]
     pub fn block(line: Line, items: Vec<Stmt>) -> Stmt
-        ensures { stmt_view result ≡ Node form.Block (At line ▹ Node form.Items (trees stmt_view items.items) ▹ none) }
+        ensures { stmt_view result ≡ Node form.Block (At line ▹ items_view items.items ▹ none) }
     {
         Stmt {
             line,
@@ -81,7 +80,7 @@ impl Stmt {
     /// `__delay_frees { items }`
     #[tactic(auto, using(crate::specs::StatementViewEquations::delay_tree))]
     pub fn delay(line: Line, items: Vec<Stmt>) -> Stmt
-        ensures { stmt_view result ≡ Node form.Delay (At line ▹ Node form.Items (trees stmt_view items.items) ▹ none) }
+        ensures { stmt_view result ≡ Node form.Delay (At line ▹ items_view items.items ▹ none) }
     {
         Stmt {
             line,
@@ -98,7 +97,7 @@ impl Stmt {
         body: Stmt,
         other: Option<Stmt>,
     ) -> Result<Stmt, NoMemory>
-        ensures { IfOk result (λ s. stmt_view s ≡ if_view line (expr_view test) (stmt_view body) (option_map stmt_view other)) }
+        ensures { IfOk result (λ s. stmt_view s ≡ branch_view line test body other) }
     {
         let body = Box::new(alloc, body)?;
         Ok(Stmt {
@@ -109,7 +108,7 @@ impl Stmt {
 
     /// `while (test) body`
     pub fn while_loop(alloc: Global, line: Line, test: Expr, body: Stmt) -> Result<Stmt, NoMemory>
-        ensures { IfOk result (λ s. stmt_view s ≡ Node form.While (At line ▹ expr_view test ▹ stmt_view body ▹ none)) }
+        ensures { MakesStmt result line form.While (expr_view test ▹ stmt_view body ▹ none) }
     {
         Ok(Stmt {
             line,
@@ -119,7 +118,7 @@ impl Stmt {
 
     /// `do body while (test);`
     pub fn do_loop(alloc: Global, line: Line, body: Stmt, test: Expr) -> Result<Stmt, NoMemory>
-        ensures { IfOk result (λ s. stmt_view s ≡ Node form.Do (At line ▹ stmt_view body ▹ expr_view test ▹ none)) }
+        ensures { MakesStmt result line form.Do (stmt_view body ▹ expr_view test ▹ none) }
     {
         Ok(Stmt {
             line,
@@ -136,8 +135,7 @@ impl Stmt {
         step: Option<Expr>,
         body: Stmt,
     ) -> Result<Stmt, NoMemory>
-        ensures { IfOk result (λ s. stmt_view s ≡
-            Node form.For (At line ▹ start_view start ▹ maybe_expr test ▹ maybe_expr step ▹ stmt_view body ▹ none)) }
+        ensures { IfOk result (λ s. stmt_view s ≡ for_view line start test step body) }
     {
         Ok(Stmt {
             line,
@@ -147,7 +145,7 @@ impl Stmt {
 
     /// `switch (value) body`
     pub fn switch(alloc: Global, line: Line, value: Expr, body: Stmt) -> Result<Stmt, NoMemory>
-        ensures { IfOk result (λ s. stmt_view s ≡ Node form.Switch (At line ▹ expr_view value ▹ stmt_view body ▹ none)) }
+        ensures { MakesStmt result line form.Switch (expr_view value ▹ stmt_view body ▹ none) }
     {
         Ok(Stmt {
             line,
@@ -157,7 +155,7 @@ impl Stmt {
 
     /// `case value: body`
     pub fn case(alloc: Global, line: Line, value: Expr, body: Stmt) -> Result<Stmt, NoMemory>
-        ensures { IfOk result (λ s. stmt_view s ≡ Node form.Case (At line ▹ expr_view value ▹ stmt_view body ▹ none)) }
+        ensures { MakesStmt result line form.Case (expr_view value ▹ stmt_view body ▹ none) }
     {
         Ok(Stmt {
             line,
@@ -167,7 +165,7 @@ impl Stmt {
 
     /// `default: body`
     pub fn default_case(alloc: Global, line: Line, body: Stmt) -> Result<Stmt, NoMemory>
-        ensures { IfOk result (λ s. stmt_view s ≡ Node form.Default (At line ▹ stmt_view body ▹ none)) }
+        ensures { MakesStmt result line form.Default (stmt_view body ▹ none) }
     {
         Ok(Stmt {
             line,
@@ -207,7 +205,7 @@ impl Stmt {
 
     /// A declaration in a block.
     pub fn local(line: Line, specs: Specs, names: Items<(Declarator, Option<Init>)>) -> Stmt
-        ensures { stmt_view result ≡ Node form.Local (At line ▹ specs_view specs ▹ names_view names ▹ none) }
+        ensures { stmt_view result ≡ Node form.Local (At line ▹ declaration_parts specs names) }
     {
         Stmt {
             line,
@@ -225,9 +223,7 @@ impl Decl {
         body: Items<Stmt>,
         end: Line,
     ) -> Decl
-        ensures { decl_view result ≡
-            Node form.Function (At line ▹ specs_view specs ▹ Node form.Declared (declarator_tree declarator ▹ none) ▹
-            body_view body end ▹ none) }
+        ensures { decl_view result ≡ function_view line specs declarator body end }
     {
         Decl::Function {
             line,
@@ -240,7 +236,7 @@ impl Decl {
 
     /// A declaration.
     pub fn names(line: Line, specs: Specs, names: Items<(Declarator, Option<Init>)>) -> Decl
-        ensures { decl_view result ≡ Node form.Declaration (At line ▹ specs_view specs ▹ names_view names ▹ none) }
+        ensures { decl_view result ≡ Node form.Declaration (At line ▹ declaration_parts specs names) }
     {
         Decl::Names { line, specs, names }
     }

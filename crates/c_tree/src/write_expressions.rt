@@ -1,11 +1,9 @@
 //! Expressions, specs and declarators, written word by word.
 
-ghost use Rattle.std.specs.Prelude.{◌≡◌, ◌++◌, IfOk, option_map};
-ghost use Rattle.c_tree.specs.Forms as form;
-ghost use Rattle.c_tree.specs.Tree.{Node};
-ghost use Rattle.c_tree.specs.Canonical.{tree_text};
+ghost use Rattle.std.specs.Prelude.{option_map};
 ghost use Rattle.c_tree.specs.View.{spec_tree, enumerator_tree, declarator_tree, base_tree};
-ghost use Rattle.c_tree.specs.StatementView.{trees, maybe, expr_view, specs_view, typename_view, tag_view, member_view, suffix_view, param_view};
+ghost use Rattle.c_tree.specs.StatementView.{maybe_length, expr_view, arguments_view, specs_view, typename_view, tag_view, member_view, member_names_view, members_view, enumerators_view, suffix_view, suffixes_view, param_view, params_view};
+ghost use Rattle.c_tree.specs.Made.{Writes};
 
 use crate::tree::{
     Base, Declarator, Enumerator, Expr, ExprKind, Member, Param, Spec, Specs, Suffix, SuffixKind,
@@ -20,7 +18,7 @@ impl Writer {
     #[cycle(write)]
     #[tactic(auto, using(crate::proofs::ExprTexts::name_text, crate::proofs::ExprTexts::int_text, crate::proofs::ExprTexts::char_text, crate::proofs::ExprTexts::str_text, crate::proofs::ExprTexts::paren_text, crate::proofs::ExprTexts::index_text, crate::proofs::ExprTexts::call_text, crate::proofs::ExprTexts::dot_text, crate::proofs::ExprTexts::arrow_text, crate::proofs::ExprTexts::post_inc_text, crate::proofs::ExprTexts::post_dec_text, crate::proofs::ExprTexts::pre_inc_text, crate::proofs::ExprTexts::pre_dec_text, crate::proofs::ExprTexts::unary_text, crate::proofs::ExprTexts::sizeof_expr_text, crate::proofs::ExprTexts::sizeof_type_text, crate::proofs::ExprTexts::cast_text, crate::proofs::ExprTexts::binary_text, crate::proofs::ExprTexts::cond_text, crate::proofs::ExprTexts::assign_text, crate::proofs::ExprTexts::comma_text))]
     pub(crate) fn expr(&mut self, e: &Expr) -> Result<(), NoMemory>
-        ensures { IfOk result (λ _. self.new ≡ self.old ++ tree_text (expr_view e.now)) }
+        ensures { Writes result self.old self.new (expr_view e.now) }
     {
         match &e.kind {
             ExprKind::Name(bytes) => {
@@ -148,7 +146,7 @@ impl Writer {
     #[cycle(write)]
     #[tactic(auto, using(crate::proofs::ListTexts::arguments_text, crate::proofs::ListTexts::no_arguments_text))]
     fn arguments(&mut self, list: &[Expr]) -> Result<(), NoMemory>
-        ensures { IfOk result (λ _. self.new ≡ self.old ++ tree_text (Node form.Arguments (trees expr_view list.now))) }
+        ensures { Writes result self.old self.new (arguments_view list.now) }
     {
         match list {
             [] => Ok(()),
@@ -167,7 +165,7 @@ impl Writer {
     #[cycle(write)]
     #[tactic(auto, using(crate::proofs::ListTexts::typename_text))]
     fn typename(&mut self, typename: &TypeName) -> Result<(), NoMemory>
-        ensures { IfOk result (λ _. self.new ≡ self.old ++ tree_text (typename_view typename.now)) }
+        ensures { Writes result self.old self.new (typename_view typename.now) }
     {
         self.specs(&typename.specs)?;
         self.declarator(&typename.declarator)?;
@@ -178,7 +176,7 @@ impl Writer {
     #[cycle(write)]
     #[tactic(auto, using(crate::proofs::ListTexts::specs_text))]
     pub(crate) fn specs(&mut self, specs: &Specs) -> Result<(), NoMemory>
-        ensures { IfOk result (λ _. self.new ≡ self.old ++ tree_text (specs_view specs.now)) }
+        ensures { Writes result self.old self.new (specs_view specs.now) }
     {
         for word in &specs.words {
             self.spec(word)?;
@@ -190,7 +188,7 @@ impl Writer {
     #[cycle(write)]
     #[tactic(auto, unfolding(crate::specs::View::spec_tree), using(crate::proofs::ListTexts::typedef_name_text))]
     fn spec(&mut self, spec: &Spec) -> Result<(), NoMemory>
-        ensures { IfOk result (λ _. self.new ≡ self.old ++ tree_text (spec_tree spec.now)) }
+        ensures { Writes result self.old self.new (spec_tree spec.now) }
     {
         match spec {
             Spec::Static => self.key_part(Keyword::Static),
@@ -219,7 +217,7 @@ impl Writer {
     #[cycle(write)]
     #[tactic(auto, using(crate::proofs::ExprTexts::tag_record_text, crate::proofs::ExprTexts::tag_record_body_text, crate::proofs::ExprTexts::tag_enum_text, crate::proofs::ListTexts::enum_body_text))]
     fn tag(&mut self, tag: &Tag) -> Result<(), NoMemory>
-        ensures { IfOk result (λ _. self.new ≡ self.old ++ tree_text (tag_view tag.now)) }
+        ensures { Writes result self.old self.new (tag_view tag.now) }
     {
         match &tag.kind {
             TagKind::Record(sort, name) => {
@@ -255,7 +253,7 @@ impl Writer {
     #[cycle(write)]
     #[tactic(auto, using(crate::proofs::ListTexts::members_text))]
     fn members(&mut self, list: &[Member]) -> Result<(), NoMemory>
-        ensures { IfOk result (λ _. self.new ≡ self.old ++ tree_text (Node form.Members (trees member_view list.now))) }
+        ensures { Writes result self.old self.new (members_view list.now) }
     {
         for member in list {
             self.member(member)?;
@@ -267,7 +265,7 @@ impl Writer {
     #[cycle(write)]
     #[tactic(auto, using(crate::proofs::ListTexts::member_text))]
     fn member(&mut self, member: &Member) -> Result<(), NoMemory>
-        ensures { IfOk result (λ _. self.new ≡ self.old ++ tree_text (member_view member.now)) }
+        ensures { Writes result self.old self.new (member_view member.now) }
     {
         self.specs(&member.specs)?;
         self.member_names(&member.declarators)?;
@@ -279,7 +277,7 @@ impl Writer {
     #[cycle(write)]
     #[tactic(auto, using(crate::proofs::ListTexts::member_names_text, crate::proofs::ListTexts::no_member_names_text))]
     fn member_names(&mut self, list: &[Declarator]) -> Result<(), NoMemory>
-        ensures { IfOk result (λ _. self.new ≡ self.old ++ tree_text (Node form.MemberNames (trees declarator_tree list.now))) }
+        ensures { Writes result self.old self.new (member_names_view list.now) }
     {
         match list {
             [] => Ok(()),
@@ -298,7 +296,7 @@ impl Writer {
     #[cycle(write)]
     #[tactic(auto, using(crate::proofs::ListTexts::enumerators_text, crate::proofs::ListTexts::no_enumerators_text))]
     fn enumerators(&mut self, list: &[Enumerator]) -> Result<(), NoMemory>
-        ensures { IfOk result (λ _. self.new ≡ self.old ++ tree_text (Node form.Enumerators (trees enumerator_tree list.now))) }
+        ensures { Writes result self.old self.new (enumerators_view list.now) }
     {
         match list {
             [] => Ok(()),
@@ -317,7 +315,7 @@ impl Writer {
     #[cycle(write)]
     #[tactic(auto, using(crate::proofs::ListTexts::plain_enumerator_text, crate::proofs::ListTexts::value_enumerator_text))]
     fn enumerator(&mut self, enumerator: &Enumerator) -> Result<(), NoMemory>
-        ensures { IfOk result (λ _. self.new ≡ self.old ++ tree_text (enumerator_tree enumerator.now)) }
+        ensures { Writes result self.old self.new (enumerator_tree enumerator.now) }
     {
         self.name(enumerator.name.as_slice())?;
         match &enumerator.value {
@@ -334,7 +332,7 @@ impl Writer {
     #[cycle(write)]
     #[tactic(auto, using(crate::proofs::ExprTexts::direct_text, crate::proofs::ListTexts::pointer_text))]
     pub(crate) fn declarator(&mut self, declarator: &Declarator) -> Result<(), NoMemory>
-        ensures { IfOk result (λ _. self.new ≡ self.old ++ tree_text (declarator_tree declarator.now)) }
+        ensures { Writes result self.old self.new (declarator_tree declarator.now) }
     {
         match declarator {
             Declarator::Pointer(_, consts, target) => {
@@ -355,7 +353,7 @@ impl Writer {
     #[cycle(write)]
     #[tactic(auto, unfolding(crate::specs::View::base_tree), using(crate::proofs::ExprTexts::parens_text, crate::proofs::ListTexts::nothing_text))]
     fn base(&mut self, base: &Base) -> Result<(), NoMemory>
-        ensures { IfOk result (λ _. self.new ≡ self.old ++ tree_text (base_tree base.now)) }
+        ensures { Writes result self.old self.new (base_tree base.now) }
     {
         match base {
             Base::Nothing => Ok(()),
@@ -376,7 +374,7 @@ impl Writer {
     #[cycle(write)]
     #[tactic(auto, using(crate::proofs::ListTexts::suffixes_text))]
     fn suffixes(&mut self, list: &[Suffix]) -> Result<(), NoMemory>
-        ensures { IfOk result (λ _. self.new ≡ self.old ++ tree_text (Node form.Suffixes (trees suffix_view list.now))) }
+        ensures { Writes result self.old self.new (suffixes_view list.now) }
     {
         for suffix in list {
             self.suffix(suffix)?;
@@ -388,7 +386,7 @@ impl Writer {
     #[cycle(write)]
     #[tactic(auto, using(crate::proofs::ExprTexts::array_suffix_text, crate::proofs::ExprTexts::void_suffix_text, crate::proofs::ExprTexts::params_suffix_text))]
     fn suffix(&mut self, suffix: &Suffix) -> Result<(), NoMemory>
-        ensures { IfOk result (λ _. self.new ≡ self.old ++ tree_text (suffix_view suffix.now)) }
+        ensures { Writes result self.old self.new (suffix_view suffix.now) }
     {
         match &suffix.kind {
             SuffixKind::Array(length) => {
@@ -416,8 +414,7 @@ impl Writer {
     #[cycle(write)]
     #[tactic(auto, using(crate::proofs::ListTexts::no_length_text, crate::proofs::ListTexts::some_length_text))]
     fn length(&mut self, length: &Option<Box<Expr>>) -> Result<(), NoMemory>
-        ensures { IfOk result (λ _. self.new ≡ self.old ++
-            tree_text (maybe form.MaybeLength expr_view (option_map (λ b. b.value) length.now))) }
+        ensures { Writes result self.old self.new (maybe_length (option_map (λ b. b.value) length.now)) }
     {
         match length {
             Some(length) => {
@@ -432,7 +429,7 @@ impl Writer {
     #[cycle(write)]
     #[tactic(auto, using(crate::proofs::ListTexts::params_text, crate::proofs::ListTexts::no_params_text))]
     fn params(&mut self, list: &[Param]) -> Result<(), NoMemory>
-        ensures { IfOk result (λ _. self.new ≡ self.old ++ tree_text (Node form.Params (trees param_view list.now))) }
+        ensures { Writes result self.old self.new (params_view list.now) }
     {
         match list {
             [] => Ok(()),
@@ -451,7 +448,7 @@ impl Writer {
     #[cycle(write)]
     #[tactic(auto, using(crate::proofs::ListTexts::param_text))]
     fn param(&mut self, param: &Param) -> Result<(), NoMemory>
-        ensures { IfOk result (λ _. self.new ≡ self.old ++ tree_text (param_view param.now)) }
+        ensures { Writes result self.old self.new (param_view param.now) }
     {
         self.specs(&param.specs)?;
         self.declarator(&param.declarator)?;

@@ -1,10 +1,11 @@
 //! Initializers, statements and external declarations, written word by word.
 
-ghost use Rattle.std.specs.Prelude.{◌≡◌, ◌++◌, IfOk};
+ghost use Rattle.std.specs.Prelude.{◌≡◌, IfOk};
 ghost use Rattle.c_tree.specs.Forms as form;
 ghost use Rattle.c_tree.specs.Tree.{Node};
-ghost use Rattle.c_tree.specs.Canonical.{tree_text, canonical};
-ghost use Rattle.c_tree.specs.StatementView.{trees, init_view, entry_view, names_view, maybe_expr, start_view, stmt_view, decl_view, unit_view};
+ghost use Rattle.c_tree.specs.Canonical.{canonical};
+ghost use Rattle.c_tree.specs.StatementView.{trees, init_view, inits_view, entry_view, names_view, maybe_expr, start_view, stmt_view, items_view, decl_view, unit_view};
+ghost use Rattle.c_tree.specs.Made.{Writes};
 
 use crate::statement::{Decl, ForStart, Init, InitKind, Stmt, StmtKind, Unit};
 use crate::tree::{Declarator, Expr};
@@ -18,7 +19,7 @@ impl Writer {
     #[cycle(init)]
     #[tactic(auto, using(crate::proofs::StmtTexts::init_expr_text, crate::proofs::NameTexts::init_list_text))]
     fn init(&mut self, init: &Init) -> Result<(), NoMemory>
-        ensures { IfOk result (λ _. self.new ≡ self.old ++ tree_text (init_view init.now)) }
+        ensures { Writes result self.old self.new (init_view init.now) }
     {
         match &init.kind {
             InitKind::Expr(value) => {
@@ -38,7 +39,7 @@ impl Writer {
     #[cycle(init)]
     #[tactic(auto, using(crate::proofs::NameTexts::inits_text))]
     fn inits(&mut self, list: &[Init]) -> Result<(), NoMemory>
-        ensures { IfOk result (λ _. self.new ≡ self.old ++ tree_text (Node form.Inits (trees init_view list.now))) }
+        ensures { Writes result self.old self.new (inits_view list.now) }
     {
         match list {
             [] => Ok(()),
@@ -56,7 +57,7 @@ impl Writer {
     /// Writes a name of a declaration with its initializer.
     #[tactic(auto, using(crate::proofs::NameTexts::plain_entry_text, crate::proofs::NameTexts::init_entry_text))]
     fn entry(&mut self, entry: &(Declarator, Option<Init>)) -> Result<(), NoMemory>
-        ensures { IfOk result (λ _. self.new ≡ self.old ++ tree_text (entry_view entry.now)) }
+        ensures { Writes result self.old self.new (entry_view entry.now) }
     {
         self.declarator(&entry.0)?;
         match &entry.1 {
@@ -72,7 +73,7 @@ impl Writer {
     /// Writes the names of a declaration.
     #[tactic(auto, using(crate::proofs::NameTexts::names_text))]
     fn names(&mut self, list: &[(Declarator, Option<Init>)]) -> Result<(), NoMemory>
-        ensures { IfOk result (λ _. self.new ≡ self.old ++ tree_text (names_view list.now)) }
+        ensures { Writes result self.old self.new (names_view list.now) }
     {
         match list {
             [] => Ok(()),
@@ -90,7 +91,7 @@ impl Writer {
     /// Writes an expression that may be left out.
     #[tactic(auto, using(crate::proofs::NameTexts::no_expr_text, crate::proofs::NameTexts::some_expr_text))]
     fn maybe_expr(&mut self, value: &Option<Expr>) -> Result<(), NoMemory>
-        ensures { IfOk result (λ _. self.new ≡ self.old ++ tree_text (maybe_expr value.now)) }
+        ensures { Writes result self.old self.new (maybe_expr value.now) }
     {
         match value {
             Some(value) => {
@@ -104,7 +105,7 @@ impl Writer {
     /// Writes what stands before the first `;` of a `for`, with the `;`.
     #[tactic(auto, using(crate::proofs::NameTexts::for_names_text, crate::proofs::NameTexts::for_start_text))]
     fn for_start(&mut self, start: &ForStart) -> Result<(), NoMemory>
-        ensures { IfOk result (λ _. self.new ≡ self.old ++ tree_text (start_view start.now)) }
+        ensures { Writes result self.old self.new (start_view start.now) }
     {
         match start {
             ForStart::Names(specs, names) => {
@@ -125,7 +126,7 @@ impl Writer {
     #[cycle(stmt)]
     #[tactic(auto, using(crate::proofs::StmtTexts::stmt_empty_text, crate::proofs::StmtTexts::stmt_expr_text, crate::proofs::StmtTexts::stmt_block_text, crate::proofs::StmtTexts::stmt_delay_text, crate::proofs::StmtTexts::stmt_while_text, crate::proofs::StmtTexts::stmt_do_text, crate::proofs::StmtTexts::stmt_for_text, crate::proofs::StmtTexts::stmt_switch_text, crate::proofs::StmtTexts::stmt_case_text, crate::proofs::StmtTexts::stmt_default_text, crate::proofs::StmtTexts::stmt_break_text, crate::proofs::StmtTexts::stmt_continue_text, crate::proofs::StmtTexts::stmt_return_text, crate::proofs::StmtTexts::stmt_local_text, crate::proofs::NameTexts::plain_if_text, crate::proofs::NameTexts::if_else_text))]
     fn stmt(&mut self, stmt: &Stmt) -> Result<(), NoMemory>
-        ensures { IfOk result (λ _. self.new ≡ self.old ++ tree_text (stmt_view stmt.now)) }
+        ensures { Writes result self.old self.new (stmt_view stmt.now) }
     {
         match &stmt.kind {
             StmtKind::Empty => {
@@ -244,7 +245,7 @@ impl Writer {
     #[cycle(stmt)]
     #[tactic(auto, using(crate::proofs::NameTexts::items_text))]
     fn items(&mut self, list: &[Stmt]) -> Result<(), NoMemory>
-        ensures { IfOk result (λ _. self.new ≡ self.old ++ tree_text (Node form.Items (trees stmt_view list.now))) }
+        ensures { Writes result self.old self.new (items_view list.now) }
     {
         for stmt in list {
             self.stmt(stmt)?;
@@ -255,7 +256,7 @@ impl Writer {
     /// Writes an external declaration.
     #[tactic(auto, using(crate::proofs::NameTexts::function_text, crate::proofs::NameTexts::declaration_text))]
     fn decl(&mut self, decl: &Decl) -> Result<(), NoMemory>
-        ensures { IfOk result (λ _. self.new ≡ self.old ++ tree_text (decl_view decl.now)) }
+        ensures { Writes result self.old self.new (decl_view decl.now) }
     {
         match decl {
             Decl::Function {
@@ -283,7 +284,7 @@ impl Writer {
     /// Writes external declarations.
     #[tactic(auto, using(crate::proofs::NameTexts::decls_text))]
     fn decls(&mut self, list: &[Decl]) -> Result<(), NoMemory>
-        ensures { IfOk result (λ _. self.new ≡ self.old ++ tree_text (Node form.Unit (trees decl_view list.now))) }
+        ensures { Writes result self.old self.new (Node form.Unit (trees decl_view list.now)) }
     {
         for decl in list {
             self.decl(decl)?;

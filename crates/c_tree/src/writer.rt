@@ -1,13 +1,14 @@
 //! Words that are written one behind another, each with the byte behind it.
 
 ghost use Rattle.std.specs.Prelude.{◌≡◌, ◌++◌, [], ◌∷◌, IfOk};
-ghost use Rattle.c_tree.specs.Forms as form;
-ghost use Rattle.c_tree.specs.Tree.{Leaf, Node};
+ghost use Rattle.c_tree.specs.Tree.{Leaf};
 ghost use Rattle.c_tree.specs.Words as word;
 ghost use Rattle.c_tree.specs.Words.{Key, Mark};
-ghost use Rattle.c_tree.specs.Canonical.{word_text, tree_text, with_consts, with_close};
+ghost use Rattle.c_tree.specs.Canonical.{word_text, with_consts, with_close};
 ghost use Rattle.c_tree.specs.Canonical as spec;
-ghost use Rattle.c_tree.specs.View.{name_leaf, key_leaf, maybe_name, literal_leaves};
+ghost use Rattle.c_tree.specs.View.{name_leaf, key_leaf, maybe_name};
+ghost use Rattle.c_tree.specs.StatementView.{strings_view};
+ghost use Rattle.c_tree.specs.Made.{Writes};
 
 use crate::word::{Keyword, Sign};
 use hs_base::{Items, NoMemory};
@@ -65,7 +66,7 @@ impl Writer {
     /// Writes a keyword that is a part.
     #[tactic(auto, unfolding(crate::specs::Canonical::tree_text, crate::specs::Canonical::words_text, crate::specs::Spelling::spell))]
     pub(crate) fn key_part(&mut self, keyword: Keyword) -> Result<(), NoMemory>
-        ensures { IfOk result (λ _. self.new ≡ self.old ++ tree_text (key_leaf keyword)) }
+        ensures { Writes result self.old self.new (key_leaf keyword) }
     {
         self.key(keyword)
     }
@@ -80,7 +81,7 @@ impl Writer {
     /// Writes a name.
     #[tactic(auto, unfolding(crate::specs::Canonical::tree_text, crate::specs::Canonical::words_text, crate::specs::Spelling::spell))]
     pub(crate) fn name(&mut self, bytes: &[u8]) -> Result<(), NoMemory>
-        ensures { IfOk result (λ _. self.new ≡ self.old ++ tree_text (name_leaf bytes.now)) }
+        ensures { Writes result self.old self.new (name_leaf bytes.now) }
     {
         self.word(bytes, b' ')
     }
@@ -88,7 +89,7 @@ impl Writer {
     /// Writes an integer constant.
     #[tactic(auto, unfolding(crate::specs::Canonical::tree_text, crate::specs::Canonical::words_text, crate::specs::Spelling::spell))]
     pub(crate) fn int(&mut self, bytes: &[u8]) -> Result<(), NoMemory>
-        ensures { IfOk result (λ _. self.new ≡ self.old ++ tree_text (Leaf (word.Int bytes.now))) }
+        ensures { Writes result self.old self.new (Leaf (word.Int bytes.now)) }
     {
         self.word(bytes, b' ')
     }
@@ -96,7 +97,7 @@ impl Writer {
     /// Writes a character constant.
     #[tactic(auto, unfolding(crate::specs::Canonical::tree_text, crate::specs::Canonical::words_text, crate::specs::Spelling::spell))]
     pub(crate) fn char(&mut self, bytes: &[u8]) -> Result<(), NoMemory>
-        ensures { IfOk result (λ _. self.new ≡ self.old ++ tree_text (Leaf (word.Char bytes.now))) }
+        ensures { Writes result self.old self.new (Leaf (word.Char bytes.now)) }
     {
         self.word(bytes, b' ')
     }
@@ -104,7 +105,7 @@ impl Writer {
     /// Writes string literals.
     #[tactic(auto, using(crate::proofs::ListTexts::strings_text))]
     pub(crate) fn strings(&mut self, list: &[Items<u8>]) -> Result<(), NoMemory>
-        ensures { IfOk result (λ _. self.new ≡ self.old ++ tree_text (Node form.Strings (literal_leaves list.now))) }
+        ensures { Writes result self.old self.new (strings_view list.now) }
     {
         for bytes in list {
             self.word(bytes.as_slice(), b' ')?;
@@ -115,7 +116,7 @@ impl Writer {
     /// Writes a name that may be left out.
     #[tactic(auto, using(crate::proofs::ListTexts::no_name_text, crate::proofs::ListTexts::some_name_text))]
     pub(crate) fn maybe_name(&mut self, name: &Option<Items<u8>>) -> Result<(), NoMemory>
-        ensures { IfOk result (λ _. self.new ≡ self.old ++ tree_text (maybe_name name.now)) }
+        ensures { Writes result self.old self.new (maybe_name name.now) }
     {
         match name {
             Some(name) => {
