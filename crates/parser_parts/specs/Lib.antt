@@ -1,4 +1,5 @@
 pub mod Names
+pub mod States
 pub mod Gives
 pub mod Signs
 pub mod Held

@@ -1,5 +1,5 @@
 -- The names that the code keeps as the declarations of a scope.
-use Rattle.std.specs.Prelude.{◌≡◌, ◌-◌, ℕ, List, [], ◌∷◌, bytes_eq, drop, length, map, reverse, Option, Some, None}
+use Rattle.std.specs.Prelude.{◌≡◌, ◌-◌, ℕ, Bool, if◌then◌else◌, List, [], ◌∷◌, bytes_eq, drop, length, map, reverse, Option, Some, None}
 use Rattle.std.specs.Borrow.{Bor}
 use Rattle.std.specs.HashSet.{HashSet, contains_by}
 use Rattle.c_tree.specs.Scopes.{Known, is_type}
@@ -30,6 +30,16 @@ abbrev pub AreTypes : {S : Type 0} → HashSet (Bor (List ℕ)) S → List Known
 AreTypes types names =
     (name : Bor (List ℕ)) →
     contains_by (λ (other : Bor (List ℕ)). bytes_eq name.now other.now) types ≡ is_type names name.now
+
+-- whether a name is in a set of names
+abbrev pub has_name : {S : Type 0} → HashSet (Bor (List ℕ)) S → List ℕ → Bool
+has_name types name = contains_by (λ (each : Bor (List ℕ)). bytes_eq name each.now) types
+
+-- a name is put among those that are types or taken away, and no other changes
+abbrev pub Marks : {S : Type 0} → List ℕ → Bool → HashSet (Bor (List ℕ)) S → HashSet (Bor (List ℕ)) S → Type 0
+Marks name is_type old new =
+    (other : Bor (List ℕ)) →
+    has_name new other.now ≡ (if bytes_eq name other.now then is_type else has_name old other.now)
 
 -- without the latest declaration
 abbrev pub without_latest : List Known → List Known

@@ -1,13 +1,14 @@
 -- What the code reads and makes, by the sort of its tree.
-use Rattle.std.specs.Prelude.{◌≡◌, Option, Result, IfOk}
+use Rattle.std.specs.Prelude.{◌≡◌, ℕ, ◌+◌, Option, Result, IfOk}
 use Rattle.hs_base.specs.declared.items.NoMemory.{NoMemory}
 use Rattle.c_tree.specs.Allowed.{Tally}
 use Rattle.c_tree.specs.Forms as f
 use Rattle.c_tree.specs.Forms.{Form}
-use Rattle.c_tree.specs.Tree.{Tree, Trees, Node}
+use Rattle.c_tree.specs.Tree.{Tree, Trees, At, Node, none, ◌▹◌}
 use Rattle.c_tree.specs.View.{spec_tree, declarator_tree, base_tree, enumerator_tree}
 use Rattle.c_tree.specs.StatementView.{trees, expr_view, typename_view, specs_view, tag_view, member_view, suffix_view, param_view}
 use Rattle.grammar_reading.specs.State.{State}
+use Rattle.grammar_reading.specs.Reading.{snoc}
 use Rattle.parser_parts.specs.Gives.{Reads}
 use Rattle.parser_parts.specs.Tallies.{tally_of}
 use Rattle.parser_parts.specs.declared.error.ReadError.{ReadError}
@@ -30,9 +31,46 @@ use Rattle.parser_parts.specs.declared.deep.DeepTypename.{DeepTypename}
 use Rattle.parser_parts.specs.declared.deep.DeepWords.{DeepWords}
 use Rattle.parser_parts.specs.declared.tally.Tally.{Tally as Counted}
 
--- an expression is made: a node of a form with these parts
-abbrev pub Makes : Result DeepExpr NoMemory → Form → Trees → Type 0
-Makes result form parts = IfOk result (λ (x : DeepExpr). expr_view x.tree ≡ Node form parts)
+-- an expression is made: a node of a form at a line, with the parts behind it
+abbrev pub MakesExpr : Result DeepExpr NoMemory → ℕ → Form → Trees → Type 0
+MakesExpr result line form parts = IfOk result (λ (x : DeepExpr). expr_view x.tree ≡ Node form (At line ▹ parts))
+
+-- two expressions as parts, and a type's name with an expression
+abbrev pub operands : DeepExpr → DeepExpr → Trees
+operands left right = expr_view left.tree ▹ expr_view right.tree ▹ none
+
+abbrev pub cast_parts : DeepTypename → DeepExpr → Trees
+cast_parts name operand = typename_view name.tree ▹ expr_view operand.tree ▹ none
+
+-- the trees of a list of the code, by its sort
+abbrev pub arguments_of : DeepExprs → Trees
+arguments_of x = trees expr_view x.list.items
+
+abbrev pub members_of : DeepMembers → Trees
+members_of x = trees member_view x.list.items
+
+abbrev pub declarators_of : DeepDeclarators → Trees
+declarators_of x = trees declarator_tree x.list.items
+
+abbrev pub enumerators_of : DeepEnumerators → Trees
+enumerators_of x = trees enumerator_tree x.list.items
+
+abbrev pub suffixes_of : DeepSuffixes → Trees
+suffixes_of x = trees suffix_view x.list.items
+
+abbrev pub parameters_of : DeepParams → Trees
+parameters_of x = trees param_view x.list.items
+
+abbrev pub spec_words_of : DeepWords → Trees
+spec_words_of x = trees spec_tree x.list.items
+
+-- a list is made of another with one tree behind it
+abbrev pub Adds : {A : Type 0} → (A → Trees) → Result A NoMemory → A → Tree → Type 0
+Adds trees_of result before tree = IfOk result (λ after. trees_of after ≡ snoc (trees_of before) tree)
+
+-- how deep a declarator is with its layers
+abbrev pub whole_depth : DeepDeclarator → ℕ
+whole_depth declarator = declarator.layers + declarator.inside
 
 -- the code reads one tree of a sort, and stands behind it
 abbrev pub ReadsExpr : Result DeepExpr ReadError → State → Option (Tree × State) → Type 0

@@ -1,10 +1,8 @@
 //! The names that are declared, and which of them are types.
 
-ghost use Rattle.std.specs.Prelude.{◌≡◌, ◌-◌, ◌<◌, ◌+◌, ◌^◌, ℕ, List, length, take, drop, reverse, [], ◌++◌, IfOk, OnOk, OnErr, Some, ◌∷◌, bytes_eq, slice_get, if◌then◌else◌};
+ghost use Rattle.std.specs.Prelude.{◌≡◌, ◌-◌, ◌<◌, ◌+◌, List, length, take, drop, reverse, [], ◌++◌, IfOk, OnOk, OnErr, Some, ◌∷◌, slice_get};
 ghost use Rattle.c_tree.specs.Scopes as scopes;
-ghost use Rattle.std.specs.Borrow.{Bor};
-ghost use Rattle.std.specs.HashSet.{contains_by};
-ghost use Rattle.parser_parts.specs.Names.{known, known_names, without_latest, oldest};
+ghost use Rattle.parser_parts.specs.Names.{known, known_names, Marks, without_latest, oldest};
 
 use hs_base::NoMemory;
 use std::alloc::Global;
@@ -155,7 +153,7 @@ pub fn copied<'a>(alloc: Global, entries: &[Entry<'a>]) -> Result<Vec<Entry<'a>>
 
 /// Puts a name among those that are types, or takes it away.
 fn mark<'a>(types: &mut HashSet<&'a [u8]>, name: &'a [u8], is_type: bool) -> Result<(), NoMemory>
-    ensures ok { OnOk result ((other : Bor (List ℕ)) → contains_by (λ (each : Bor (List ℕ)). bytes_eq other.now each.now) types.new ≡ (if bytes_eq name.entry.now other.now then is_type else contains_by (λ (each : Bor (List ℕ)). bytes_eq other.now each.now) types.old)) }
+    ensures ok { OnOk result (Marks name.entry.now is_type types.old types.new) }
     ensures err { OnErr result (types.new.keys ≡ types.old.keys) }
 {
     if is_type {

@@ -1,12 +1,10 @@
 //! Declarators, made of their layers.
 #![tactic(auto, unfolding(c_tree::specs::Depth::below, c_tree::specs::Depth::layers, c_tree::specs::Depth::layers_all, c_tree::specs::Depth::greatest_depth, c_tree::specs::Depth::greatest_below, c_tree::specs::Depth::is_of_declarator, c_tree::specs::Depth::layer, c_tree::specs::Scopes::name_of, c_tree::specs::Scopes::name_among, c_tree::specs::Scopes::leads_to_name, c_tree::specs::Scopes::params_of, c_tree::specs::Scopes::params_among, c_tree::specs::Scopes::suffix_params))]
 
-ghost use Rattle.std.specs.Prelude.{◌≡◌, ◌<◌, ◌+◌, ◌^◌, max, [], ◌∷◌, IfOk};
-ghost use Rattle.c_tree.specs.Forms as form;
-ghost use Rattle.c_tree.specs.Tree.{At, Node, none, ◌▹◌};
+ghost use Rattle.std.specs.Prelude.{◌≡◌, ◌<◌, ◌+◌, ◌^◌, max, [], IfOk};
 ghost use Rattle.c_tree.specs.View.{declarator_tree, base_tree};
-ghost use Rattle.c_tree.specs.StatementView.{trees, suffix_view};
-ghost use Rattle.grammar_reading.specs.Reading.{snoc};
+ghost use Rattle.c_tree.specs.StatementView.{suffix_view, pointer_view, parens_view, direct_view};
+ghost use Rattle.parser_parts.specs.Trees.{Adds, suffixes_of, declarators_of, whole_depth};
 
 use crate::deep::{DeepBase, DeepDeclarator, DeepDeclarators, DeepSuffix, DeepSuffixes};
 use c_tree::{Base, Declarator};
@@ -22,7 +20,7 @@ impl<'a> DeepDeclarator<'a> {
         consts: usize,
     ) -> Result<DeepDeclarator<'a>, NoMemory>
         requires { self.layers < 1000 }
-        ensures { IfOk result (λ d. declarator_tree d.tree ≡ Node (form.Pointer consts) (At line ▹ declarator_tree self.entry.tree ▹ none)) }
+        ensures { IfOk result (λ d. declarator_tree d.tree ≡ pointer_view line consts self.entry.tree) }
     {
         let tree = Declarator::pointer(alloc, line, consts, self.tree)?;
         Ok(DeepDeclarator {
@@ -37,7 +35,7 @@ impl<'a> DeepDeclarator<'a> {
     /// In parentheses.
     pub fn in_parens(self, alloc: Global, line: Line) -> Result<DeepBase<'a>, NoMemory>
         requires { self.layers < 1000 }
-        ensures { IfOk result (λ b. base_tree b.tree ≡ Node form.Parens (At line ▹ declarator_tree self.entry.tree ▹ none)) }
+        ensures { IfOk result (λ b. base_tree b.tree ≡ parens_view line self.entry.tree) }
     {
         let tree = Base::parens(alloc, line, self.tree)?;
         Ok(DeepBase {
@@ -55,7 +53,7 @@ impl<'a> DeepBase<'a> {
     /// With suffixes behind.
     pub fn with_suffixes(self, suffixes: DeepSuffixes) -> DeepDeclarator<'a>
         requires { self.layers + suffixes.layers < 2 ^ 64 }
-        ensures tree { declarator_tree result.tree ≡ Node form.Direct (base_tree self.entry.tree ▹ Node form.Suffixes (trees suffix_view suffixes.list.items) ▹ none) }
+        ensures tree { declarator_tree result.tree ≡ direct_view self.entry.tree suffixes.list.items }
         ensures layers { result.layers ≡ self.entry.layers + suffixes.layers }
     {
         let is_function = if self.is_name {
@@ -92,7 +90,7 @@ impl DeepSuffixes {
     #[tactic(auto, using(crate::proofs::Parts::trees_behind, crate::proofs::Parts::layers_behind, crate::proofs::Parts::below_behind, crate::proofs::Parts::behind_some, crate::proofs::Parts::behind_none), unfolding(c_tree::specs::Depth::below, c_tree::specs::Depth::layers, c_tree::specs::Depth::layers_all, c_tree::specs::Depth::greatest_depth, c_tree::specs::Depth::greatest_below, c_tree::specs::Depth::is_of_declarator, c_tree::specs::Depth::layer, c_tree::specs::Scopes::name_of, c_tree::specs::Scopes::name_among, c_tree::specs::Scopes::leads_to_name, c_tree::specs::Scopes::params_of, c_tree::specs::Scopes::params_among))]
     pub fn with(self, suffix: DeepSuffix) -> Result<DeepSuffixes, NoMemory>
         requires { self.layers + 1 < 2 ^ 64 }
-        ensures list { IfOk result (λ x. trees suffix_view x.list.items ≡ snoc (trees suffix_view self.list.items) (suffix_view suffix.tree)) }
+        ensures list { Adds suffixes_of result self (suffix_view suffix.tree) }
         ensures layers { IfOk result (λ x. x.layers ≡ self.layers + 1) }
         ensures inside { IfOk result (λ x. x.inside ≡ max self.inside suffix.inside) }
     {
@@ -134,8 +132,8 @@ impl DeepDeclarators {
     #[tactic(auto, using(crate::proofs::Parts::trees_behind, crate::proofs::Parts::depth_behind))]
     pub fn with(self, next: DeepDeclarator) -> Result<DeepDeclarators, NoMemory>
         requires { next.layers + next.inside < 2 ^ 64 }
-        ensures list { IfOk result (λ x. trees declarator_tree x.list.items ≡ snoc (trees declarator_tree self.list.items) (declarator_tree next.entry.tree)) }
-        ensures depth { IfOk result (λ x. x.depth ≡ max self.depth (next.entry.layers + next.entry.inside)) }
+        ensures list { Adds declarators_of result self (declarator_tree next.entry.tree) }
+        ensures depth { IfOk result (λ x. x.depth ≡ max self.depth (whole_depth next.entry)) }
     {
         let mut list = self.list;
         let depth = self.depth.max(next.layers + next.inside);

@@ -1,9 +1,9 @@
 //! Lists of trees of the code, with how deep they are.
 
 ghost use Rattle.std.specs.Prelude.{◌≡◌, max, [], IfOk};
-ghost use Rattle.c_tree.specs.View.{spec_tree, declarator_tree, enumerator_tree};
-ghost use Rattle.c_tree.specs.StatementView.{trees, expr_view, member_view, param_view};
-ghost use Rattle.grammar_reading.specs.Reading.{snoc};
+ghost use Rattle.c_tree.specs.View.{enumerator_tree};
+ghost use Rattle.c_tree.specs.StatementView.{expr_view, member_view, param_view};
+ghost use Rattle.parser_parts.specs.Trees.{Adds, arguments_of, members_of, enumerators_of, parameters_of};
 
 use crate::deep::{
     DeepEnumerator, DeepEnumerators, DeepExpr, DeepExprs, DeepMember, DeepMembers, DeepParam,
@@ -28,7 +28,7 @@ impl DeepExprs {
     /// With one more.
     #[tactic(auto, using(crate::proofs::Parts::trees_behind, crate::proofs::Parts::depth_behind))]
     pub fn with(self, next: DeepExpr) -> Result<DeepExprs, NoMemory>
-        ensures list { IfOk result (λ x. trees expr_view x.list.items ≡ snoc (trees expr_view self.list.items) (expr_view next.tree)) }
+        ensures list { Adds arguments_of result self (expr_view next.tree) }
         ensures depth { IfOk result (λ x. x.depth ≡ max self.depth next.depth) }
     {
         let mut list = self.list;
@@ -54,7 +54,7 @@ impl DeepMembers {
     /// With one more.
     #[tactic(auto, using(crate::proofs::Parts::trees_behind, crate::proofs::Parts::depth_behind))]
     pub fn with(self, next: DeepMember) -> Result<DeepMembers, NoMemory>
-        ensures list { IfOk result (λ x. trees member_view x.list.items ≡ snoc (trees member_view self.list.items) (member_view next.tree)) }
+        ensures list { Adds members_of result self (member_view next.tree) }
         ensures depth { IfOk result (λ x. x.depth ≡ max self.depth next.depth) }
     {
         let mut list = self.list;
@@ -80,7 +80,7 @@ impl DeepEnumerators {
     /// With one more.
     #[tactic(auto, using(crate::proofs::Parts::trees_behind, crate::proofs::Parts::depth_behind))]
     pub fn with(self, next: DeepEnumerator) -> Result<DeepEnumerators, NoMemory>
-        ensures list { IfOk result (λ x. trees enumerator_tree x.list.items ≡ snoc (trees enumerator_tree self.list.items) (enumerator_tree next.tree)) }
+        ensures list { Adds enumerators_of result self (enumerator_tree next.tree) }
         ensures depth { IfOk result (λ x. x.depth ≡ max self.depth next.depth) }
     {
         let mut list = self.list;
@@ -106,7 +106,7 @@ impl DeepParams {
     /// With one more.
     #[tactic(auto, using(crate::proofs::Parts::trees_behind, crate::proofs::Parts::depth_behind))]
     pub fn with(self, next: DeepParam) -> Result<DeepParams, NoMemory>
-        ensures list { IfOk result (λ x. trees param_view x.list.items ≡ snoc (trees param_view self.list.items) (param_view next.tree)) }
+        ensures list { Adds parameters_of result self (param_view next.tree) }
         ensures depth { IfOk result (λ x. x.depth ≡ max self.depth next.depth) }
     {
         let mut list = self.list;

@@ -4,10 +4,10 @@
 ghost use Rattle.std.specs.Prelude.{◌≡◌, ◌<◌, ◌+◌, max, IfOk};
 ghost use Rattle.c_tree.specs.Forms as form;
 ghost use Rattle.c_tree.specs.Tree.{At, Leaf, Node, none, ◌▹◌};
-ghost use Rattle.c_tree.specs.View.{name_leaf, literal_leaves};
-ghost use Rattle.c_tree.specs.StatementView.{trees, expr_view, typename_view};
+ghost use Rattle.c_tree.specs.View.{name_leaf};
+ghost use Rattle.c_tree.specs.StatementView.{strings_view, call_parts, expr_view, typename_view};
 ghost use Rattle.c_tree.specs.Words.{Char, Int};
-ghost use Rattle.parser_parts.specs.Trees.{Makes};
+ghost use Rattle.parser_parts.specs.Trees.{MakesExpr, operands, cast_parts};
 
 use crate::deep::{DeepExpr, DeepExprs, DeepTypename};
 use c_tree::{AssignOp, BinaryOp, Expr, UnaryOp};
@@ -51,7 +51,7 @@ impl DeepExpr {
     /// String literals.
     #[tactic(auto, using(crate::proofs::Parts::leaves_flat), unfolding(c_tree::specs::Depth::below, c_tree::specs::Depth::layers, c_tree::specs::Depth::greatest_depth, c_tree::specs::Depth::is_of_declarator, c_tree::specs::Depth::layer, c_tree::specs::Depth::weight, c_tree::specs::Grammar::form_home))]
     pub fn str(line: Line, spellings: Items<Items<u8>>) -> DeepExpr
-        ensures tree { expr_view result.tree ≡ Node form.Str (At line ▹ Node form.Strings (literal_leaves spellings) ▹ none) }
+        ensures tree { expr_view result.tree ≡ Node form.Str (At line ▹ strings_view spellings ▹ none) }
         ensures depth { result.depth ≡ 1 }
     {
         DeepExpr {
@@ -63,7 +63,7 @@ impl DeepExpr {
     /// `(inner)`
     pub fn paren(alloc: Global, line: Line, inner: DeepExpr) -> Result<DeepExpr, NoMemory>
         requires { inner.depth < 1000 }
-        ensures tree { Makes result form.Paren (At line ▹ expr_view inner.tree ▹ none) }
+        ensures tree { MakesExpr result line form.Paren (expr_view inner.tree ▹ none) }
         ensures depth { IfOk result (λ x. x.depth ≡ inner.depth + 1) }
     {
         let depth = inner.depth + 1;
@@ -80,7 +80,7 @@ impl DeepExpr {
     ) -> Result<DeepExpr, NoMemory>
         requires left { left.depth < 1000 }
         requires index { index.depth < 1000 }
-        ensures tree { Makes result form.Index (At line ▹ expr_view left.tree ▹ expr_view index.tree ▹ none) }
+        ensures tree { MakesExpr result line form.Index (operands left index) }
         ensures depth { IfOk result (λ x. x.depth ≡ max left.depth index.depth + 1) }
     {
         let depth = left.depth.max(index.depth) + 1;
@@ -97,7 +97,7 @@ impl DeepExpr {
     ) -> Result<DeepExpr, NoMemory>
         requires left { left.depth < 1000 }
         requires arguments { arguments.depth < 1000 }
-        ensures tree { Makes result form.Call (At line ▹ expr_view left.tree ▹ Node form.Arguments (trees expr_view arguments.list.items) ▹ none) }
+        ensures tree { MakesExpr result line form.Call (call_parts left.tree arguments.list.items) }
         ensures depth { IfOk result (λ x. x.depth ≡ max left.depth arguments.depth + 1) }
     {
         let depth = left.depth.max(arguments.depth) + 1;
@@ -113,7 +113,7 @@ impl DeepExpr {
         name: Items<u8>,
     ) -> Result<DeepExpr, NoMemory>
         requires { left.depth < 1000 }
-        ensures tree { Makes result form.Dot (At line ▹ expr_view left.tree ▹ name_leaf name ▹ none) }
+        ensures tree { MakesExpr result line form.Dot (expr_view left.tree ▹ name_leaf name ▹ none) }
         ensures depth { IfOk result (λ x. x.depth ≡ left.depth + 1) }
     {
         let depth = left.depth + 1;
@@ -129,7 +129,7 @@ impl DeepExpr {
         name: Items<u8>,
     ) -> Result<DeepExpr, NoMemory>
         requires { left.depth < 1000 }
-        ensures tree { Makes result form.Arrow (At line ▹ expr_view left.tree ▹ name_leaf name ▹ none) }
+        ensures tree { MakesExpr result line form.Arrow (expr_view left.tree ▹ name_leaf name ▹ none) }
         ensures depth { IfOk result (λ x. x.depth ≡ left.depth + 1) }
     {
         let depth = left.depth + 1;
@@ -140,7 +140,7 @@ impl DeepExpr {
     /// `left++`
     pub fn post_inc(alloc: Global, line: Line, left: DeepExpr) -> Result<DeepExpr, NoMemory>
         requires { left.depth < 1000 }
-        ensures tree { Makes result form.PostInc (At line ▹ expr_view left.tree ▹ none) }
+        ensures tree { MakesExpr result line form.PostInc (expr_view left.tree ▹ none) }
         ensures depth { IfOk result (λ x. x.depth ≡ left.depth + 1) }
     {
         let depth = left.depth + 1;
@@ -151,7 +151,7 @@ impl DeepExpr {
     /// `left--`
     pub fn post_dec(alloc: Global, line: Line, left: DeepExpr) -> Result<DeepExpr, NoMemory>
         requires { left.depth < 1000 }
-        ensures tree { Makes result form.PostDec (At line ▹ expr_view left.tree ▹ none) }
+        ensures tree { MakesExpr result line form.PostDec (expr_view left.tree ▹ none) }
         ensures depth { IfOk result (λ x. x.depth ≡ left.depth + 1) }
     {
         let depth = left.depth + 1;
@@ -162,7 +162,7 @@ impl DeepExpr {
     /// `++operand`
     pub fn pre_inc(alloc: Global, line: Line, operand: DeepExpr) -> Result<DeepExpr, NoMemory>
         requires { operand.depth < 1000 }
-        ensures tree { Makes result form.PreInc (At line ▹ expr_view operand.tree ▹ none) }
+        ensures tree { MakesExpr result line form.PreInc (expr_view operand.tree ▹ none) }
         ensures depth { IfOk result (λ x. x.depth ≡ operand.depth + 1) }
     {
         let depth = operand.depth + 1;
@@ -173,7 +173,7 @@ impl DeepExpr {
     /// `--operand`
     pub fn pre_dec(alloc: Global, line: Line, operand: DeepExpr) -> Result<DeepExpr, NoMemory>
         requires { operand.depth < 1000 }
-        ensures tree { Makes result form.PreDec (At line ▹ expr_view operand.tree ▹ none) }
+        ensures tree { MakesExpr result line form.PreDec (expr_view operand.tree ▹ none) }
         ensures depth { IfOk result (λ x. x.depth ≡ operand.depth + 1) }
     {
         let depth = operand.depth + 1;
@@ -189,7 +189,7 @@ impl DeepExpr {
         operand: DeepExpr,
     ) -> Result<DeepExpr, NoMemory>
         requires { operand.depth < 1000 }
-        ensures tree { Makes result (form.Unary op) (At line ▹ expr_view operand.tree ▹ none) }
+        ensures tree { MakesExpr result line (form.Unary op) (expr_view operand.tree ▹ none) }
         ensures depth { IfOk result (λ x. x.depth ≡ operand.depth + 1) }
     {
         let depth = operand.depth + 1;
@@ -200,7 +200,7 @@ impl DeepExpr {
     /// `sizeof operand`
     pub fn sizeof_expr(alloc: Global, line: Line, operand: DeepExpr) -> Result<DeepExpr, NoMemory>
         requires { operand.depth < 1000 }
-        ensures tree { Makes result form.SizeofExpr (At line ▹ expr_view operand.tree ▹ none) }
+        ensures tree { MakesExpr result line form.SizeofExpr (expr_view operand.tree ▹ none) }
         ensures depth { IfOk result (λ x. x.depth ≡ operand.depth + 1) }
     {
         let depth = operand.depth + 1;
@@ -211,7 +211,7 @@ impl DeepExpr {
     /// `sizeof (name)`
     pub fn sizeof_type(alloc: Global, line: Line, name: DeepTypename) -> Result<DeepExpr, NoMemory>
         requires { name.depth < 1000 }
-        ensures tree { Makes result form.SizeofType (At line ▹ typename_view name.tree ▹ none) }
+        ensures tree { MakesExpr result line form.SizeofType (typename_view name.tree ▹ none) }
         ensures depth { IfOk result (λ x. x.depth ≡ name.depth + 1) }
     {
         let depth = name.depth + 1;
@@ -228,7 +228,7 @@ impl DeepExpr {
     ) -> Result<DeepExpr, NoMemory>
         requires name { name.depth < 1000 }
         requires operand { operand.depth < 1000 }
-        ensures tree { Makes result form.Cast (At line ▹ typename_view name.tree ▹ expr_view operand.tree ▹ none) }
+        ensures tree { MakesExpr result line form.Cast (cast_parts name operand) }
         ensures depth { IfOk result (λ x. x.depth ≡ max name.depth operand.depth + 1) }
     {
         let depth = name.depth.max(operand.depth) + 1;
@@ -246,7 +246,7 @@ impl DeepExpr {
     ) -> Result<DeepExpr, NoMemory>
         requires left { left.depth < 1000 }
         requires right { right.depth < 1000 }
-        ensures tree { Makes result (form.Binary op) (At line ▹ expr_view left.tree ▹ expr_view right.tree ▹ none) }
+        ensures tree { MakesExpr result line (form.Binary op) (operands left right) }
         ensures depth { IfOk result (λ x. x.depth ≡ max left.depth right.depth + 1) }
     {
         let depth = left.depth.max(right.depth) + 1;
@@ -265,7 +265,7 @@ impl DeepExpr {
         requires left { left.depth < 1000 }
         requires yes { yes.depth < 1000 }
         requires no { no.depth < 1000 }
-        ensures tree { Makes result form.Cond (At line ▹ expr_view left.tree ▹ expr_view yes.tree ▹ expr_view no.tree ▹ none) }
+        ensures tree { MakesExpr result line form.Cond (expr_view left.tree ▹ operands yes no) }
         ensures depth { IfOk result (λ x. x.depth ≡ max (max left.depth yes.depth) no.depth + 1) }
     {
         let depth = left.depth.max(yes.depth).max(no.depth) + 1;
@@ -283,7 +283,7 @@ impl DeepExpr {
     ) -> Result<DeepExpr, NoMemory>
         requires left { left.depth < 1000 }
         requires right { right.depth < 1000 }
-        ensures tree { Makes result (form.Assign op) (At line ▹ expr_view left.tree ▹ expr_view right.tree ▹ none) }
+        ensures tree { MakesExpr result line (form.Assign op) (operands left right) }
         ensures depth { IfOk result (λ x. x.depth ≡ max left.depth right.depth + 1) }
     {
         let depth = left.depth.max(right.depth) + 1;
@@ -300,7 +300,7 @@ impl DeepExpr {
     ) -> Result<DeepExpr, NoMemory>
         requires left { left.depth < 1000 }
         requires right { right.depth < 1000 }
-        ensures tree { Makes result form.Comma (At line ▹ expr_view left.tree ▹ expr_view right.tree ▹ none) }
+        ensures tree { MakesExpr result line form.Comma (operands left right) }
         ensures depth { IfOk result (λ x. x.depth ≡ max left.depth right.depth + 1) }
     {
         let depth = left.depth.max(right.depth) + 1;

@@ -1,9 +1,8 @@
 //! Tokens from left to right, and the names that are declared.
 
-ghost use Rattle.std.specs.Prelude.{◌≡◌, ◌<◌, ◌+◌, ◌^◌, ◌-◌, ◌&&◌, not, if◌then◌else◌, length, take, IfOk};
-ghost use Rattle.grammar_reading.specs.Declarators.{leading_consts, past_consts, maybe_name_at};
-ghost use Rattle.grammar_reading.specs.Reading.{goes_on_inside, nothing_read, parts_of};
-ghost use Rattle.c_tree.specs.Grammar.{closed};
+ghost use Rattle.std.specs.Prelude.{◌≡◌, ◌<◌, ◌+◌, ◌^◌, ◌-◌, ◌&&◌, not, if◌then◌else◌, length, IfOk};
+ghost use Rattle.grammar_reading.specs.Declarators.{leading_consts, past_consts, maybe_name_at, is_void_list, tag_names_only};
+ghost use Rattle.grammar_reading.specs.Reading.{goes_on_inside};
 ghost use Rattle.c_tree.specs.Tree.{none};
 ghost use Rattle.c_tree.specs.declared.word.Sign.TheVariants as sign;
 ghost use Rattle.c_tree.specs.declared.word.Keyword.TheVariants as keyword;
@@ -15,7 +14,8 @@ ghost use Rattle.parser_parts.specs.Gives.{Passes, Reads};
 ghost use Rattle.c_tree.specs.View.{name_leaf};
 ghost use Rattle.c_tree.specs.Words.{Key, Mark};
 ghost use Rattle.c_tree.specs.Scopes as scopes;
-ghost use Rattle.parser_parts.specs.Names.{name_now, oldest};
+ghost use Rattle.parser_parts.specs.Names.{name_now};
+ghost use Rattle.parser_parts.specs.States.{with_words, keeping, outside, outside_params, closing};
 
 use crate::declared::{Entry, Named, Names, copied, declare_all};
 use crate::error::ReadError;
@@ -274,7 +274,7 @@ impl<'a> Reader<'a> {
 
     /// Ends a scope: what was declared in it holds no longer.
     pub fn leave(&mut self, outer: Outer) -> Result<(), NoMemory>
-        ensures { IfOk result (λ _. self.new ≡ record { words = self.old.words; scope = record { names = oldest outer.count self.old.scope.names; typedef = outer.typedef }; params = self.old.params }) }
+        ensures { IfOk result (λ _. self.new ≡ outside outer self.old) }
     {
         self.names.cut(outer.count)?;
         self.typedef = outer.typedef;
@@ -305,7 +305,7 @@ impl<'a> Reader<'a> {
 
     /// Says whether specs begin with these tokens.
     fn starts(&self, words: &[Token]) -> bool
-        ensures { result ≡ state.starts_type (record { words = words.now; scope = self.now.scope; params = self.now.params }) }
+        ensures { result ≡ state.starts_type (with_words words.now self.now) }
     {
         match words {
             [] => false,
@@ -319,7 +319,7 @@ impl<'a> Reader<'a> {
 
     /// Says whether a type's name in parentheses begins with these tokens.
     fn opens(&self, words: &[Token]) -> bool
-        ensures { result ≡ state.opens_type (record { words = words.now; scope = self.now.scope; params = self.now.params }) }
+        ensures { result ≡ state.opens_type (with_words words.now self.now) }
     {
         match words {
             [] => false,
@@ -377,7 +377,7 @@ impl<'a> Reader<'a> {
 
     /// With parameters that were kept.
     pub fn keep_params(&mut self, held: Params<'a>)
-        ensures { self.new ≡ record { words = self.old.words; scope = self.old.scope; params = held.entry } }
+        ensures { self.new ≡ keeping held.entry self.old }
     {
         let Params { names } = held;
         self.params = names;
@@ -385,7 +385,7 @@ impl<'a> Reader<'a> {
 
     /// Ends a parameter list, whose names are kept.
     pub fn leave_params(&mut self, alloc: Global, outer: Outer) -> Result<(), NoMemory>
-        ensures { IfOk result (λ _. self.new ≡ record { words = self.old.words; scope = record { names = oldest outer.count self.old.scope.names; typedef = outer.typedef }; params = take (length self.old.scope.names - outer.count) self.old.scope.names }) }
+        ensures { IfOk result (λ _. self.new ≡ outside_params outer self.old) }
     {
         self.params = self.names.behind(alloc, outer.count)?;
         self.names.cut(outer.count)?;
@@ -403,14 +403,14 @@ impl<'a> Reader<'a> {
 
     /// Says whether a tag stands here without braces.
     pub fn is_tag_alone(&self) -> bool
-        ensures { result ≡ (state.kind_is_name (state.kind_at (state.skip self.now)) && not (state.at_mark sign.LeftBrace (state.skip (state.skip self.now)))) }
+        ensures { result ≡ tag_names_only (less 0) 0 self.now }
     {
         is_name(self.kind_behind()) && !is_mark(self.kind_behind_two(), Sign::LeftBrace)
     }
 
     /// Says whether a parameter list is `(void)`.
     pub fn is_void_list(&self) -> bool
-        ensures { result ≡ (state.at_key keyword.Void (state.skip self.now) && state.at_mark sign.RightParen (state.skip (state.skip self.now))) }
+        ensures { result ≡ is_void_list self.now }
     {
         is_key(self.kind_behind(), Keyword::Void)
             && is_mark(self.kind_behind_two(), Sign::RightParen)
@@ -443,7 +443,7 @@ impl<'a> Reader<'a> {
 
     /// Passes a closing brace, behind a comma or not.
     pub fn closing(&mut self, trailing: bool) -> Result<(), ReadError>
-        ensures { Reads (λ _. none) result self.new (parts_of (λ place. nothing_read) (closed trailing) self.old) }
+        ensures { Reads (λ _. none) result self.new (closing trailing self.old) }
     {
         if trailing {
             self.mark(Sign::Comma)?;

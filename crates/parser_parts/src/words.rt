@@ -1,15 +1,13 @@
 //! The words of specs, and a tally of them.
 
-ghost use Rattle.std.specs.Prelude.{◌≡◌, ◌<◌, ◌≤◌, ◌+◌, ◌^◌, max, [], IfOk};
+ghost use Rattle.std.specs.Prelude.{◌≡◌, ◌<◌, max, [], IfOk};
 ghost use Rattle.c_tree.specs.Forms as form;
 ghost use Rattle.c_tree.specs.Depth.{depth as depth_of};
-ghost use Rattle.c_tree.specs.Tree.{Leaf, Node, none, ◌▹◌};
+ghost use Rattle.c_tree.specs.Tree.{Node, none, ◌▹◌};
 ghost use Rattle.c_tree.specs.View.{spec_tree, key_leaf, name_leaf};
-ghost use Rattle.c_tree.specs.StatementView.{trees, tag_view};
+ghost use Rattle.c_tree.specs.StatementView.{tag_view};
 ghost use Rattle.grammar_reading.specs.Declarators as spec;
-ghost use Rattle.grammar_reading.specs.Reading.{snoc};
-ghost use Rattle.grammar_reading.specs.State.{word_at};
-ghost use Rattle.parser_parts.specs.Tallies.{tally_of, total};
+ghost use Rattle.parser_parts.specs.Trees.{Adds, spec_words_of};
 ghost use Rattle.grammar_reading.specs.declared.kind.SpecStart.TheVariants as starts;
 
 use crate::deep::{DeepTag, DeepWords};
@@ -34,7 +32,7 @@ impl DeepWords {
     #[tactic(auto, using(crate::proofs::Parts::trees_behind, crate::proofs::Parts::depth_behind))]
     fn with_flat(self, word: Spec) -> Result<DeepWords, NoMemory>
         requires { depth_of (spec_tree word) ≡ 0 }
-        ensures list { IfOk result (λ x. trees spec_tree x.list.items ≡ snoc (trees spec_tree self.list.items) (spec_tree word)) }
+        ensures list { Adds spec_words_of result self (spec_tree word) }
         ensures depth { IfOk result (λ x. x.depth ≡ self.depth) }
     {
         let mut list = self.list;
@@ -46,7 +44,7 @@ impl DeepWords {
     /// With a tag.
     #[tactic(auto, using(crate::proofs::Parts::trees_behind, crate::proofs::Parts::depth_behind))]
     pub fn with_tag(self, tag: DeepTag) -> Result<DeepWords, NoMemory>
-        ensures list { IfOk result (λ x. trees spec_tree x.list.items ≡ snoc (trees spec_tree self.list.items) (tag_view tag.tree)) }
+        ensures list { Adds spec_words_of result self (tag_view tag.tree) }
         ensures depth { IfOk result (λ x. x.depth ≡ max self.depth tag.depth) }
     {
         let mut list = self.list;
@@ -58,7 +56,7 @@ impl DeepWords {
     /// With a typedef name.
     #[tactic(auto, unfolding(c_tree::specs::Depth::below, c_tree::specs::Depth::layers, c_tree::specs::Depth::greatest_depth, c_tree::specs::Depth::is_of_declarator, c_tree::specs::Depth::weight, c_tree::specs::Grammar::form_home))]
     pub fn with_name(self, name: Items<u8>) -> Result<DeepWords, NoMemory>
-        ensures list { IfOk result (λ x. trees spec_tree x.list.items ≡ snoc (trees spec_tree self.list.items) (Node form.TypedefName (name_leaf name ▹ none))) }
+        ensures list { Adds spec_words_of result self (Node form.TypedefName (name_leaf name ▹ none)) }
         ensures depth { IfOk result (λ x. x.depth ≡ self.depth) }
     {
         self.with_flat(Spec::named(name))
@@ -68,7 +66,7 @@ impl DeepWords {
     #[tactic(auto, unfolding(c_tree::specs::Depth::below, c_tree::specs::Depth::layers))]
     pub fn with_keyword(self, keyword: Keyword) -> Result<DeepWords, NoMemory>
         requires { spec.spec_key keyword ≡ starts.Word }
-        ensures list { IfOk result (λ x. trees spec_tree x.list.items ≡ snoc (trees spec_tree self.list.items) (key_leaf keyword)) }
+        ensures list { Adds spec_words_of result self (key_leaf keyword) }
         ensures depth { IfOk result (λ x. x.depth ≡ self.depth) }
     {
         self.with_flat(key_spec(keyword))
