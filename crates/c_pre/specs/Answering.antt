@@ -1,6 +1,6 @@
 -- What functions answer and leave, against what a definition expects. Want of memory may come in place of it, and of it
 -- nothing is said.
-use Rattle.std.specs.Prelude.{◌≡◌, ◌⊎◌, ◌≤◌, ⊤, ℕ, ◌+◌, Bool, true, false, All, List, Option, Result, Ok, Err}
+use Rattle.std.specs.Prelude.{◌≡◌, ◌⊎◌, ◌≤◌, ⊤, ℕ, ◌+◌, Bool, true, false, All, List, Option, Some, Result, Ok, Err}
 use Rattle.std.specs.List.{list_all}
 use Rattle.c_lexer.specs.declared.token.Token.{Token}
 use Rattle.c_lexer.specs.declared.token.LexError.{LexError}
@@ -8,10 +8,13 @@ use Rattle.c_lexer.specs.declared.token.LexError.TheVariants as lex
 use Rattle.c_pre.specs.Directives.{is_path_byte}
 use Rattle.c_pre.specs.Steps.{Next, Goes, Ends, Stops}
 use Rattle.c_pre.specs.Reading.{Step}
+use Rattle.c_pre.specs.Texts.{with_text, entered, text_read, below, preprocessed, preprocessed_behind}
+use Rattle.c_pre.specs.declared.answer.Pre.{Pre}
 use Rattle.c_pre.specs.declared.answer.PreError.{PreError}
 use Rattle.c_pre.specs.declared.answer.PreError.TheVariants as error
 use Rattle.c_pre.specs.declared.answer.Refusal.{Refusal}
 use Rattle.c_pre.specs.declared.answer.Refusal.TheVariants.{Bad, Lex, NoMemory}
+use Rattle.c_pre.specs.declared.answer.Sources.{Sources}
 use Rattle.c_pre.specs.declared.here.Here.{Here}
 use Rattle.c_pre.specs.declared.preprocessor.Source.{Source}
 use Rattle.c_pre.specs.declared.progress.Progress.{Progress}
@@ -97,3 +100,24 @@ FailsAt name e = ⊤
 abbrev pub FailsBelow : List ℕ → PreError → Type 0
 FailsBelow name (error.Fault failed) = (failed ≡ name) ⊎ (list_all is_path_byte failed ≡ true)
 FailsBelow name e = ⊤
+
+-- something holds of the texts by name, where it is told what they are
+abbrev pub Told : Option (List ℕ → List ℕ) → ((List ℕ → List ℕ) → Type 0) → Type 0
+Told texts holds = (told : List ℕ → List ℕ) → texts ≡ Some told → holds told
+
+-- the text of a name is opened and kept
+abbrev pub EntersTold : Option (List ℕ → List ℕ) → List ℕ → Progress → Progress → Result Source PreError → Type 0
+EntersTold texts name old new result =
+    Told texts (λ told. Enters (entered name (told name) old) (with_text name (told name) old) new result)
+
+-- it is read, with all that it includes, of which so many may be open, one in another
+abbrev pub ComesTold : {T : Type 0} → Option (List ℕ → List ℕ) → ℕ → List ℕ → Progress → Progress → Result T PreError → Type 0
+ComesTold texts left name old new result =
+    Told texts (λ told. Comes (text_read (below told left) name (told name) old) new result)
+
+-- its tokens are given, behind these texts, and of it alone
+abbrev pub GivesBehind : Option (List ℕ → List ℕ) → Sources → List ℕ → Result (List Token × Sources) PreError → Type 0
+GivesBehind texts before file result = Told texts (λ told. Gives (preprocessed_behind before told file) result)
+
+abbrev pub GivesTold : Option (List ℕ → List ℕ) → List ℕ → ℕ → Result Pre PreError → Type 0
+GivesTold texts file used result = Told texts (λ told. Gives (preprocessed told file used) result)

@@ -1,5 +1,6 @@
 -- The forms of directives (C99 6.10, narrowed).
 use Rattle.std.specs.Prelude.{ℕ, ◌-◌, Bool, true, false, not, ◌==◌, ◌||◌, ◌&&◌, bytes_eq, if◌then◌else◌, List, [], ◌∷◌, ◌++◌, length, take, drop, Option, Some, None, option_map, codes}
+use Rattle.std.specs.Borrow.{Bor}
 use Rattle.std.specs.List.{list_all, list_any}
 use Rattle.c_lexer.specs.Bytes.{is_name_byte}
 use Rattle.c_lexer.specs.declared.token.Token.{Token}
@@ -105,6 +106,10 @@ abbrev pub define_of : List ℕ → List Token → Option Directive
 define_of rest [] = None
 define_of rest (name ∷ behind) =
     if is_name name then option_map Define (macro_behind (takes_arguments rest) name.bytes behind) else None
+
+-- the bytes of a name that is lent, where there is one
+abbrev pub bytes_now : Option (Bor (List ℕ)) → Option (List ℕ)
+bytes_now name = option_map (λ name. name.now) name
 
 -- the directive that does this with a name
 abbrev pub named_by : Naming → List ℕ → Directive

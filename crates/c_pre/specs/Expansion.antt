@@ -2,7 +2,7 @@
 -- from it. The run is scanned from left to right. A name of a macro that is not hidden from it is replaced: one of a
 -- function-like macro only where a `(` is the next token, and then by way of its arguments, each of which is expanded alone and
 -- once. The scan goes on at the first token of what stands in its place.
-use Rattle.std.specs.Prelude.{ℕ, zero, suc, ◌+◌, ◌-◌, ◌*◌, ◌==◌, Bool, false, ◌&&◌, bytes_eq, nat_lt, if◌then◌else◌, List, [], ◌∷◌, ◌++◌, length, map, drop, slice_get, Option, Some, None, unwrap_or, Result, Ok, Err}
+use Rattle.std.specs.Prelude.{◌≡◌, ◌≢◌, ◌<◌, ◌≤◌, MatchOption, ℕ, zero, suc, ◌+◌, ◌-◌, ◌*◌, ◌==◌, Bool, false, ◌&&◌, bytes_eq, nat_lt, if◌then◌else◌, List, [], ◌∷◌, ◌++◌, length, map, drop, slice_get, Option, Some, None, unwrap_or, Result, Ok, Err}
 use Rattle.std.specs.FinSet as set
 use Rattle.c_lexer.specs.declared.token.Token.{Token}
 use Rattle.c_pre.specs.After.{and_then}
@@ -33,6 +33,10 @@ put_on line numbers m = record {
   hidden = set.union m.hidden numbers;
 }
 
+-- a token with what is hidden from it
+abbrev pub marked : Token → Numbers → Marked
+marked token hidden = record { token = token; hidden = hidden }
+
 -- a macro, where it is not hidden
 abbrev pub unhidden : Numbers → Option Defined → Option Defined
 unhidden hidden None = None
@@ -56,6 +60,15 @@ abbrev pub part_by : List (List Marked) → Token → Option ℕ → List Marked
 part_by expanded token None = fresh token ∷ []
 part_by expanded token (Some i) = unwrap_or (slice_get expanded i) []
 
+-- the parameters of a macro, none of an object-like one
+abbrev pub parameters_of : Option (List (List ℕ)) → List (List ℕ)
+parameters_of None = []
+parameters_of (Some names) = names
+
+-- the tokens in place of one token of this macro
+abbrev pub part_of : Macro → List (List Marked) → Token → List Marked
+part_of m expanded token = part_by expanded token (place_of (parameters_of m.parameters) token.bytes)
+
 -- the tokens in place of those of a macro
 abbrev pub substituted : ℕ → Numbers → List (List ℕ) → List (List Marked) → List Token → List Marked
 substituted line numbers parameters expanded [] = []
@@ -63,14 +76,22 @@ substituted line numbers parameters expanded (token ∷ tokens) =
     map (put_on line numbers) (part_by expanded token (place_of parameters token.bytes))
     ++ substituted line numbers parameters expanded tokens
 
--- the parameters of a macro, none of an object-like one
-abbrev pub parameters_of : Option (List (List ℕ)) → List (List ℕ)
-parameters_of None = []
-parameters_of (Some names) = names
-
 -- what stands in place of a macro
 abbrev pub replaced : ℕ → Numbers → List (List Marked) → Macro → List Marked
 replaced line numbers expanded m = substituted line numbers (parameters_of m.parameters) expanded m.replacement
+
+-- the same of one token of a macro
+abbrev pub put_part : ℕ → Numbers → Macro → List (List Marked) → Token → List Marked
+put_part line numbers m expanded token = map (put_on line numbers) (part_of m expanded token)
+
+-- whether what stands in place of a macro has more than so many tokens is told, on whatever line and by whatever numbers
+abbrev pub TellsLonger : ℕ → List (List Marked) → Macro → Bool → Type 0
+TellsLonger most expanded m longer =
+    (line : ℕ) (numbers : Numbers) → longer ≡ nat_lt most (length (replaced line numbers expanded m))
+
+-- these tokens are given, unless they are more than so many
+abbrev pub GivesAtMost : ℕ → List Marked → Option (List Marked) → Type 0
+GivesAtMost most tokens found = MatchOption found (most < length tokens) (λ given. (given ≡ tokens) × (length given ≤ most))
 
 -- what a call has behind its `(`: its arguments, what is hidden from its `)`, and what stands behind that
 abbrev pub split_from : ℕ → List (List Marked) → List Marked → List Marked → Option Split
@@ -170,3 +191,7 @@ enough tokens work = 3 * (most_work + 1 - work) + 3 * length tokens + 1
 -- the tokens of a run with its macros replaced, behind so much work
 unfoldable pub expanded : Table → List Token → ℕ → Result Expanded Refusal
 expanded macros tokens work = scanned macros (enough (map fresh tokens) work) work (map fresh tokens)
+
+-- the replacement of macros comes to an end
+abbrev pub ReplacementEnds : Type 0
+ReplacementEnds = (macros : Table) (tokens : List Token) (work : ℕ) → expanded macros tokens work ≢ Err NoMemory

@@ -12,6 +12,7 @@ pub mod Macros
 pub mod Reading
 pub mod Rows
 pub mod Splitting
+pub mod Taking
 pub mod Steps
 pub mod Table
 pub mod Texts

@@ -49,6 +49,10 @@ with_expanded base p (Err (Bad kind line)) = Err (Bad kind (line - base))
 with_expanded base p (Err (Lex kind line)) = Err (Lex kind (line - base))
 with_expanded base p (Err NoMemory) = Err NoMemory
 
+-- the same, by the tokens before their macros are replaced
+abbrev pub run_expanded : ℕ → List Token → Progress → Result Progress Refusal
+run_expanded base tokens p = with_expanded base p (expanded p.macros tokens p.work)
+
 -- with the tokens of a run of text lines, or the line of its first bad place
 abbrev pub with_run : Here → Progress → Result (List Token) LexError → Result Progress Refusal
 with_run here p (Ok tokens) =

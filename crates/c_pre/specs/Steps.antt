@@ -6,6 +6,7 @@ use Rattle.c_pre.specs.Expansion.{most_work, enough, fresh, macro_for, replaced,
 use Rattle.c_pre.specs.Macros.{found}
 use Rattle.c_pre.specs.Table.{Table, Numbers}
 use Rattle.c_pre.specs.declared.macros.Defined.{Defined}
+use Rattle.c_pre.specs.declared.macros.Macro.{Macro}
 use Rattle.c_pre.specs.declared.answer.PreKind.TheVariants as kind
 use Rattle.c_pre.specs.declared.answer.Refusal.{Refusal}
 use Rattle.c_pre.specs.declared.answer.Refusal.TheVariants.{Bad, NoMemory}
@@ -59,6 +60,18 @@ called t number parameters (Some split) s =
     if fits parameters split.args then Goes (begun t (function_hides t number split) split s)
     else Stops (Bad kind.Arguments t.token.line)
 
+-- a call begins at a name with what stands behind its `(`, and what is hidden from both
+abbrev pub call_begun : Marked → ℕ → Split → Scan → Next
+call_begun t number split s = Goes (begun t (function_hides t number split) split s)
+
+-- at a name before a `(`
+abbrev pub at_call : Marked → ℕ → List (List ℕ) → Scan → Next
+at_call t number parameters s = called t number parameters (split_from 0 [] [] (drop 1 s.rest)) s
+
+-- what stands in place of a macro is put in
+abbrev pub replaced_in : ℕ → Numbers → List (List Marked) → Macro → Scan → Next
+replaced_in line numbers expanded m s = put_in line (replaced line numbers expanded m) s
+
 -- a token is done
 abbrev pub kept : Marked → Scan → Next
 kept t s = Goes (record s { done = s.done ++ t ∷ [] })
@@ -86,6 +99,11 @@ abbrev pub argument_done : Table → Call → List (List Marked) → Scan → Ne
 argument_done macros call [] s = ended call (found call.name macros) s
 argument_done macros call (arg ∷ args) s =
     Goes (record s { done = []; rest = arg; calls = s.calls ++ record call { left = args } ∷ [] })
+
+-- behind an argument of a call whose tokens are done
+abbrev pub argument_ended : Table → Call → Scan → Next
+argument_ended macros call s =
+    argument_done macros (record call { expanded = call.expanded ++ s.done ∷ [] }) call.left s
 
 -- behind the tokens that are left: an argument of the innermost call is done, or all is
 abbrev pub rest_done : Table → Option Call → Scan → Next

@@ -1,5 +1,5 @@
 -- Sets of numbers that share their parts.
-use Rattle.std.specs.Prelude.{ℕ, ◌+◌, ◌-◌, Bool, false, not, ◌&&◌, nat_lt, if◌then◌else◌, List, [], ◌++◌, map}
+use Rattle.std.specs.Prelude.{◌≡◌, ℕ, ◌+◌, ◌-◌, Bool, false, not, ◌&&◌, nat_lt, if◌then◌else◌, List, [], ◌++◌, map}
 use Rattle.std.specs.FinSet as set
 use Rattle.std.specs.List.{filter, range_with_len}
 use Rattle.c_pre.specs.Table.{Numbers}
@@ -11,6 +11,14 @@ has Empty n = false
 has (Range from to) n = not (nat_lt n from) && nat_lt n to
 has (Parts' p half low high) n =
     if nat_lt n half then has low n else has high (n - half)
+
+-- a set is joined of two others: of the numbers below a half, and of the others, less the half
+abbrev pub IsJoined : ℕ → Tree → Tree → Tree → Type 0
+IsJoined half low high whole = (n : ℕ) → has whole n ≡ (if nat_lt n half then has low n else has high (n - half))
+
+-- a number is from one on and below another
+abbrev pub is_between : ℕ → ℕ → ℕ → Bool
+is_between from to n = not (nat_lt n from) && nat_lt n to
 
 -- the numbers of a set
 abbrev pub members : Tree → List ℕ

@@ -2,7 +2,7 @@
 
 ghost use Rattle.std.specs.Prelude.{◌≡◌, [], true, option_map, IfOk, IfSome};
 ghost use Rattle.std.specs.List.{list_all};
-ghost use Rattle.c_pre.specs.Directives.{is_name, is_sign, only_name, is_path_byte, path_of, included_name, include_of, takes_arguments, names_from, signature_of, macro_behind, define_of, named_by, alone, directive_by, directive_of};
+ghost use Rattle.c_pre.specs.Directives.{is_name, is_sign, only_name, is_path_byte, path_of, included_name, include_of, takes_arguments, names_from, signature_of, macro_behind, define_of, named_by, bytes_now, alone, directive_by, directive_of};
 
 use crate::comments::begins_with;
 use crate::copies::{copied, copied_tokens};
@@ -214,7 +214,7 @@ fn with_name(
     naming: Naming,
     name: Option<&[u8]>,
 ) -> Result<Option<Directive>, NoMemory>
-    ensures { IfOk result (λ directive. directive ≡ option_map (named_by naming) (option_map (λ name. name.now) name.entry)) }
+    ensures { IfOk result (λ it. it ≡ option_map (named_by naming) (bytes_now name.entry)) }
 {
     let Some(name) = name else {
         return Ok(None);
@@ -228,7 +228,7 @@ fn with_name(
 
 /// Reads what stands behind `include`.
 fn read_include(alloc: Global, args: &[Token]) -> Result<Option<Directive>, NoMemory>
-    ensures { IfOk result (λ directive. directive ≡ option_map Directive.Include (include_of args.now)) }
+    ensures { IfOk result (λ it. it ≡ option_map Directive.Include (include_of args.now)) }
 {
     match include_of(args) {
         None => Ok(None),

@@ -1,7 +1,7 @@
 //! Groups of lines that are read or skipped (C99 6.10.1).
 
 ghost use Rattle.std.specs.Prelude.{◌≡◌, [], ◌∷◌, ◌++◌, false, OnOk, codes};
-ghost use Rattle.c_pre.specs.Groups.{is_live, is_outermost, ends_skipping, is_read, turned, closed, skipped, is_word, first_line};
+ghost use Rattle.c_pre.specs.Groups.{is_live, is_outermost, ends_skipping, is_read, opened, turned, closed, skipped, is_word, first_line};
 ghost use Rattle.c_pre.specs.After.{at_line};
 ghost use Rattle.c_pre.specs.Answering.{Leaves};
 
@@ -120,7 +120,7 @@ impl Groups {
 
     /// Opens a group.
     pub(crate) fn open(&mut self, line: Line, live: bool) -> Result<(), NoMemory>
-        ensures { OnOk result (self.new ≡ self.old ++ record { line = line; turned = false; live = live } ∷ []) }
+        ensures { OnOk result (self.new ≡ self.old ++ opened line live ∷ []) }
     {
         self.list.push(Group {
             line,

@@ -1,9 +1,9 @@
 //! The macros that are hidden from a token, by their numbers.
 
-ghost use Rattle.std.specs.Prelude.{◌≡◌, ℕ, ◌≤◌, ◌-◌, ◌&&◌, ◌||◌, not, nat_lt, if◌then◌else◌, false, IfOk, IfSome, IsTrue};
+ghost use Rattle.std.specs.Prelude.{◌≡◌, ℕ, ◌≤◌, ◌-◌, ◌&&◌, ◌||◌, not, nat_lt, false, IfOk, IfSome, IsTrue};
 ghost use Rattle.std.specs.Ordering.{nat_cmp};
 ghost use Rattle.std.specs.FinSet as set;
-ghost use Rattle.c_pre.specs.Trees.{has};
+ghost use Rattle.c_pre.specs.Trees.{has, IsJoined, is_between};
 
 use hs_base::NoMemory;
 use std::alloc::Global;
@@ -109,7 +109,7 @@ fn top_half(tree: &Tree) -> u32 {
 /// The numbers of a set below a half, and the others, less the half. Where a set is in two parts, it is parted there, or all its
 /// numbers are below: all sets are parted at powers of two.
 fn split(tree: &Tree, half: u32) -> Result<(Tree, Tree), NoMemory>
-    ensures { IfOk result (λ parts. (n : ℕ) → has tree.now n ≡ (if nat_lt n half then has parts.0 n else has parts.1 (n - half))) }
+    ensures { IfOk result (λ parts. IsJoined half parts.0 parts.1 tree.now) }
 {
     match tree {
         Tree::Empty => Ok((Tree::Empty, Tree::Empty)),
@@ -131,7 +131,7 @@ fn split(tree: &Tree, half: u32) -> Result<(Tree, Tree), NoMemory>
 
 /// The set of two parts as one range, where it is one.
 fn joined_range(half: u32, low: &Tree, high: &Tree) -> Option<Tree>
-    ensures { IfSome result (λ whole. (n : ℕ) → has whole n ≡ (if nat_lt n half then has low.now n else has high.now (n - half))) }
+    ensures { IfSome result (IsJoined half low.now high.now) }
 {
     match (low, high) {
         (Tree::Empty, Tree::Empty) => Some(Tree::Empty),
@@ -148,7 +148,7 @@ fn joined_range(half: u32, low: &Tree, high: &Tree) -> Option<Tree>
 
 /// The set of two parts.
 fn joined(alloc: Global, half: u32, low: Tree, high: Tree) -> Result<Tree, NoMemory>
-    ensures { IfOk result (λ whole. (n : ℕ) → has whole n ≡ (if nat_lt n half then has low n else has high (n - half))) }
+    ensures { IfOk result (IsJoined half low high) }
 {
     match joined_range(half, &low, &high) {
         Some(whole) => Ok(whole),
@@ -184,7 +184,7 @@ fn is_same(left: &Tree, right: &Tree, looks: u32) -> Option<u32>
 
 /// Whether a range lies in a set. The answer no says nothing.
 fn range_is_within(from: u32, to: u32, tree: &Tree) -> bool
-    ensures { (n : ℕ) → IsTrue result → IsTrue (not (nat_lt n from) && nat_lt n to) → IsTrue (has tree.now n) }
+    ensures { (n : ℕ) → IsTrue result → IsTrue (is_between from to n) → IsTrue (has tree.now n) }
 {
     match tree {
         Tree::Empty => from >= to,

@@ -1,7 +1,7 @@
 //! Tokens with the names that are hidden from them.
 
 ghost use Rattle.std.specs.Prelude.{◌≡◌, IfOk, map, option_copied};
-ghost use Rattle.c_pre.specs.Expansion.{fresh, put_on, macro_for};
+ghost use Rattle.c_pre.specs.Expansion.{fresh, marked, put_on, macro_for};
 
 use crate::copies::copied;
 use crate::directive::is_name;
@@ -56,7 +56,7 @@ pub(crate) fn put_on(
     token: &Token,
     hidden: &Hidden,
 ) -> Result<Marked, NoMemory>
-    ensures { IfOk result (λ made. made ≡ put_on line numbers.now (record { token = token.now; hidden = hidden.now })) }
+    ensures { IfOk result (λ made. made ≡ put_on line numbers.now (marked token.now hidden.now)) }
 {
     Ok(Marked {
         token: Token {

@@ -3,8 +3,8 @@
 ghost use Rattle.std.specs.Prelude.{◌≡◌, ℕ, ◌+◌, ◌*◌, ◌<◌, ◌≤◌, ◌^◌, List, Some, length, take, All, IfOk, IfErr, OnOk};
 ghost use Rattle.c_pre.specs.Formed.{IsFormed, Formed};
 ghost use Rattle.c_pre.specs.Lines.{line_length};
-ghost use Rattle.c_pre.specs.Texts.{most_bytes, line_count, refused, with_text, opened, entered, text_read, below, preprocessed, preprocessed_behind};
-ghost use Rattle.c_pre.specs.Answering.{Gives, Enters, Comes, CountsFault, FailsAt, FailsBelow};
+ghost use Rattle.c_pre.specs.Texts.{most_bytes, line_count, refused, with_text, opened};
+ghost use Rattle.c_pre.specs.Answering.{Gives, EntersTold, ComesTold, GivesBehind, GivesTold, CountsFault, FailsAt, FailsBelow};
 ghost use Rattle.c_pre.specs.Bounds.{Adds, Opens, Grows, Lengthens, most_tokens};
 
 use crate::answer::{Opened, Place, Pre, PreError, PreKind, Refusal, Sources};
@@ -137,7 +137,7 @@ impl Progress {
         requires count { T.faults texts.old + 1 < 2 ^ 64 }
         requires used { self.old.used ≤ most_bytes }
         requires lines { self.old.lines ≤ 2 * self.old.used + 63 }
-        ensures told { (told : List ℕ → List ℕ) → T.texts texts.old ≡ Some told → Enters (entered name (told name) self.old) (with_text name (told name) self.old) self.new result }
+        ensures told { EntersTold (T.texts texts.old) name self.old self.new result }
         ensures opens { IfOk result (Opens self.old self.new) }
         ensures named { IfErr result (FailsAt name) }
         ensures keeps { T.texts texts.new ≡ T.texts texts.old }
@@ -173,7 +173,7 @@ impl Progress {
         requires count { T.faults texts.old + 1 < 2 ^ 64 }
         requires used { self.old.used ≤ most_bytes }
         requires lines { self.old.lines ≤ 2 * self.old.used + 63 }
-        ensures told { (told : List ℕ → List ℕ) → T.texts texts.old ≡ Some told → Comes (text_read (below told left) name (told name) self.old) self.new result }
+        ensures told { ComesTold (T.texts texts.old) left name self.old self.new result }
         ensures grows { OnOk result (Grows self.old self.new) }
         ensures formed { Formed self.old → OnOk result (Formed self.new) }
         ensures adds { Formed self.old → OnOk result (Adds self.old self.new) }
@@ -227,7 +227,7 @@ pub fn pre_behind<T: Texts>(
     requires count { T.faults texts.old + 1 < 2 ^ 64 }
     requires used { before.used ≤ most_bytes }
     requires lines { before.lines ≤ 2 * before.used + 63 }
-    ensures told { (told : List ℕ → List ℕ) → T.texts texts.old ≡ Some told → Gives (preprocessed_behind before told file.now) result }
+    ensures told { GivesBehind (T.texts texts.old) before file.now result }
     ensures forms { IfOk result (λ read. All IsFormed read.0) }
     ensures bounds { IfOk result (λ read. Lengthens before read.1 (length read.0)) }
     ensures named { IfErr result (FailsBelow file.now) }
@@ -262,7 +262,7 @@ pub fn pre_behind<T: Texts>(
 pub fn pre<T: Texts>(alloc: Global, texts: &mut T, file: &str, used: u32) -> Result<Pre, PreError>
     requires count { T.faults texts.old + 1 < 2 ^ 64 }
     requires used { used ≤ most_bytes }
-    ensures told { (told : List ℕ → List ℕ) → T.texts texts.old ≡ Some told → Gives (preprocessed told file.now used) result }
+    ensures told { GivesTold (T.texts texts.old) file.now used result }
     ensures forms { IfOk result (λ pre. All IsFormed pre.tokens) }
     ensures few { IfOk result (λ pre. length pre.tokens ≤ most_tokens) }
     ensures named { IfErr result (FailsBelow file.now) }

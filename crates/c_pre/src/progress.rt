@@ -1,9 +1,7 @@
 //! What was read so far.
 
-ghost use Rattle.std.specs.Prelude.{◌≡◌, [], ℕ, ◌+◌, ◌-◌, ◌<◌, ◌≤◌, ◌^◌, ◌++◌, All, IfOk, OnOk, length, map};
-ghost use Rattle.c_pre.specs.After.{at_line};
-ghost use Rattle.c_pre.specs.Expansion.{expanded};
-ghost use Rattle.c_pre.specs.Reading.{lexed, rest_lexed, moved, plain, with_expanded, with_run, run_ended, behind_line, at_header, with_text, obeyed, directive_on, directed_from, directed, passed, line_read, text_ended};
+ghost use Rattle.std.specs.Prelude.{◌≡◌, [], ◌+◌, ◌-◌, ◌<◌, ◌^◌, ◌++◌, All, OnOk, length, map};
+ghost use Rattle.c_pre.specs.Reading.{lexed, rest_lexed, moved, plain, run_expanded, run_ended, obeyed, directive_on, directed_from, directed, passed, line_read, text_ended};
 ghost use Rattle.c_pre.specs.Answering.{Answers, Leaves, GivesLexed, Steps};
 ghost use Rattle.c_pre.specs.Bounds.{Keeps, Stays, Counts, Fits};
 
@@ -117,7 +115,7 @@ impl Progress {
         base: Line,
         tokens: Items<Token>,
     ) -> Result<(), Refusal>
-        ensures run { Leaves (with_expanded base self.old (expanded self.old.macros tokens self.old.work)) self.new result }
+        ensures run { Leaves (run_expanded base tokens self.old) self.new result }
         ensures counts { OnOk result (Counts self.old self.new) }
     {
         match expand(alloc, &self.macros, tokens, self.work) {
@@ -142,7 +140,7 @@ impl Progress {
     fn take_tokens(&mut self, base: Line, lines: Line, tokens: Items<Token>) -> Result<(), Refusal>
         requires none { self.old.macros.names ≡ [] }
         requires lines { All (λ token. token.line + lines < 2 ^ 32) tokens }
-        ensures run { Leaves (with_expanded base self.old (expanded self.old.macros (map (moved lines) tokens) self.old.work)) self.new result }
+        ensures run { Leaves (run_expanded base (map (moved lines) tokens) self.old) self.new result }
         ensures counts { OnOk result (Counts self.old self.new) }
     {
         append(&mut self.tokens, tokens, lines)?;

@@ -1,6 +1,7 @@
 //! Lists that are taken from the front.
 
-ghost use Rattle.std.specs.Prelude.{◌≡◌, ◌==◌, [], ◌∷◌, ◌++◌, length, OnOk, option_copied, slice_get, MatchOption};
+ghost use Rattle.std.specs.Prelude.{◌≡◌, ◌==◌, [], ◌∷◌, ◌++◌, length, OnOk, option_copied, slice_get};
+ghost use Rattle.c_pre.specs.Taking.{TakesFirst};
 
 use hs_base::NoMemory;
 use std::alloc::Global;
@@ -54,7 +55,7 @@ impl<T> Queue<T> {
 
     /// Takes the first item.
     pub(crate) fn pop(&mut self) -> Option<T>
-        ensures { MatchOption result ((self.old ≡ []) × (self.new ≡ [])) (λ item. self.old ≡ item ∷ self.new) }
+        ensures { TakesFirst self.old self.new result }
     {
         self.list.pop_front()
     }

@@ -1,9 +1,8 @@
 //! Tokens that are left, in pieces of rows. What is cut from them is not copied, so a call in a call costs no more than its tokens.
 
-ghost use Rattle.std.specs.Prelude.{◌≡◌, ◌==◌, ℕ, List, ◌<◌, ◌≤◌, ◌+◌, [], ◌∷◌, ◌++◌, Some, IfOk, IfSome, OnOk, option_copied, length, slice_get, vec_len, MatchOption};
-ghost use Rattle.c_pre.specs.Expansion.{split_from};
+ghost use Rattle.std.specs.Prelude.{◌≡◌, ◌==◌, List, ◌<◌, ◌≤◌, ◌+◌, [], ◌++◌, Some, IfOk, IfSome, OnOk, option_copied, length, slice_get, vec_len};
 ghost use Rattle.c_pre.specs.Rows.{segment};
-ghost use Rattle.c_pre.specs.Splitting.{SplitsAt};
+ghost use Rattle.c_pre.specs.Taking.{TakesFirst, TakesCall, SplitsPiece};
 
 use crate::directive::is_sign;
 use crate::hidden::Hidden;
@@ -114,8 +113,7 @@ impl Rest {
 
     /// Takes the first token: a copy of it, since its row may be shared.
     pub(crate) fn pop(&mut self, alloc: Global) -> Result<Option<Marked>, NoMemory>
-        ensures { IfOk result (λ first.
-            MatchOption first ((self.old ≡ []) × (self.new ≡ [])) (λ token. self.old ≡ token ∷ self.new)) }
+        ensures { IfOk result (TakesFirst self.old self.new) }
     {
         let Some(Piece { row, from, to, .. }) = self.pieces.pop() else {
             return Ok(None);
@@ -128,9 +126,7 @@ impl Rest {
     /// Takes the arguments of a call whose `(` stood before these tokens, and what is hidden from its `)`, where that stands
     /// in the first piece.
     pub(crate) fn split(&mut self, alloc: Global) -> Result<Option<(Queue<Rest>, Hidden)>, NoMemory>
-        ensures { IfOk result (λ call. MatchOption call (self.new ≡ self.old) (λ it.
-            split_from 0 [] [] self.old
-            ≡ Some (record { args = it.0; hidden = it.1; rest = self.new }))) }
+        ensures { IfOk result (TakesCall self.old self.new) }
     {
         let Some(piece) = self.pieces.pop() else {
             return Ok(None);
@@ -152,8 +148,7 @@ impl Rest {
 
 /// The arguments of a call whose `(` stood before a piece, and where its `)` stands, if it stands in the piece.
 fn find_end(alloc: Global, piece: &Piece) -> Result<Option<Found>, NoMemory>
-    ensures { IfOk result (λ found. IfSome found (λ it.
-        SplitsAt piece.now.row.value.tokens.items piece.now.from piece.now.to it.args it.end)) }
+    ensures { IfOk result (λ found. IfSome found (SplitsPiece piece.now)) }
 {
     let row: &Row = &piece.row;
     let mut args = Queue::new(alloc);

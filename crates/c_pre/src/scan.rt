@@ -1,8 +1,8 @@
 //! The replacement of macros in a run of text lines (C99 6.10.3).
 
-ghost use Rattle.std.specs.Prelude.{◌≡◌, [], ◌∷◌, ◌++◌, drop};
-ghost use Rattle.c_pre.specs.Expansion.{object_hides, function_hides, replaced, split_from, expanded};
-ghost use Rattle.c_pre.specs.Steps.{put_in, kept, begun, Goes, called, at_macro, ended, argument_done, step, expanded_by_steps};
+ghost use Rattle.std.specs.Prelude.{[]};
+ghost use Rattle.c_pre.specs.Expansion.{replaced, expanded};
+ghost use Rattle.c_pre.specs.Steps.{put_in, replaced_in, kept, call_begun, at_call, at_macro, ended, argument_ended, step};
 ghost use Rattle.c_pre.specs.Macros.{found};
 ghost use Rattle.c_pre.specs.Answering.{StepsTo, Answers};
 
@@ -47,7 +47,7 @@ impl Scan {
         expanded: &[Items<Marked>],
         it: &Macro,
     ) -> Result<bool, Refusal>
-        ensures { StepsTo (put_in line (replaced line numbers.now expanded.now it.now) self.old) self.new result }
+        ensures { StepsTo (replaced_in line numbers.now expanded.now it.now self.old) self.new result }
     {
         let room = MOST_WORK.saturating_sub(self.work);
         let found = if room == 0 {
@@ -85,7 +85,7 @@ impl Scan {
         number: u32,
         split: Split,
     ) -> Result<bool, Refusal>
-        ensures { StepsTo (Goes (begun token (function_hides token number split) split self.old)) self.new result }
+        ensures { StepsTo (call_begun token number split self.old) self.new result }
     {
         let both = token.hidden.intersection(alloc, &split.hidden)?;
         let hidden = memo.with(alloc, &both, number)?;
@@ -119,7 +119,7 @@ impl Scan {
         number: u32,
         parameters: &Parameters,
     ) -> Result<bool, Refusal>
-        ensures { StepsTo (called token number parameters.now (split_from 0 [] [] (drop 1 self.old.rest)) self.old) self.new result }
+        ensures { StepsTo (at_call token number parameters.now self.old) self.new result }
     {
         let line = token.token.line;
         let mut rest = replace(&mut self.rest, Rest::new(alloc));
@@ -180,7 +180,7 @@ impl Scan {
 
     /// Behind an argument of a call: the next is scanned, or the call ends.
     fn end_argument(&mut self, alloc: Global, macros: &Macros, call: Call) -> Result<bool, Refusal>
-        ensures { StepsTo (argument_done macros.now (record call { expanded = call.expanded ++ self.old.done ∷ [] }) call.left self.old) self.new result }
+        ensures { StepsTo (argument_ended macros.now call self.old) self.new result }
     {
         let mut call = call;
         let done = replace(&mut self.done, Items::new(alloc));

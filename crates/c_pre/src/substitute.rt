@@ -1,8 +1,7 @@
 //! What stands in place of a macro.
 
-ghost use Rattle.std.specs.Prelude.{◌≡◌, ℕ, ◌<◌, ◌≤◌, nat_lt, ◌++◌, [], IfOk, OnOk, length, map, slice_get, unwrap_or, MatchOption};
-ghost use Rattle.c_pre.specs.Expansion.{put_on, place_of, part_by, parameters_of, replaced};
-ghost use Rattle.c_pre.specs.Table.{Numbers};
+ghost use Rattle.std.specs.Prelude.{◌≡◌, ◌++◌, [], IfOk, OnOk, length, map, slice_get, unwrap_or};
+ghost use Rattle.c_pre.specs.Expansion.{put_on, place_of, part_of, parameters_of, replaced, put_part, TellsLonger, GivesAtMost};
 
 use crate::hidden::Hidden;
 use crate::macros::Macro;
@@ -57,7 +56,7 @@ fn add_part(
     it: &Macro,
     token: &Token,
 ) -> Result<(), NoMemory>
-    ensures { OnOk result (to.new ≡ to.old ++ map (put_on line numbers.now) (part_by expanded.now token.now (place_of (parameters_of it.now.parameters) token.now.bytes))) }
+    ensures { OnOk result (to.new ≡ to.old ++ put_part line numbers.now it.now expanded.now token.now) }
 {
     match place_of(it, token.bytes.as_slice()) {
         Some(place) => add_tokens(alloc, to, line, numbers, argument(expanded, place)),
@@ -67,7 +66,7 @@ fn add_part(
 
 /// How many tokens stand in place of one token of a macro.
 fn part_length(expanded: &[Items<Marked>], it: &Macro, token: &Token) -> usize
-    ensures { result ≡ length (part_by expanded.now token.now (place_of (parameters_of it.now.parameters) token.now.bytes)) }
+    ensures { result ≡ length (part_of it.now expanded.now token.now) }
 {
     match place_of(it, token.bytes.as_slice()) {
         Some(place) => argument(expanded, place).len(),
@@ -78,7 +77,7 @@ fn part_length(expanded: &[Items<Marked>], it: &Macro, token: &Token) -> usize
 /// Whether more than so many tokens stand in place of a macro. Nothing is made for that, so that no memory is taken for
 /// what is refused.
 fn passes(expanded: &[Items<Marked>], it: &Macro, most: usize) -> bool
-    ensures { (line : ℕ) (numbers : Numbers) → result ≡ nat_lt most (length (replaced line numbers expanded.now it.now)) }
+    ensures { TellsLonger most expanded.now it.now result }
 {
     let mut room = most;
     for token in it.replacement.as_slice() {
@@ -100,7 +99,7 @@ pub(crate) fn replaced(
     it: &Macro,
     most: usize,
 ) -> Result<Option<Items<Marked>>, NoMemory>
-    ensures { IfOk result (λ found. MatchOption found (most < length (replaced line numbers.now expanded.now it.now)) (λ tokens. (tokens ≡ replaced line numbers.now expanded.now it.now) × (length tokens ≤ most))) }
+    ensures { IfOk result (GivesAtMost most (replaced line numbers.now expanded.now it.now)) }
 {
     if passes(expanded, it, most) {
         return Ok(None);
