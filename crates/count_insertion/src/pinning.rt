@@ -6,9 +6,9 @@ ghost use Rattle.local_liveness.specs.Tables.{IsTableOf};
 ghost use Rattle.count_insertion.specs.Inserted.{AreTables, may_count, pins_below, func_pins};
 
 use crate::copies::core_copy;
-use core_tree::{Core, Func, Stm, StmKind, live_by_paths};
+use core_tree::{Core, Func, StmKind};
 use hs_base::{Items, NoMemory};
-use local_liveness::{LiveTable, live_at};
+use local_liveness::{LiveTable, RegisterSet, live_at, none_live};
 use object_meaning::Pin;
 use std::alloc::Global;
 
@@ -26,31 +26,17 @@ fn fit(number: usize) -> Result<u32, NoMemory>
     u32::try_from(number).map_err(|_| NoMemory)
 }
 
-/// Says whether a register is one for pointers that is live after a point.
-fn holds_on(func: &Func, table: &LiveTable, point: u32, reg: u32) -> bool
-    requires table { IsTableOf table.now func.now }
-    requires point { point < length func.now.body }
-    requires reg { reg < length func.now.regs }
-    ensures { result ≡ holds_on func.now point reg }
+/// The registers of a function that are for pointers.
+fn pointers_of(alloc: Global, func: &Func) -> Result<RegisterSet, NoMemory>
+    ensures { IfOk result (λ pointers. HasPointers pointers func.now) }
 {
-    live_by_paths();
-    func.regs.as_slice()[reg as usize].pointer && table.is_live(point, reg)
-}
-
-/// Says whether a register counts at a statement.
-fn counts_at(func: &Func, table: &LiveTable, point: u32, kind: &StmKind, reg: u32) -> bool
-    requires table { IsTableOf table.now func.now }
-    requires point { point < length func.now.body }
-    requires reg { reg < length func.now.regs }
-    ensures { result ≡ counts_at func.now point kind.now reg }
-{
-    match kind {
-        StmKind::Call(_, None, _) | StmKind::Realloc(..) | StmKind::Free(_) | StmKind::Leave => {
-            holds_on(func, table, point, reg)
+    let mut pointers = RegisterSet::empty(alloc, func.regs.len())?;
+    for (place, reg) in func.regs.as_slice().iter().enumerate() {
+        if reg.pointer {
+            pointers.insert(fit(place)?);
         }
-        StmKind::Call(_, Some(answer), _) => holds_on(func, table, point, reg) && *answer != reg,
-        _ => false,
     }
+    Ok(pointers)
 }
 
 /// Says whether registers may count at a statement.
@@ -63,28 +49,57 @@ fn may_count(kind: &StmKind) -> bool
     )
 }
 
-/// Adds the pins of a point.
-fn add_pins(
-    pins: &mut Vec<Pin>,
-    func: &Func,
-    table: &LiveTable,
-    point: u32,
-    stm: &Stm,
-) -> Result<(), NoMemory>
-    requires table { IsTableOf table.now func.now }
-    requires point { point < length func.now.body }
-    ensures { IfOk result (λ _. pins.new.items ≡ pins.old.items ++ pins_below func.now point stm.now.kind (length func.now.regs)) }
+/// Makes a set of the registers that count at a statement behind which `live` is live.
+fn find_counting(
+    counting: &mut RegisterSet,
+    live: &RegisterSet,
+    pointers: &RegisterSet,
+    kind: &StmKind,
+)
 {
-    if !may_count(&stm.kind) {
-        return Ok(());
+    counting.become_common(live, pointers);
+    if let StmKind::Call(_, Some(answer), _) = kind {
+        counting.remove(*answer);
     }
-    for number in 0..func.regs.len() {
-        let reg = fit(number)?;
-        if counts_at(func, table, point, &stm.kind, reg) {
+}
+
+/// The pins of a point at which the registers of a set count.
+fn pins_at(
+    alloc: Global,
+    counting: &RegisterSet,
+    point: u32,
+    registers: u32,
+) -> Result<Vec<Pin>, NoMemory>
+{
+    let mut pins = Vec::new(alloc);
+    let mut from = 0;
+    while let Some(run) = counting.next_run(from, registers) {
+        for reg in run.first..run.end {
             pins.push(Pin { point, reg })?;
         }
+        from = run.end;
     }
-    Ok(())
+    Ok(pins)
+}
+
+/// The pins of a function, by points, from the last point to the first.
+fn pins_by_point(alloc: Global, func: &Func, table: &LiveTable) -> Result<Vec<Vec<Pin>>, NoMemory>
+    requires { IsTableOf table.now func.now }
+{
+    let registers = fit(func.regs.len())?;
+    let pointers = pointers_of(alloc, func)?;
+    let mut live = none_live(alloc, func)?;
+    let mut counting = RegisterSet::empty(alloc, func.regs.len())?;
+    let mut lists = Vec::new(alloc);
+    for place in (0..func.body.len()).rev() {
+        table.step_back(func, &mut live, place);
+        let kind = &func.body.as_slice()[place].kind;
+        if may_count(kind) {
+            find_counting(&mut counting, &live, &pointers, kind);
+            lists.push(pins_at(alloc, &counting, fit(place)?, registers)?)?;
+        }
+    }
+    Ok(lists)
 }
 
 /// The pins of a function.
@@ -92,9 +107,10 @@ fn pins_of(alloc: Global, func: &Func, table: &LiveTable) -> Result<Items<Pin>, 
     requires { IsTableOf table.now func.now }
     ensures { IfOk result (λ pins. pins ≡ func_pins func.now) }
 {
+    let lists = pins_by_point(alloc, func, table)?;
     let mut pins = Vec::new(alloc);
-    for (place, stm) in func.body.as_slice().iter().enumerate() {
-        add_pins(&mut pins, func, table, fit(place)?, stm)?;
+    for list in lists.iter().rev() {
+        pins.extend_from_slice(list)?;
     }
     Ok(Items::from(pins))
 }

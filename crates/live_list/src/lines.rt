@@ -2,13 +2,13 @@
 
 ghost use Rattle.std.specs.Prelude.{◌≡◌, ◌<◌, ◌++◌, codes, decimal, length, IfOk};
 ghost use Rattle.core_tree.specs.Listing.{register_word};
-ghost use Rattle.local_liveness.specs.Tables.{IsTableOf};
-ghost use Rattle.live_list.specs.Listing.{func_lines, live_listing, name_line, point_line, point_lines, register_words};
+ghost use Rattle.local_liveness.specs.Tables.{HasLive, IsTableOf};
+ghost use Rattle.live_list.specs.Listing.{AreSets, func_lines, live_listing, name_line, point_line, point_lines, register_words};
 
 use core_tree::{Core, Func, live_by_paths};
 use hs_base::{Items, NoMemory};
 use itoa::Buffer;
-use local_liveness::{LiveTable, live_at};
+use local_liveness::{LiveTable, RegisterSet, live_at, none_live};
 use std::alloc::Global;
 
 /// The length of a list that is numbered. No memory holds a list whose numbers do not fit; no list of a sound core is so long.
@@ -46,17 +46,16 @@ fn put_register(text: &mut Vec<u8>, register: u32) -> Result<(), NoMemory>
 fn put_registers(
     text: &mut Vec<u8>,
     func: &Func,
-    table: &LiveTable,
+    live: &RegisterSet,
     point: u32,
 ) -> Result<(), NoMemory>
-    requires table { IsTableOf table.now func.now }
-    requires point { point < length func.now.body }
+    requires { HasLive live.now func.now point }
     ensures { IfOk result (λ _. text.new.items ≡ text.old.items ++ register_words func.now point) }
 {
     live_by_paths();
     let registers = count(func.regs.len())?;
     for register in 0..registers {
-        if table.is_live(point, register) {
+        if live.contains(register) {
             put_register(text, register)?;
         }
     }
@@ -64,25 +63,43 @@ fn put_registers(
 }
 
 /// Writes the line of a point.
-fn put_point(text: &mut Vec<u8>, func: &Func, table: &LiveTable, point: u32) -> Result<(), NoMemory>
-    requires table { IsTableOf table.now func.now }
-    requires point { point < length func.now.body }
+fn put_point(
+    text: &mut Vec<u8>,
+    func: &Func,
+    live: &RegisterSet,
+    point: u32,
+) -> Result<(), NoMemory>
+    requires { HasLive live.now func.now point }
     ensures { IfOk result (λ _. text.new.items ≡ text.old.items ++ point_line func.now point) }
 {
     put_number(text, point)?;
     put(text, b":")?;
-    put_registers(text, func, table, point)?;
+    put_registers(text, func, live, point)?;
     put(text, b"\n")
 }
 
-/// Writes a line for each point.
-fn put_points(text: &mut Vec<u8>, func: &Func, table: &LiveTable) -> Result<(), NoMemory>
+/// The registers that are live after each point, from the last point to the first.
+fn sets_of(alloc: Global, func: &Func, table: &LiveTable) -> Result<Vec<RegisterSet>, NoMemory>
     requires { IsTableOf table.now func.now }
+    ensures { IfOk result (λ sets. AreSets sets.items func.now (length func.now.body)) }
+{
+    let mut live = none_live(alloc, func)?;
+    let mut sets = Vec::with_capacity(alloc, func.body.len())?;
+    for point in (0..func.body.len()).rev() {
+        table.step_back(func, &mut live, point);
+        sets.push(live.copy(alloc)?)?;
+    }
+    Ok(sets)
+}
+
+/// Writes a line for each point.
+fn put_points(text: &mut Vec<u8>, func: &Func, sets: &[RegisterSet]) -> Result<(), NoMemory>
+    requires { AreSets sets.now func.now (length func.now.body) }
     ensures { IfOk result (λ _. text.new.items ≡ text.old.items ++ point_lines func.now) }
 {
     let points = count(func.body.len())?;
     for point in 0..points {
-        put_point(text, func, table, point)?;
+        put_point(text, func, &sets[sets.len() - 1 - point as usize], point)?;
     }
     Ok(())
 }
@@ -102,7 +119,8 @@ fn put_func(alloc: Global, text: &mut Vec<u8>, func: &Func) -> Result<(), NoMemo
 {
     let table = live_at(alloc, func)?;
     put_name(text, func.name.as_slice())?;
-    put_points(text, func, &table)
+    let sets = sets_of(alloc, func, &table)?;
+    put_points(text, func, &sets)
 }
 
 /// The functions of a core, each with the registers that are live after each of its points.

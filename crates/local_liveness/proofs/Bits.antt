@@ -1,11 +1,11 @@
 -- One bit of a set.
-use Rattle.std.proofs.Common.{◌≡◌, ◌<◌, ◌≤◌, ◌-◌, ◌*◌, ◌/◌, ◌%◌, ◌^◌, ◌&&◌, ◌||◌, ℕ, zero, suc, Bool, true, false, not, List, length, eqb, get_or, replicate, refl, sym, ap, ◌∙◌, subst, arith, ⊎_elim, length-set, w64}
+use Rattle.std.proofs.Common.{◌≡◌, ◌<◌, ◌≤◌, ◌+◌, ◌-◌, ◌*◌, ◌/◌, ◌%◌, ◌^◌, ◌&&◌, ◌||◌, ℕ, zero, suc, Bool, true, false, not, List, length, eqb, get_or, replicate, refl, sym, ap, ◌∙◌, subst, arith, ⊎_elim, true≢false, length-set, w64}
 use Rattle.std.specs.Prelude.{slice_set, bit_and, bit_or}
 use Rattle.std.specs.Int.{bit_at}
-use Rattle.std.proofs.lemmas.Bool.{cases_eq, eq-eqb, ne_eqb}
+use Rattle.std.proofs.lemmas.Bool.{cases_eq, cases_lt, eq-eqb, ne_eqb}
 use Rattle.std.proofs.lemmas.List.{get_or-set_same, get_or-set_other, get_or_past, get_or_read}
 use Rattle.std.proofs.lemmas.Nat.Bits.{bit_at-zero, bit_at_set_same, bit_at_set_other, bit_at_clear_same, bit_at_clear_other, shr_and_one}
-use Rattle.local_liveness.specs.Rows.{has, Adds, Drops}
+use Rattle.local_liveness.specs.Sets.{has, Adds, Drops}
 
 pub has_past : (row : List ℕ) (r : ℕ) → length row ≤ r / 64 → has row r ≡ false
 unfolding has
@@ -140,14 +140,37 @@ adds_both f g h a b c one two both = record {
       two.bits r (omega arith) ∙ ap (λ t. g r || t) (one.bits r less) ∙ or_shift (f r) (g r) (has a r) ∙ ap (λ t. t || has a r) (sym (both r));
 }
 
-pub front_words : (f g : ℕ → Bool) (a b c d : List ℕ) → b ≡ a → Drops f b c → Adds g c d → length d ≡ length a
-front_words f g a b c d same drops adds = adds.words ∙ drops.words ∙ ap length same
+pub front_words : (f g : ℕ → Bool) (a b c : List ℕ) → Drops f a b → Adds g b c → length c ≡ length a
+front_words f g a b c drops adds = adds.words ∙ drops.words
 
 pub front_bits :
-    (f g : ℕ → Bool) (a b c d : List ℕ) → b ≡ a → Drops f b c → Adds g c d →
-    (r : ℕ) → r < 64 * length a → has d r ≡ (g r || (not (f r) && has a r))
-front_bits f g a b c d same drops adds r less =
-    let one = ap length same in
-    let two = drops.words in
-    adds.bits r (omega arith)
-    ∙ ap (λ t. g r || t) (drops.bits r (omega arith) ∙ ap (λ row. not (f r) && has row r) same)
+    (f g : ℕ → Bool) (a b c : List ℕ) → Drops f a b → Adds g b c →
+    (r : ℕ) → r < 64 * length a → has c r ≡ (g r || (not (f r) && has a r))
+front_bits f g a b c drops adds r less =
+    let same = drops.words in
+    adds.bits r (omega arith) ∙ ap (λ t. g r || t) (drops.bits r less)
+
+-- a set has a register only below its last bit
+pub has_inside : (set : List ℕ) (r : ℕ) → has set r ≡ true → r < 64 * length set
+has_inside set r h =
+    ⊎_elim
+    (λ (less : r / 64 < length set). omega arith)
+    (λ (past : length set ≤ r / 64). absurd (true≢false (sym h ∙ has_past set r past)))
+    (cases_lt (r / 64) (length set))
+
+-- words that are all zero
+pub has_cleared : (words : List ℕ) → ((k : ℕ) → k < length words → get_or words k 0 ≡ 0) → (r : ℕ) → has words r ≡ false
+unfolding has
+has_cleared words cleared r =
+    ⊎_elim
+    (λ (less : r / 64 < length words). ap (λ v. eqb (bit_at v (r % 64)) 1) (cleared (r / 64) less) ∙ ap (λ b. eqb b 1) (bit_at-zero (r % 64)))
+    (λ (past : length words ≤ r / 64). has_past words r past)
+    (cases_lt (r / 64) (length words))
+
+-- one bit of a word at a place
+pub has_at : (set : List ℕ) (place i : ℕ) → i < 64 → has set (64 * place + i) ≡ eqb (bit_at (get_or set place 0) i) 1
+unfolding has
+has_at set place i less =
+    let at : (64 * place + i) / 64 ≡ place = omega arith in
+    let bit : (64 * place + i) % 64 ≡ i = omega arith in
+    ap (λ k. eqb (bit_at (get_or set k 0) ((64 * place + i) % 64)) 1) at ∙ ap (λ b. eqb (bit_at (get_or set place 0) b) 1) bit

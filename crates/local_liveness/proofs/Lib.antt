@@ -1,5 +1,7 @@
 mod Bits
 mod Joins
-mod Following
-mod Filling
-mod Answering
+mod Scanning
+mod Going
+mod Sweeping
+mod Blanks
+mod Stepping

@@ -1,3 +1,3 @@
-pub mod Rows
+pub mod Sets
 pub mod Sweeps
 pub mod Tables

@@ -8,8 +8,9 @@
 //! sweeps as there are points set all of them; where one sets none, none is left.
 #![tactic(auto)]
 
-mod row;
+mod register_set;
 mod sweeps;
 mod table;
 
-pub use table::{LiveTable, live_at};
+pub use register_set::{RegisterSet, Run};
+pub use table::{LiveTable, live_at, none_live};

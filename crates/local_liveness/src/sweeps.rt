@@ -1,108 +1,69 @@
-//! The rows of a body: the registers that are live after each of its points. Each row gets what its edges lead to, from the
-//! last point to the first, until nothing is added.
+//! Sweeps over a body, from its last point to its first. A sweep carries one set along: what is live at the point where it is.
+//! Of a point to which some statement jumps, the set that is live in front of it is kept, and sweeps go on until nothing is
+//! added to these sets.
 
-ghost use Rattle.std.specs.Prelude.{◌≡◌, ◌<◌, ◌+◌, ◌∷◌, [], false, cond, length, replicate};
-ghost use Rattle.core_tree.specs.Statements.{edges_at, given_target};
-ghost use Rattle.local_liveness.specs.Rows.{AreWide};
-ghost use Rattle.local_liveness.specs.Sweeps.{Follows, Fills, IsFilled};
+ghost use Rattle.std.specs.Prelude.{◌≡◌, ◌<◌, ◌*◌, ◌&&◌, ◌||◌, ℕ, false, length};
+ghost use Rattle.std.specs.Option.{option_map_or};
+ghost use Rattle.core_tree.specs.declared.flow.Edges.{Edges};
+ghost use Rattle.local_liveness.specs.Sets.{has, set_at};
+ghost use Rattle.local_liveness.specs.Sweeps.{Fills, HasRoom, IsBlank, IsFilled};
 
-use crate::row::Row;
-use core_tree::{Stm, live_by_paths};
+use crate::register_set::RegisterSet;
+use core_tree::{Edges, Stm, live_by_paths};
 
-/// Adds to the row of a point what is live in front of another one, to which it leads; past the last statement nothing is.
-/// Says whether that was more. `front` is overwritten.
-fn follow(body: &[Stm], rows: &mut [Row], front: &mut Row, from: usize, to: usize) -> bool
-    requires points { length rows.old ≡ length body.now }
-    requires from { from < length body.now }
-    requires wide { AreWide (length front.old) rows.old }
-    ensures words { length front.new ≡ length front.old }
-    ensures follows { Follows body.now (length front.old) from (to ∷ []) rows.old rows.new }
-    ensures same { result ≡ false → rows.new ≡ rows.old }
+/// From the registers that are live in front of the next point to those that are live after a statement, by its edges.
+pub(crate) fn follow(live: &mut RegisterSet, fronts: &[RegisterSet], edges: Edges)
+    ensures words { length live.new ≡ length live.old }
+    ensures bits { (r : ℕ) → r < 64 * length live.old → has live.new r ≡ ((edges.next && has live.old r) || option_map_or (λ target. has (set_at fronts.now target) r) edges.target false) }
 {
-    if to >= body.len() {
-        return false;
+    if !edges.next {
+        live.clear();
     }
-    front.become_front(&body[to].kind, &rows[to]);
-    rows[from].join(front)
-}
-
-/// The same for the next point, where the run goes on to it.
-fn follow_next(body: &[Stm], rows: &mut [Row], front: &mut Row, from: usize, goes_on: bool) -> bool
-    requires points { length rows.old ≡ length body.now }
-    requires from { from < length body.now }
-    requires wide { AreWide (length front.old) rows.old }
-    ensures words { length front.new ≡ length front.old }
-    ensures follows { Follows body.now (length front.old) from (cond goes_on ((from + 1) ∷ []) []) rows.old rows.new }
-    ensures same { result ≡ false → rows.new ≡ rows.old }
-{
-    if goes_on {
-        follow(body, rows, front, from, from + 1)
-    } else {
-        false
+    if let Some(target) = edges.target {
+        follow_target(live, fronts, target as usize);
     }
 }
 
-/// The same for a target, where there is one.
-fn follow_target(
-    body: &[Stm],
-    rows: &mut [Row],
-    front: &mut Row,
-    from: usize,
-    target: Option<u32>,
-) -> bool
-    requires points { length rows.old ≡ length body.now }
-    requires from { from < length body.now }
-    requires wide { AreWide (length front.old) rows.old }
-    ensures words { length front.new ≡ length front.old }
-    ensures follows { Follows body.now (length front.old) from (given_target target) rows.old rows.new }
-    ensures same { result ≡ false → rows.new ≡ rows.old }
+/// Adds the registers that are live in front of a target.
+fn follow_target(live: &mut RegisterSet, fronts: &[RegisterSet], target: usize)
+    ensures words { length live.new ≡ length live.old }
+    ensures bits { (r : ℕ) → r < 64 * length live.old → has live.new r ≡ (has (set_at fronts.now target) r || has live.old r) }
 {
-    match target {
-        Some(target) => follow(body, rows, front, from, target as usize),
-        None => false,
+    if target < fronts.len() {
+        live.join(&fronts[target]);
     }
 }
 
-/// The same for all edges of a point.
-fn visit(body: &[Stm], rows: &mut [Row], front: &mut Row, point: usize) -> bool
-    requires points { length rows.old ≡ length body.now }
-    requires point { point < length body.now }
-    requires wide { AreWide (length front.old) rows.old }
-    ensures words { length front.new ≡ length front.old }
-    ensures follows { Follows body.now (length front.old) point (edges_at body.now point) rows.old rows.new }
-    ensures same { result ≡ false → rows.new ≡ rows.old }
+/// Goes over all points, from the last to the first, and adds to the set of each, as far as it has room, what is live in front
+/// of it. Says whether that was more. `live` is overwritten.
+fn sweep(body: &[Stm], fronts: &mut [RegisterSet], live: &mut RegisterSet) -> bool
+    requires points { length fronts.old ≡ length body.now }
+    requires room { HasRoom body.now (length live.old) fronts.old }
+    ensures words { length live.new ≡ length live.old }
+    ensures fills { Fills body.now (length live.old) fronts.old fronts.new }
+    ensures same { result ≡ false → fronts.new ≡ fronts.old }
 {
-    let stm = &body[point];
-    let edges = stm.kind.edges();
-    let next = follow_next(body, rows, front, point, edges.next);
-    let target = follow_target(body, rows, front, point, edges.target);
-    next | target
-}
-
-/// The same for all points, from the last to the first.
-fn sweep(body: &[Stm], rows: &mut [Row], front: &mut Row) -> bool
-    requires points { length rows.old ≡ length body.now }
-    requires wide { AreWide (length front.old) rows.old }
-    ensures words { length front.new ≡ length front.old }
-    ensures fills { Fills body.now (length front.old) 0 rows.old rows.new }
-    ensures same { result ≡ false → rows.new ≡ rows.old }
-{
+    live_by_paths();
+    live.clear();
     let mut more = false;
     for point in (0..body.len()).rev() {
-        more |= visit(body, rows, front, point);
+        let kind = &body[point].kind;
+        follow(live, fronts, kind.edges());
+        live.go_in_front(kind);
+        more |= fronts[point].join(live);
     }
     more
 }
 
-/// Fills empty rows with the registers that are live after each point. As many sweeps as there are points find all of them;
-/// one that adds nothing is the last. `front` has as many words as each row.
-pub(crate) fn fill(body: &[Stm], rows: &mut [Row], front: &mut Row)
-    requires { rows.old ≡ replicate (length body.now) (replicate (length front.old) 0) }
-    ensures { IsFilled body.now (length front.old) rows.new }
+/// Fills the sets of points to which statements jump with the registers that are live in front of them. One sweep more than
+/// there are points finds all of them; one that adds nothing is the last. `live` has as many words as each of these sets.
+pub(crate) fn fill(body: &[Stm], fronts: &mut [RegisterSet], live: &mut RegisterSet)
+    requires { IsBlank body.now (length live.old) fronts.old }
+    ensures words { length live.new ≡ length live.old }
+    ensures filled { IsFilled body.now (length live.old) fronts.new }
 {
-    live_by_paths();
-    for _ in 0..body.len() {
-        if !sweep(body, rows, front) {
+    for _ in 0..body.len() + 1 {
+        if !sweep(body, fronts, live) {
             return;
         }
     }
