@@ -1,10 +1,12 @@
 -- The text that lists which registers are live after each point of each function of a core.
-use Rattle.std.specs.Prelude.{ℕ, List, [], ◌∷◌, ◌++◌, map, filter, length, codes, decimal}
+use Rattle.std.specs.Prelude.{◌≡◌, ◌<◌, ℕ, List, [], ◌∷◌, ◌++◌, map, filter, length, codes, decimal}
 use Rattle.std.specs.List.{flat_map, range_with_len}
 use Rattle.core_tree.specs.declared.program.Core.{Core}
 use Rattle.core_tree.specs.declared.program.Func.{Func}
 use Rattle.core_tree.specs.Listing.{spaced, line_of, register_word}
 use Rattle.core_tree.specs.Lives.{is_live}
+use Rattle.local_liveness.specs.Sets.{set_at}
+use Rattle.local_liveness.specs.Tables.{HasLive}
 
 -- the registers of a function that are live after a point, in ascending order. The test `is_live` says whether some path leads
 -- from the point to a read of the register, with no write of it before (`IsLive`; the law is `live_by_paths`)
@@ -29,6 +31,11 @@ name_line name = line_of (codes "func") (name ∷ [])
 
 abbrev pub func_lines : Func → List ℕ
 func_lines func = name_line func.name ++ point_lines func
+
+-- a set for each point of a function, of the registers that are live after it
+pub record AreSets (sets : List (List ℕ)) (func : Func) : Type 0 where
+  pub points : length sets ≡ length func.body
+  pub live : (point : ℕ) → point < length func.body → HasLive (set_at sets point) func point
 
 -- the lines of all functions, in their order
 abbrev pub live_listing : Core → List ℕ

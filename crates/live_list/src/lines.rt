@@ -78,7 +78,7 @@ fn put_point(
     put(text, b"\n")
 }
 
-/// The registers that are live after each point, from the last point to the first.
+/// The registers that are live after each point.
 fn sets_of(alloc: Global, func: &Func, table: &LiveTable) -> Result<Vec<RegisterSet>, NoMemory>
     requires { IsTableOf table.now func.now }
     ensures { IfOk result (λ sets. AreSets sets.items func.now (length func.now.body)) }
@@ -89,17 +89,18 @@ fn sets_of(alloc: Global, func: &Func, table: &LiveTable) -> Result<Vec<Register
         table.step_back(func, &mut live, point);
         sets.push(live.copy(alloc)?)?;
     }
+    sets.reverse();
     Ok(sets)
 }
 
 /// Writes a line for each point.
 fn put_points(text: &mut Vec<u8>, func: &Func, sets: &[RegisterSet]) -> Result<(), NoMemory>
-    requires { AreSets sets.now func.now (length func.now.body) }
+    requires { AreSets sets.now func.now }
     ensures { IfOk result (λ _. text.new.items ≡ text.old.items ++ point_lines func.now) }
 {
     let points = count(func.body.len())?;
     for point in 0..points {
-        put_point(text, func, &sets[sets.len() - 1 - point as usize], point)?;
+        put_point(text, func, &sets[point as usize], point)?;
     }
     Ok(())
 }

@@ -1,11 +1,11 @@
 -- One bit of a set.
-use Rattle.std.proofs.Common.{◌≡◌, ◌<◌, ◌≤◌, ◌+◌, ◌-◌, ◌*◌, ◌/◌, ◌%◌, ◌^◌, ◌&&◌, ◌||◌, ℕ, zero, suc, Bool, true, false, not, List, length, eqb, get_or, replicate, refl, sym, ap, ◌∙◌, subst, arith, ⊎_elim, true≢false, length-set, w64}
+use Rattle.std.proofs.Common.{◌≡◌, ◌<◌, ◌≤◌, ◌+◌, ◌-◌, ◌*◌, ◌/◌, ◌%◌, ◌^◌, ◌&&◌, ◌||◌, ℕ, zero, suc, Bool, true, false, not, List, [], length, eqb, get_or, replicate, refl, sym, ap, ◌∙◌, subst, arith, ⊎_elim, true≢false, length-set, w64}
 use Rattle.std.specs.Prelude.{slice_set, bit_and, bit_or}
 use Rattle.std.specs.Int.{bit_at}
 use Rattle.std.proofs.lemmas.Bool.{cases_eq, cases_lt, eq-eqb, ne_eqb}
 use Rattle.std.proofs.lemmas.List.{get_or-set_same, get_or-set_other, get_or_past, get_or_read}
 use Rattle.std.proofs.lemmas.Nat.Bits.{bit_at-zero, bit_at_set_same, bit_at_set_other, bit_at_clear_same, bit_at_clear_other, shr_and_one}
-use Rattle.local_liveness.specs.Sets.{has, Adds, Drops}
+use Rattle.local_liveness.specs.Sets.{has, set_at, Adds, Drops}
 
 pub has_past : (row : List ℕ) (r : ℕ) → length row ≤ r / 64 → has row r ≡ false
 unfolding has
@@ -174,3 +174,8 @@ has_at set place i less =
     let at : (64 * place + i) / 64 ≡ place = omega arith in
     let bit : (64 * place + i) % 64 ≡ i = omega arith in
     ap (λ k. eqb (bit_at (get_or set k 0) ((64 * place + i) % 64)) 1) at ∙ ap (λ b. eqb (bit_at (get_or set place 0) b) 1) bit
+
+-- a point past the last has no set to be added
+pub none_past : (sets : List (List ℕ)) (point : ℕ) (live : List ℕ) → length sets ≤ point → (r : ℕ) → has live r ≡ (has (set_at sets point) r || has live r)
+none_past sets point live past r =
+    sym (ap (λ b. b || has live r) (ap (λ x. has x r) (get_or_past sets point [] past) ∙ has_past [] r (omega arith)))

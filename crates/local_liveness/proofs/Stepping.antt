@@ -20,7 +20,10 @@ use Rattle.local_liveness.proofs.Going.{same_bools, live_before_past, live_past,
 pub nothing_live : LiveByPaths → (func : Func) (live : List ℕ) → live ≡ replicate (words_of func) 0 → HasLive live func (length func.body)
 nothing_live paths func live is = record {
   words = long;
-  room = let bound = (div_ceil_times (length func.regs) 64 (omega arith)).0 in omega arith;
+  room =
+      let bound : length func.regs ≤ words_of func * 64 = (div_ceil_times (length func.regs) 64 (omega arith)).0 in
+      let words = long in
+      omega arith;
   exact = λ r less.
       (λ h. absurd (true≢false (sym h ∙ ap (λ x. has x r) is ∙ has_zeros (words_of func) r)),
       λ l. absurd (true≢false (sym ((paths func.body (length func.body) r).1 l) ∙ live_past func.body (length func.body) r (omega arith))));
@@ -74,3 +77,8 @@ module _
         let same : has followed r ≡ is_live func.body point r = followed_live r (omega arith) in
         (λ h. (paths func.body point r).0 (sym same ∙ h), λ l. same ∙ (paths func.body point r).1 l);
   }
+
+pub table_is :
+    (func : Func) (body : List Stm) (words : ℕ) (fronts : List (List ℕ)) → body ≡ func.body → words ≡ words_of func → IsFilled body words fronts → IsTableOf fronts func
+table_is func body words fronts same all filled =
+    subst (λ n. IsFilled func.body n fronts) all (subst (λ (b : List Stm). IsFilled b words fronts) same filled)

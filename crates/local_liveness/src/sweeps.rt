@@ -16,11 +16,20 @@ pub(crate) fn follow(live: &mut RegisterSet, fronts: &[RegisterSet], edges: Edge
     ensures words { length live.new ≡ length live.old }
     ensures bits { (r : ℕ) → r < 64 * length live.old → has live.new r ≡ ((edges.next && has live.old r) || option_map_or (λ target. has (set_at fronts.now target) r) edges.target false) }
 {
-    if !edges.next {
-        live.clear();
+    keep_if(live, edges.next);
+    match edges.target {
+        Some(target) => follow_target(live, fronts, target as usize),
+        None => (),
     }
-    if let Some(target) = edges.target {
-        follow_target(live, fronts, target as usize);
+}
+
+/// Takes out all registers where the run does not go on to the next point.
+fn keep_if(live: &mut RegisterSet, goes_on: bool)
+    ensures words { length live.new ≡ length live.old }
+    ensures bits { (r : ℕ) → r < 64 * length live.old → has live.new r ≡ (goes_on && has live.old r) }
+{
+    if !goes_on {
+        live.clear();
     }
 }
 
