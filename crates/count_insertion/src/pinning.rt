@@ -1,14 +1,17 @@
 //! Which registers are pinned at which points.
 
-ghost use Rattle.std.specs.Prelude.{◌≡◌, ◌<◌, ◌++◌, Some, IfOk, length, map, slice_get};
-ghost use Rattle.object_meaning.specs.counted.Pinning.{AreExact, counts_at, holds_on};
-ghost use Rattle.local_liveness.specs.Tables.{IsTableOf};
-ghost use Rattle.count_insertion.specs.Inserted.{AreTables, may_count, pins_below, func_pins};
+ghost use Rattle.std.specs.Prelude.{◌≡◌, ◌==◌, ◌<◌, ◌≤◌, ◌-◌, ◌*◌, ◌++◌, ◌&&◌, ℕ, Some, IfOk, filter, length, map, slice_get};
+ghost use Rattle.std.specs.List.{range_with_len};
+ghost use Rattle.object_meaning.specs.counted.Pinning.{AreExact};
+ghost use Rattle.local_liveness.specs.Sets.{has, Adds};
+ghost use Rattle.local_liveness.specs.Tables.{HasLive, IsTableOf, words_of};
+ghost use Rattle.count_insertion.specs.Counting.{HasPointers, is_there};
+ghost use Rattle.count_insertion.specs.Inserted.{AreTables, may_count, func_pins, listed_back, pin_of, pins_at};
 
 use crate::copies::core_copy;
-use core_tree::{Core, Func, StmKind};
+use core_tree::{Core, Func, Reg, StmKind, live_by_paths};
 use hs_base::{Items, NoMemory};
-use local_liveness::{LiveTable, RegisterSet, live_at, none_live};
+use local_liveness::{LiveTable, RegisterSet, Run, live_at, none_live};
 use object_meaning::Pin;
 use std::alloc::Global;
 
@@ -26,15 +29,22 @@ fn fit(number: usize) -> Result<u32, NoMemory>
     u32::try_from(number).map_err(|_| NoMemory)
 }
 
+/// Adds a register to those for pointers, if it is one.
+fn mark(pointers: &mut RegisterSet, register: u32, reg: &Reg)
+    ensures { Adds (λ r. reg.now.pointer && register == r) pointers.old pointers.new }
+{
+    if reg.pointer {
+        pointers.insert(register);
+    }
+}
+
 /// The registers of a function that are for pointers.
 fn pointers_of(alloc: Global, func: &Func) -> Result<RegisterSet, NoMemory>
     ensures { IfOk result (λ pointers. HasPointers pointers func.now) }
 {
     let mut pointers = RegisterSet::empty(alloc, func.regs.len())?;
     for (place, reg) in func.regs.as_slice().iter().enumerate() {
-        if reg.pointer {
-            pointers.insert(fit(place)?);
-        }
+        mark(&mut pointers, fit(place)?, reg);
     }
     Ok(pointers)
 }
@@ -49,55 +59,91 @@ fn may_count(kind: &StmKind) -> bool
     )
 }
 
-/// Makes a set of the registers that count at a statement behind which `live` is live.
+/// Makes a set of the registers that count at a statement: those for pointers that are live behind it, without the one that
+/// takes the answer of a call. All sets have as many words.
 fn find_counting(
     counting: &mut RegisterSet,
-    live: &RegisterSet,
     pointers: &RegisterSet,
+    live: &RegisterSet,
     kind: &StmKind,
 )
+    requires pointers { length pointers.now ≡ length counting.old }
+    requires live { length live.now ≡ length counting.old }
+    ensures words { length counting.new ≡ length counting.old }
+    ensures bits { (r : ℕ) → r < 64 * length counting.old → has counting.new r ≡ (is_there kind.now r && (has pointers.now r && has live.now r)) }
 {
-    counting.become_common(live, pointers);
+    counting.become_common(pointers, live);
     if let StmKind::Call(_, Some(answer), _) = kind {
         counting.remove(*answer);
     }
 }
 
-/// The pins of a point at which the registers of a set count.
-fn pins_at(
+/// Adds the pins of a point for neighbouring registers.
+fn add_run(pins: &mut Vec<Pin>, point: u32, run: Run) -> Result<(), NoMemory>
+    requires { run.first ≤ run.end }
+    ensures { IfOk result (λ _. pins.new.items ≡ pins.old.items ++ map (pin_of point) (range_with_len run.first (run.end - run.first))) }
+{
+    for reg in run.first..run.end {
+        pins.push(Pin { point, reg })?;
+    }
+    Ok(())
+}
+
+/// The pins of a point for the registers of a set that are below a bound.
+fn pins_in(
     alloc: Global,
-    counting: &RegisterSet,
+    set: &RegisterSet,
     point: u32,
-    registers: u32,
+    bound: u32,
 ) -> Result<Vec<Pin>, NoMemory>
+    ensures { IfOk result (λ pins. pins.items ≡ map (pin_of point) (filter (has set.now) (range_with_len 0 bound))) }
 {
     let mut pins = Vec::new(alloc);
     let mut from = 0;
-    while let Some(run) = counting.next_run(from, registers) {
-        for reg in run.first..run.end {
-            pins.push(Pin { point, reg })?;
-        }
+    while let Some(run) = set.next_run(from, bound) {
+        add_run(&mut pins, point, run)?;
         from = run.end;
     }
     Ok(pins)
 }
 
-/// The pins of a function, by points, from the last point to the first.
+/// The pins of a point behind which `live` is live. `counting` is overwritten; it has room for the registers of the function.
+fn pins_at(
+    alloc: Global,
+    func: &Func,
+    point: usize,
+    pointers: &RegisterSet,
+    live: &RegisterSet,
+    counting: &mut RegisterSet,
+) -> Result<Vec<Pin>, NoMemory>
+    requires point { point < length func.now.body }
+    requires pointers { HasPointers pointers.now func.now }
+    requires live { HasLive live.now func.now point }
+    requires counting { length counting.old ≡ words_of func.now }
+    ensures words { length counting.new ≡ words_of func.now }
+    ensures pins { IfOk result (λ pins. pins.items ≡ pins_at func.now point (slice_get func.now.body point)) }
+{
+    live_by_paths();
+    let kind = &func.body.as_slice()[point].kind;
+    if !may_count(kind) {
+        return Ok(Vec::new(alloc));
+    }
+    find_counting(counting, pointers, live, kind);
+    pins_in(alloc, counting, fit(point)?, fit(func.regs.len())?)
+}
+
+/// The pins of each point of a function, from the last point to the first.
 fn pins_by_point(alloc: Global, func: &Func, table: &LiveTable) -> Result<Vec<Vec<Pin>>, NoMemory>
     requires { IsTableOf table.now func.now }
+    ensures { IfOk result (λ lists. listed_back lists.items ≡ func_pins func.now) }
 {
-    let registers = fit(func.regs.len())?;
     let pointers = pointers_of(alloc, func)?;
     let mut live = none_live(alloc, func)?;
     let mut counting = RegisterSet::empty(alloc, func.regs.len())?;
-    let mut lists = Vec::new(alloc);
-    for place in (0..func.body.len()).rev() {
-        table.step_back(func, &mut live, place);
-        let kind = &func.body.as_slice()[place].kind;
-        if may_count(kind) {
-            find_counting(&mut counting, &live, &pointers, kind);
-            lists.push(pins_at(alloc, &counting, fit(place)?, registers)?)?;
-        }
+    let mut lists = Vec::with_capacity(alloc, func.body.len())?;
+    for point in (0..func.body.len()).rev() {
+        table.step_back(func, &mut live, point);
+        lists.push(pins_at(alloc, func, point, &pointers, &live, &mut counting)?)?;
     }
     Ok(lists)
 }
@@ -107,9 +153,10 @@ fn pins_of(alloc: Global, func: &Func, table: &LiveTable) -> Result<Items<Pin>, 
     requires { IsTableOf table.now func.now }
     ensures { IfOk result (λ pins. pins ≡ func_pins func.now) }
 {
-    let lists = pins_by_point(alloc, func, table)?;
+    let mut lists = pins_by_point(alloc, func, table)?;
+    lists.reverse();
     let mut pins = Vec::new(alloc);
-    for list in lists.iter().rev() {
+    for list in &lists {
         pins.extend_from_slice(list)?;
     }
     Ok(Items::from(pins))

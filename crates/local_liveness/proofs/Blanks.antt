@@ -39,6 +39,7 @@ room_given target place words sets new same inside is = record {
 } where
   some_is : (a b : ℕ) → Some a ≡ Some b → a ≡ b
   some_is a b e = cc
+
   wide : length (set_at (slice_set sets place new) place) ≡ words
   wide = ap length (get_or-set_same sets place new [] inside ∙ is) ∙ length-replicate words 0
 

@@ -93,8 +93,11 @@ along paths body p r [] read path unwritten is_read =
     any_where (λ q. is_live_before body q r) (edges_at body p) read path.0 (or_left (reads_at body read r) _ is_read)
 along paths body p r (q ∷ before) read path unwritten is_read =
     let live : is_live body q r ≡ true = (paths body q r).1 (record {
-      before = before; read = read; path = path.1;
-      unwritten = All-tail (λ p. writes_at body p r ≡ false) q before unwritten; is_read = is_read;
+      before = before;
+      read = read;
+      path = path.1;
+      unwritten = All-tail (λ p. writes_at body p r ≡ false) q before unwritten;
+      is_read = is_read;
     }) in
     let kept : writes_at body q r ≡ false = All-head (λ p. writes_at body p r ≡ false) q before unwritten in
     any_where (λ q. is_live_before body q r) (edges_at body p) q path.0
@@ -158,6 +161,7 @@ target_of_jump kind e same t jumps =
     not_next true (zero, less, is) = omega arith
     not_next true (suc k, less, is) = omega arith
     not_next false (k, less, is) = omega arith
+
     only : (target : Option ℕ) → Contains (given_target target) t → target ≡ Some t
     only None (k, less, is) = absurd (omega arith)
     only (Some l) (zero, less, is) = ap Some is

@@ -53,7 +53,6 @@ is_other b false false h e = sym e ∙ h
 
 module _ (set : List ℕ) (member : Bool) (from until register word : ℕ) (s : Scanned set member from register) (less : register < until)
     (shows : Shows set member (register / 64) word) where
-
   abbrev low : ℕ
   low = register % 64
 

@@ -24,9 +24,10 @@ nothing_live paths func live is = record {
       let bound : length func.regs ≤ words_of func * 64 = (div_ceil_times (length func.regs) 64 (omega arith)).0 in
       let words = long in
       omega arith;
-  exact = λ r less.
-      (λ h. absurd (true≢false (sym h ∙ ap (λ x. has x r) is ∙ has_zeros (words_of func) r)),
-      λ l. absurd (true≢false (sym ((paths func.body (length func.body) r).1 l) ∙ live_past func.body (length func.body) r (omega arith))));
+  exact = λ r less. (
+    λ h. absurd (true≢false (sym h ∙ ap (λ x. has x r) is ∙ has_zeros (words_of func) r)),
+    λ l. absurd (true≢false (sym ((paths func.body (length func.body) r).1 l) ∙ live_past func.body (length func.body) r (omega arith))),
+  );
 } where
   long : length live ≡ words_of func
   long = ap length is ∙ length-replicate (words_of func) 0
@@ -38,7 +39,6 @@ module _
     (front_is : (r : ℕ) → r < 64 * length live → has front r ≡ (reads_at func.body (point + 1) r || (not (writes_at func.body (point + 1) r) && has live r)))
     (followed_long : length followed ≡ length front)
     (followed_is : (r : ℕ) → r < 64 * length front → has followed r ≡ ((e.next && has front r) || option_map_or (λ target. has (set_at fronts target) r) e.target false)) where
-
   front_live : (r : ℕ) → r < 64 * length live → has front r ≡ is_live_before func.body (point + 1) r
   front_live r less =
       let exact = before.exact r less in

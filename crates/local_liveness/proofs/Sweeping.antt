@@ -105,7 +105,6 @@ module _
     (front_long : length front ≡ length followed)
     (front_is : (r : ℕ) → r < 64 * length followed → has front r ≡ (reads stm.kind r || (not (writes stm.kind r) && has followed r)))
     (adds : Adds (has front) (set_at mid point) here) (back : added ≡ false → here ≡ set_at mid point) where
-
   s : Swept body words (point + 1) old mid live more
   s = subst (λ n. Swept body words n old mid live more) next come
 
@@ -134,7 +133,10 @@ module _
       (λ (target : option_map_or f e.target false ≡ true).
       let t = mapped f e.target target in
       let is_target : IsTarget body t.0 = record {
-        from = point; stm = stm; stands = stands; jumps = jumps_here body point stm e stands edges_are t.0 t.1;
+        from = point;
+        stm = stm;
+        stands = stands;
+        jumps = jumps_here body point stm e stands edges_are t.0 t.1;
         inside = inside_body body r m t.0 t.2;
       } in
       target_follows r t.0 less t.1 (s.kept t.0 r (earlier m (omega arith) t.0 is_target t.2)))
