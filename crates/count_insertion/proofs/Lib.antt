@@ -1,2 +1,4 @@
 pub mod Listing
 pub mod Exactness
+mod Runs
+mod Collecting

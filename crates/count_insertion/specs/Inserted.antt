@@ -1,5 +1,5 @@
 -- The pins of a core, in order.
-use Rattle.std.specs.Prelude.{ℕ, Bool, true, false, List, [], map, filter, length, Option, Some, None, slice_get}
+use Rattle.std.specs.Prelude.{ℕ, Bool, true, false, List, [], map, filter, length, reverse, Option, Some, None, slice_get}
 use Rattle.std.specs.List.{flat_map, range_with_len, AllZip}
 use Rattle.core_tree.specs.declared.program.Func.{Func}
 use Rattle.core_tree.specs.declared.statements.Stm.{Stm}
@@ -34,14 +34,14 @@ abbrev pub pins_at : Func → ℕ → Option Stm → List Pin
 pins_at func point None = []
 pins_at func point (Some stm) = pins_below func point stm.kind (length func.regs)
 
--- those of so many points of a function, from one on
-abbrev pub pins_from : Func → ℕ → ℕ → List Pin
-pins_from func first n = flat_map (λ point. pins_at func point (slice_get func.body point)) (range_with_len first n)
+-- those of the points of a function below one
+abbrev pub pins_before : Func → ℕ → List Pin
+pins_before func n = flat_map (λ point. pins_at func point (slice_get func.body point)) (range_with_len 0 n)
 
 -- those of a function
 abbrev pub func_pins : Func → List Pin
-func_pins func = pins_from func 0 (length func.body)
+func_pins func = pins_before func (length func.body)
 
 -- those that lists have, from the last list to the first
-abbrev pub listed_back : List (Vec Pin Global) → List Pin
-listed_back lists = flat_map (λ (list : Vec Pin Global). list.items) (reverse lists)
+abbrev pub listed_back : List (List Pin) → List Pin
+listed_back lists = flat_map (λ pins. pins) (reverse lists)

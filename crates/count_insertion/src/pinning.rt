@@ -1,8 +1,9 @@
 //! Which registers are pinned at which points.
 
-ghost use Rattle.std.specs.Prelude.{◌≡◌, ◌==◌, ◌<◌, ◌≤◌, ◌-◌, ◌*◌, ◌++◌, ◌&&◌, ℕ, Some, IfOk, filter, length, map, slice_get};
+ghost use Rattle.std.specs.Prelude.{◌≡◌, ◌==◌, ◌<◌, ◌≤◌, ◌-◌, ◌*◌, ◌++◌, ◌&&◌, ℕ, Some, IfOk, not, filter, length, map, slice_get};
 ghost use Rattle.std.specs.List.{range_with_len};
 ghost use Rattle.object_meaning.specs.counted.Pinning.{AreExact};
+ghost use Rattle.object_meaning.specs.objects.Holding.{takes_answer};
 ghost use Rattle.local_liveness.specs.Sets.{has, Adds};
 ghost use Rattle.local_liveness.specs.Tables.{HasLive, IsTableOf, words_of};
 ghost use Rattle.count_insertion.specs.Counting.{HasPointers, is_there};
@@ -73,8 +74,19 @@ fn find_counting(
     ensures bits { (r : ℕ) → r < 64 * length counting.old → has counting.new r ≡ (is_there kind.now r && (has pointers.now r && has live.now r)) }
 {
     counting.become_common(pointers, live);
-    if let StmKind::Call(_, Some(answer), _) = kind {
-        counting.remove(*answer);
+    match answer_of(kind) {
+        Some(answer) => counting.remove(answer),
+        None => (),
+    }
+}
+
+/// The register that takes the answer of a call.
+fn answer_of(kind: &StmKind) -> Option<u32>
+    ensures { (r : ℕ) → is_there kind.now r ≡ not (takes_answer result r) }
+{
+    match kind {
+        StmKind::Call(_, answer, _) => *answer,
+        _ => None,
     }
 }
 
@@ -95,8 +107,8 @@ fn pins_in(
     set: &RegisterSet,
     point: u32,
     bound: u32,
-) -> Result<Vec<Pin>, NoMemory>
-    ensures { IfOk result (λ pins. pins.items ≡ map (pin_of point) (filter (has set.now) (range_with_len 0 bound))) }
+) -> Result<Items<Pin>, NoMemory>
+    ensures { IfOk result (λ pins. pins ≡ map (pin_of point) (filter (has set.now) (range_with_len 0 bound))) }
 {
     let mut pins = Vec::new(alloc);
     let mut from = 0;
@@ -104,7 +116,7 @@ fn pins_in(
         add_run(&mut pins, point, run)?;
         from = run.end;
     }
-    Ok(pins)
+    Ok(Items::from(pins))
 }
 
 /// The pins of a point behind which `live` is live. `counting` is overwritten; it has room for the registers of the function.
@@ -115,25 +127,25 @@ fn pins_at(
     pointers: &RegisterSet,
     live: &RegisterSet,
     counting: &mut RegisterSet,
-) -> Result<Vec<Pin>, NoMemory>
+) -> Result<Items<Pin>, NoMemory>
     requires point { point < length func.now.body }
     requires pointers { HasPointers pointers.now func.now }
     requires live { HasLive live.now func.now point }
     requires counting { length counting.old ≡ words_of func.now }
     ensures words { length counting.new ≡ words_of func.now }
-    ensures pins { IfOk result (λ pins. pins.items ≡ pins_at func.now point (slice_get func.now.body point)) }
+    ensures pins { IfOk result (λ pins. pins ≡ pins_at func.now point (slice_get func.now.body point)) }
 {
     live_by_paths();
     let kind = &func.body.as_slice()[point].kind;
     if !may_count(kind) {
-        return Ok(Vec::new(alloc));
+        return Ok(Items::from(Vec::new(alloc)));
     }
     find_counting(counting, pointers, live, kind);
     pins_in(alloc, counting, fit(point)?, fit(func.regs.len())?)
 }
 
 /// The pins of each point of a function, from the last point to the first.
-fn pins_by_point(alloc: Global, func: &Func, table: &LiveTable) -> Result<Vec<Vec<Pin>>, NoMemory>
+fn pins_by_point(alloc: Global, func: &Func, table: &LiveTable) -> Result<Vec<Items<Pin>>, NoMemory>
     requires { IsTableOf table.now func.now }
     ensures { IfOk result (λ lists. listed_back lists.items ≡ func_pins func.now) }
 {
@@ -157,7 +169,7 @@ fn pins_of(alloc: Global, func: &Func, table: &LiveTable) -> Result<Items<Pin>, 
     lists.reverse();
     let mut pins = Vec::new(alloc);
     for list in &lists {
-        pins.extend_from_slice(list)?;
+        pins.extend_from_slice(list.as_slice())?;
     }
     Ok(Items::from(pins))
 }

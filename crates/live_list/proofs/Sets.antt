@@ -13,12 +13,16 @@ pub record Walked (func : Func) (point : ℕ) (live : List ℕ) (sets : List (Li
   pub here : HasLive live func point
   pub there : (k : ℕ) → k < length sets → HasLive (set_at sets k) func (length func.body - 1 - k)
 
-pub walked_none : (func : Func) (live : List ℕ) (point : ℕ) → point ≡ length func.body → HasLive live func (length func.body) → Walked func point live []
-walked_none func live point is here = record {
-  points = omega arith;
-  here = subst (λ p. HasLive live func p) (sym is) here;
-  there = λ k b. absurd (omega arith);
-}
+pub walked_none :
+    (func : Func) (live : List ℕ) (point : ℕ) (sets : List (List ℕ)) → point ≡ length func.body → HasLive live func (length func.body) → sets ≡ [] →
+    Walked func point live sets
+walked_none func live point sets end here empty =
+    let none : length sets ≡ 0 = ap length empty in
+    record {
+      points = omega arith;
+      here = subst (λ p. HasLive live func p) (sym end) here;
+      there = λ k b. absurd (omega arith);
+    }
 
 pub walked_more :
     (func : Func) (i point : ℕ) (before live copy : List ℕ) (old new : List (List ℕ)) → i ≡ point + 1 → Walked func i before old → HasLive live func point →

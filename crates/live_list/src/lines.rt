@@ -81,7 +81,7 @@ fn put_point(
 /// The registers that are live after each point.
 fn sets_of(alloc: Global, func: &Func, table: &LiveTable) -> Result<Vec<RegisterSet>, NoMemory>
     requires { IsTableOf table.now func.now }
-    ensures { IfOk result (λ sets. AreSets sets.items func.now (length func.now.body)) }
+    ensures { IfOk result (λ sets. AreSets sets.items func.now) }
 {
     let mut live = none_live(alloc, func)?;
     let mut sets = Vec::with_capacity(alloc, func.body.len())?;

@@ -1,6 +1,7 @@
-use Rattle.std.proofs.Common.{◌≡◌}
-use Rattle.count_insertion.specs.Inserted.{pins_before}
+use Rattle.std.proofs.Common.{◌≡◌, List, take}
+use Rattle.std.specs.List.{flat_map}
+use Rattle.object_meaning.specs.declared.pins.Pin.{Pin}
 use Rattle.count_insertion.proofs.pinning.pins_of.Given as goal
 
-abbrev pub invariant-loop-place : goal.invariant-loop-place
-invariant-loop-place l = l.pins.items ≡ pins_before l.func l.place
+abbrev pub invariant-loop-list : goal.invariant-loop-list
+invariant-loop-list l = l.pins.items ≡ flat_map (λ (pins : List Pin). pins) (take l.list-index l.lists.items)

@@ -1,0 +1,5 @@
+use Rattle.count_insertion.proofs.Collecting.{Collected}
+use Rattle.count_insertion.proofs.pinning.pins_by_point.Given as goal
+
+abbrev pub invariant-loop-point : goal.invariant-loop-point
+invariant-loop-point l = Collected l.func l.point l.live l.counting l.lists.items
