@@ -1,11 +1,14 @@
 -- Registers of a set that are found by runs.
-use Rattle.std.proofs.Common.{◌≡◌, ℕ, zero, suc, ◌+◌, ◌-◌, ◌*◌, ◌<◌, ◌≤◌, Bool, true, false, cond, ◌&&◌, not, List, [], ◌∷◌, ◌++◌, length, map, Option, Some, None, refl, sym, ap, ◌∙◌, subst, arith, ⊎_elim, append-nil, append_assoc, map-append}
+use Rattle.std.proofs.Common.{◌≡◌, ℕ, zero, suc, ◌+◌, ◌-◌, ◌*◌, ◌/◌, ◌%◌, ◌<◌, ◌≤◌, Bool, true, false, cond, ◌&&◌, ◌||◌, not, eqb, List, [], ◌∷◌, ◌++◌, length, map, get_or, replicate, Option, Some, None, refl, sym, ap, ◌∙◌, subst, arith, ⊎_elim, append-nil, append_assoc, map-append}
 use Rattle.std.specs.Prelude.{filter, slice_get, nat_eq}
 use Rattle.std.specs.List.{range_with_len}
 use Rattle.std.specs.Option.{option_map_or}
-use Rattle.std.proofs.lemmas.Bool.{cases_lt}
+use Rattle.std.proofs.lemmas.Bool.{cases_eq, cases_lt, eq-eqb, ne_eqb}
+use Rattle.std.specs.Int.{bit_at, div_ceil}
+use Rattle.std.proofs.lemmas.List.{length-replicate}
+use Rattle.std.proofs.lemmas.Nat.Bits.{bit_at-zero}
 use Rattle.std.proofs.lemmas.List.Elements.{filter-append}
-use Rattle.std.proofs.lemmas.Option.{slice_get_past}
+use Rattle.std.proofs.lemmas.Option.{slice_get_past, slice_get_read}
 use Rattle.core_tree.specs.declared.program.Func.{Func}
 use Rattle.core_tree.specs.declared.program.Reg.{Reg as Register}
 use Rattle.core_tree.specs.declared.statements.StmKind.{StmKind}
@@ -112,11 +115,80 @@ run_grows point first n old pins new r at so_far now =
 
 -- Pointers
 
+has_zeros : (words r : ℕ) → has (replicate words 0) r ≡ false
+unfolding has
+has_zeros words r = ap (λ v. eqb (bit_at v (r % 64)) 1) (zeros words (r / 64)) ∙ ap (λ b. eqb b 1) (bit_at-zero (r % 64)) where
+  zeros : (n i : ℕ) → ◌≡◌ {A = ℕ} (get_or (replicate n 0) i 0) 0
+  zeros zero i = refl
+  zeros (suc n) zero = refl
+  zeros (suc n) (suc i) = zeros n i
+
+pub marks_it : (pointer : Bool) (register : ℕ) (old new : List ℕ) → pointer ≡ true → Adds (λ r. eqb register r) old new → Adds (λ r. pointer && eqb register r) old new
+marks_it pointer register old new is adds = record {
+  words = adds.words;
+  bits = λ r less. adds.bits r less ∙ ap (λ b. (b && eqb register r) || has old r) (sym is);
+}
+
+pub marks_none : (pointer : Bool) (register : ℕ) (old : List ℕ) → pointer ≡ false → Adds (λ r. pointer && eqb register r) old old
+marks_none pointer register old is = record {
+  words = refl;
+  bits = λ r less. ap (λ b. (b && eqb register r) || has old r) (sym is);
+}
+
 -- the registers below one are marked, if they are for pointers
 pub record Marked (func : Func) (n : ℕ) (pointers : List ℕ) : Type 0 where
   pub words : length pointers ≡ words_of func
   pub done : (r : ℕ) → r < n → r < 64 * length pointers → has pointers r ≡ holds_pointer func r
-  pub rest : (r : ℕ) → n ≤ r → has pointers r ≡ false
+  pub rest : (r : ℕ) → n ≤ r → r < 64 * length pointers → has pointers r ≡ false
+
+pub empty_words : (func : Func) (set : List ℕ) (registers : ℕ) → registers ≡ length func.regs → set ≡ replicate (div_ceil registers 64) 0 → length set ≡ words_of func
+empty_words func set registers all is = ap length is ∙ length-replicate (div_ceil registers 64) 0 ∙ ap (λ n. div_ceil n 64) all
+
+pub marked_none : (func : Func) (set : List ℕ) (registers : ℕ) → registers ≡ length func.regs → set ≡ replicate (div_ceil registers 64) 0 → Marked func 0 set
+marked_none func set registers all is = record {
+  words = empty_words func set registers all is;
+  done = λ r b. absurd (omega arith);
+  rest = λ r past less. ap (λ x. has x r) is ∙ has_zeros (div_ceil registers 64) r;
+}
+
+pub marked_more :
+    (func : Func) (regs : List Register) (n : ℕ) (reg : Register) (register : ℕ) (old new : List ℕ) → regs ≡ func.regs → n < length regs → reg ≡ get_or regs n reg →
+    register ≡ n → Marked func n old → Adds (λ r. reg.pointer && eqb register r) old new → Marked func (n + 1) new
+marked_more func regs n reg register old new all inside is at m adds = record {
+  words = adds.words ∙ m.words;
+  done = λ r b less.
+      let long = adds.words in
+      ⊎_elim
+      (λ (here : r ≡ n).
+      adds.bits r (omega arith)
+      ∙ ap (λ b. (reg.pointer && b) || has old r) (eq-eqb register r (at ∙ sym here))
+      ∙ ap (λ b. (reg.pointer && true) || b) (m.rest r (omega arith) (omega arith))
+      ∙ both reg.pointer
+      ∙ sym register_is
+      ∙ ap (holds_pointer func) (sym here))
+      (λ (there : r ≡ n → ⊥).
+      adds.bits r (omega arith)
+      ∙ ap (λ b. (reg.pointer && b) || has old r) (ne_eqb register r (λ e. there (sym e ∙ at)))
+      ∙ neither reg.pointer (has old r)
+      ∙ m.done r (omega arith) (omega arith))
+      (cases_eq r n);
+  rest = λ r past less.
+      let long = adds.words in
+      adds.bits r (omega arith)
+      ∙ ap (λ b. (reg.pointer && b) || has old r) (ne_eqb register r (λ e. omega arith))
+      ∙ neither reg.pointer (has old r)
+      ∙ m.rest r (omega arith) (omega arith);
+} where
+  both : (b : Bool) → ((b && true) || false) ≡ b
+  both true = refl
+  both false = refl
+  neither : (b c : Bool) → ((b && false) || c) ≡ c
+  neither true c = refl
+  neither false c = refl
+  register_is : holds_pointer func n ≡ reg.pointer
+  register_is =
+      let there : slice_get regs n ≡ Some reg = slice_get_read regs (length regs) n reg refl inside is in
+      ap (λ (o : Option Register). option_map_or (λ (k : Register). k.pointer) o false) (subst (λ (rs : List Register). slice_get rs n ≡ Some reg) all there)
 
 pub marked_all : (func : Func) (n : ℕ) (pointers : List ℕ) → n ≡ length func.regs → Marked func n pointers → HasPointers pointers func
 marked_all func n pointers all m = record {
@@ -125,7 +197,7 @@ marked_all func n pointers all m = record {
       ⊎_elim
       (λ (b : r < n). m.done r b less)
       (λ (past : n ≤ r).
-      m.rest r past ∙ sym (ap (λ (o : Option Register). option_map_or (λ (reg : Register). reg.pointer) o false) (slice_get_past func.regs r (omega arith))))
+      m.rest r past less ∙ sym (ap (λ (o : Option Register). option_map_or (λ (reg : Register). reg.pointer) o false) (slice_get_past func.regs r (omega arith))))
       (cases_lt r n);
 }
 

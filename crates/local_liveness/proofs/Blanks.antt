@@ -1,7 +1,6 @@
 -- Empty sets for the points of a body.
-use Rattle.std.proofs.Common.{◌≡◌, ◌<◌, ◌≤◌, ◌+◌, ◌*◌, ℕ, zero, suc, Bool, true, false, List, [], Option, Some, None, length, get_or, replicate, refl, sym, ap, ◌∙◌, subst, arith, ⊎_elim, length-set}
+use Rattle.std.proofs.Common.{◌≡◌, ◌<◌, ◌≤◌, ◌+◌, ℕ, false, List, [], Option, Some, None, length, get_or, replicate, refl, sym, ap, ◌∙◌, subst, arith, ⊎_elim, length-set}
 use Rattle.std.specs.Prelude.{slice_set, slice_get}
-use Rattle.std.specs.Int.{div_ceil}
 use Rattle.std.proofs.lemmas.Bool.{cases_eq, cases_lt}
 use Rattle.std.proofs.lemmas.List.{get_or-set_same, get_or-set_other, get_or-replicate, get_or_past, length-replicate}
 use Rattle.std.proofs.lemmas.Option.{slice_get_past, slice_get_read}
@@ -9,7 +8,7 @@ use Rattle.core_tree.specs.declared.flow.Edges.{Edges}
 use Rattle.core_tree.specs.declared.statements.Stm.{Stm}
 use Rattle.core_tree.specs.Statements.{edges, leads_to}
 use Rattle.local_liveness.specs.Sets.{has, set_at}
-use Rattle.local_liveness.specs.Sweeps.{JumpsTo, IsTarget, GivesRoom, IsBlank}
+use Rattle.local_liveness.specs.Sweeps.{JumpsTo, GivesRoom, IsBlank}
 use Rattle.local_liveness.proofs.Bits.{has_past, has_zeros}
 use Rattle.local_liveness.proofs.Going.{target_of_jump}
 

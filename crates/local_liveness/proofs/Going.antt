@@ -1,22 +1,18 @@
 -- One point back, along its edges.
-use Rattle.std.proofs.Common.{◌≡◌, ◌<◌, ◌≤◌, ◌+◌, ◌*◌, ◌&&◌, ◌||◌, ℕ, zero, suc, Bool, true, false, cond, not, List, [], ◌∷◌, ◌++◌, Option, Some, None, length, get_or, refl, sym, ap, ◌∙◌, subst, arith, ⊎_elim, true≢false}
+use Rattle.std.proofs.Common.{◌≡◌, ◌≤◌, ◌+◌, ◌&&◌, ◌||◌, ℕ, zero, suc, Bool, true, false, cond, not, List, [], ◌∷◌, ◌++◌, Option, Some, None, length, refl, sym, ap, ◌∙◌, subst, arith, ⊎_elim, true≢false}
 use Rattle.std.specs.Prelude.{slice_get, All, Contains}
 use Rattle.std.specs.List.{list_any}
 use Rattle.std.specs.Option.{option_map_or}
-use Rattle.std.proofs.lemmas.Bool.{cases_lt, or_cases, or_left, or_right, and_parts, not-true}
-use Rattle.std.proofs.lemmas.List.{get_or_past}
+use Rattle.std.proofs.lemmas.Bool.{or_cases, or_left, or_right, and_parts, not-true}
 use Rattle.std.proofs.lemmas.List.Elements.{All-cons, All-head, All-tail, Contains-append_cases, Contains-append_left, Contains-append_right}
-use Rattle.std.proofs.lemmas.List.Folds.{list_any-append}
 use Rattle.std.proofs.lemmas.Option.{slice_get_past}
 use Rattle.core_tree.specs.declared.flow.Edges.{Edges}
 use Rattle.core_tree.specs.declared.statements.Stm.{Stm}
 use Rattle.core_tree.specs.declared.statements.StmKind.{StmKind}
 use Rattle.core_tree.specs.Statements.{edges, given_target, leads_to, reads, writes, reads_at, writes_at, edges_at}
-use Rattle.core_tree.specs.Lives.{IsLive, IsPath, is_live, live_within}
-use Rattle.local_liveness.specs.Sets.{has, set_at}
-use Rattle.local_liveness.specs.Sweeps.{JumpsTo, IsTarget, is_live_before, before_within, IsFilled}
+use Rattle.core_tree.specs.Lives.{IsPath, is_live, live_within}
+use Rattle.local_liveness.specs.Sweeps.{JumpsTo, is_live_before, before_within}
 use Rattle.local_liveness.specs.Tables.{LiveByPaths}
-use Rattle.local_liveness.proofs.Bits.{has_past}
 
 -- tests and lists
 any_where : {X : Type 0} (f : X → Bool) (xs : List X) (x : X) → Contains xs x → f x ≡ true → list_any f xs ≡ true

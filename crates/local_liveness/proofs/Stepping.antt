@@ -1,7 +1,6 @@
 -- Steps back along the points of a function.
-use Rattle.std.proofs.Common.{◌≡◌, ◌<◌, ◌≤◌, ◌+◌, ◌*◌, ◌&&◌, ◌||◌, ℕ, Bool, true, false, not, List, [], Option, Some, None, length, get_or, replicate, refl, sym, ap, ◌∙◌, subst, arith, ⊎_elim, true≢false}
-use Rattle.std.specs.Prelude.{slice_get, ◌↔◌, IsTrue}
-use Rattle.std.specs.Int.{div_ceil}
+use Rattle.std.proofs.Common.{◌≡◌, ◌<◌, ◌≤◌, ◌+◌, ◌*◌, ◌&&◌, ◌||◌, ℕ, false, not, List, [], Option, Some, None, length, replicate, refl, sym, ap, ◌∙◌, subst, arith, ⊎_elim, true≢false}
+use Rattle.std.specs.Prelude.{slice_get}
 use Rattle.std.specs.Option.{option_map_or}
 use Rattle.std.proofs.lemmas.Bool.{cases_lt}
 use Rattle.std.proofs.lemmas.Grind.{div_ceil_times}
@@ -9,10 +8,10 @@ use Rattle.std.proofs.lemmas.List.{get_or_past, length-replicate}
 use Rattle.core_tree.specs.declared.flow.Edges.{Edges}
 use Rattle.core_tree.specs.declared.program.Func.{Func}
 use Rattle.core_tree.specs.declared.statements.Stm.{Stm}
-use Rattle.core_tree.specs.Statements.{edges, leads_to, reads_at, writes_at, edges_at}
-use Rattle.core_tree.specs.Lives.{IsLive, is_live}
+use Rattle.core_tree.specs.Statements.{edges, leads_to, reads_at, writes_at}
+use Rattle.core_tree.specs.Lives.{is_live}
 use Rattle.local_liveness.specs.Sets.{has, set_at}
-use Rattle.local_liveness.specs.Sweeps.{IsTarget, is_live_before, IsFilled}
+use Rattle.local_liveness.specs.Sweeps.{is_live_before, IsFilled}
 use Rattle.local_liveness.specs.Tables.{LiveByPaths, HasLive, IsTableOf, words_of}
 use Rattle.local_liveness.proofs.Bits.{has_past, has_zeros}
 use Rattle.local_liveness.proofs.Going.{same_bools, live_before_past, live_past, live_is, jumps_here, any_edge}

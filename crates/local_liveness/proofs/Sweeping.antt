@@ -1,5 +1,5 @@
 -- A sweep over a body, and what sweeps find.
-use Rattle.std.proofs.Common.{◌≡◌, ◌<◌, ◌≤◌, ◌+◌, ◌*◌, ◌&&◌, ◌||◌, ℕ, zero, suc, Bool, true, false, not, List, [], Option, Some, None, length, get_or, refl, sym, ap, ◌∙◌, subst, arith, ⊎_elim, true≢false, length-set}
+use Rattle.std.proofs.Common.{◌≡◌, ◌<◌, ◌≤◌, ◌+◌, ◌*◌, ◌&&◌, ◌||◌, ℕ, zero, suc, Bool, true, false, not, List, [], Option, Some, None, length, refl, sym, ap, ◌∙◌, subst, arith, ⊎_elim, true≢false, length-set}
 use Rattle.std.specs.Prelude.{slice_set, slice_get}
 use Rattle.std.specs.List.{list_any}
 use Rattle.std.specs.Option.{option_map_or}
@@ -10,7 +10,7 @@ use Rattle.core_tree.specs.declared.statements.Stm.{Stm}
 use Rattle.core_tree.specs.Statements.{edges, leads_to, reads, writes, reads_at, writes_at, edges_at}
 use Rattle.core_tree.specs.Lives.{is_live, live_within}
 use Rattle.local_liveness.specs.Sets.{has, set_at, Adds}
-use Rattle.local_liveness.specs.Sweeps.{JumpsTo, IsTarget, is_live_before, before_within, HasRoom, AreLive, HasWithin, IsBlank, Fills, IsFilled}
+use Rattle.local_liveness.specs.Sweeps.{IsTarget, is_live_before, before_within, HasRoom, AreLive, HasWithin, IsBlank, Fills, IsFilled}
 use Rattle.local_liveness.specs.Tables.{LiveByPaths}
 use Rattle.local_liveness.proofs.Bits.{has_inside}
 use Rattle.local_liveness.proofs.Going.{same_bools, before_past, before_is_within, live_from, jumps_here, target_edge, next_edge, any_edge}

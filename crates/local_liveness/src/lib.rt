@@ -1,11 +1,14 @@
 //! Which registers of a function are live after each of its points.
 //!
-//! [`live_at`] makes a [`LiveTable`] of a function, which answers for each point and register what `IsLive` in
-//! `core_tree/specs/Lives.antt` says by paths. `specs/Tables.antt` says what the table of a function is.
+//! [`live_at`] makes a [`LiveTable`] of a function. [`none_live`] and [`LiveTable::step_back`] give from it, from the last
+//! point to the first, the [`RegisterSet`] of each point: exactly the registers that are live by `IsLive` in
+//! `core_tree/specs/Lives.antt`, which speaks of paths (`HasLive` in `specs/Tables.antt`). A set is read register by register, or by
+//! runs of neighbours ([`RegisterSet::next_run`]).
 //!
-//! A row has the registers that are live after a point, one bit each. All rows are empty first, and a sweep adds to each,
-//! from the last point to the first, what its edges lead to. The bits that are set are live ones at all times, and as many
-//! sweeps as there are points set all of them; where one sets none, none is left.
+//! The table has a set for each point to which some statement jumps: what is live in front of it. What is live elsewhere follows
+//! from the next point and these sets. All are empty first, and a sweep adds to each, from the last point to the first, what
+//! is live in front of it as far as is known. The bits that are set are live ones at all times, and one sweep more than there are
+//! points sets all of them; where one sets none, none is left.
 #![tactic(auto)]
 
 mod register_set;

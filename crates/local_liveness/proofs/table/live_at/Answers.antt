@@ -2,7 +2,7 @@ use Rattle.std.proofs.Common.{◌≡◌, ◌∙◌, ℕ, List, length, ap, arith
 use Rattle.std.specs.Int.{div_ceil}
 use Rattle.std.proofs.lemmas.List.{take_at}
 use Rattle.local_liveness.specs.Sweeps.{IsBlank}
-use Rattle.local_liveness.specs.Tables.{IsTableOf, words_of}
+use Rattle.local_liveness.specs.Tables.{IsTableOf}
 use Rattle.local_liveness.proofs.Stepping.{table_is}
 use Rattle.local_liveness.proofs.table.live_at.Goals as goal
 

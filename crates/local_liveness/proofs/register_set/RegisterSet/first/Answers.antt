@@ -1,6 +1,4 @@
 use Rattle.std.proofs.Common.{◌<◌, ◌*◌, ◌%◌, ◌^◌, arith}
-use Rattle.std.specs.Prelude.{bit_and}
-use Rattle.std.specs.Int.Bits.{and_lt}
 use Rattle.std.proofs.lemmas.Nat.{and_le_l}
 use Rattle.local_liveness.proofs.Scanning.{scanned_more, scanned_found}
 use Rattle.local_liveness.proofs.register_set.RegisterSet.first.Goals as goal
