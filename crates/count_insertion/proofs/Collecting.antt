@@ -15,18 +15,20 @@ pins_from func first = flat_map (λ point. pins_at func point (slice_get func.bo
 -- the points from one on have their lists, from the last to the first
 pub record Collected (func : Func) (point : ℕ) (live counting : List ℕ) (lists : List (List Pin)) : Type 0 where
   pub within : point ≤ length func.body
-  pub live : HasLive live func point
+  pub here : HasLive live func point
   pub width : length counting ≡ words_of func
   pub pins : listed_back lists ≡ pins_from func point
 
-pub collected_none : (func : Func) (point : ℕ) (live counting : List ℕ) → point ≡ length func.body → HasLive live func (length func.body) → length counting ≡ words_of func → Collected func point live counting []
-collected_none func point live counting end here width = record {
+pub collected_none :
+    (func : Func) (point : ℕ) (live counting : List ℕ) (lists : List (List Pin)) → point ≡ length func.body → HasLive live func (length func.body) →
+    length counting ≡ words_of func → lists ≡ [] → Collected func point live counting lists
+collected_none func point live counting lists end here width empty = record {
   within = omega arith;
-  live = subst (λ p. HasLive live func p) (sym end) here;
+  here = subst (λ p. HasLive live func p) (sym end) here;
   width = width;
   pins =
       let none : 0 ≡ length func.body - point = omega arith in
-      ap (λ n. flat_map (λ p. pins_at func p (slice_get func.body p)) (range_with_len point n)) none;
+      ap listed_back empty ∙ ap (λ n. flat_map (λ p. pins_at func p (slice_get func.body p)) (range_with_len point n)) none;
 }
 
 pub collected_more :
@@ -38,7 +40,7 @@ collected_more func i point before live counting other pins old new next c here 
     let at = λ (p : ℕ). pins_at func p (slice_get func.body p) in
     record {
       within = omega arith;
-      live = here;
+      here = here;
       width = width;
       pins =
           ap listed_back now

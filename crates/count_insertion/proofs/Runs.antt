@@ -1,16 +1,17 @@
 -- Registers of a set that are found by runs.
-use Rattle.std.proofs.Common.{◌≡◌, ℕ, zero, suc, ◌+◌, ◌-◌, ◌*◌, ◌/◌, ◌%◌, ◌<◌, ◌≤◌, Bool, true, false, cond, ◌&&◌, ◌||◌, not, eqb, List, [], ◌∷◌, ◌++◌, length, map, get_or, replicate, Option, Some, None, refl, sym, ap, ◌∙◌, subst, arith, ⊎_elim, append-nil, append_assoc, map-append}
+use Rattle.std.proofs.Common.{◌≡◌, ℕ, zero, suc, ◌+◌, ◌-◌, ◌*◌, ◌/◌, ◌%◌, ◌<◌, ◌≤◌, Bool, true, false, cond, ◌&&◌, ◌||◌, not, eqb, List, [], ◌∷◌, ◌++◌, length, map, get_or, replicate, Option, Some, None, refl, sym, ap, ◌∙◌, subst, arith, ⊎_elim, append-nil, append_assoc}
 use Rattle.std.specs.Prelude.{filter, slice_get, nat_eq}
 use Rattle.std.specs.List.{range_with_len}
 use Rattle.std.specs.Option.{option_map_or}
 use Rattle.std.proofs.lemmas.Bool.{cases_eq, cases_lt, eq-eqb, ne_eqb}
 use Rattle.std.specs.Int.{bit_at, div_ceil}
-use Rattle.std.proofs.lemmas.List.{length-replicate}
+use Rattle.std.proofs.lemmas.List.{length-replicate, map-append}
 use Rattle.std.proofs.lemmas.Nat.Bits.{bit_at-zero}
 use Rattle.std.proofs.lemmas.List.Elements.{filter-append}
-use Rattle.std.proofs.lemmas.Option.{slice_get_past, slice_get_read}
+use Rattle.std.proofs.lemmas.Option.{slice_get_past, slice_get_read, slice_get-get_or}
 use Rattle.core_tree.specs.declared.program.Func.{Func}
 use Rattle.core_tree.specs.declared.program.Reg.{Reg as Register}
+use Rattle.core_tree.specs.declared.statements.Stm.{Stm}
 use Rattle.core_tree.specs.declared.statements.StmKind.{StmKind}
 use Rattle.core_tree.specs.declared.statements.StmKind.TheVariants.{Call, Realloc, Free, Leave}
 use Rattle.core_tree.specs.Lives.{is_live}
@@ -20,7 +21,8 @@ use Rattle.local_liveness.specs.declared.register_set.Run.{Run}
 use Rattle.local_liveness.specs.Sets.{has, Adds, HasNone, IsRun}
 use Rattle.local_liveness.specs.Tables.{LiveByPaths, HasLive, words_of}
 use Rattle.count_insertion.specs.Counting.{HasPointers, is_there}
-use Rattle.count_insertion.specs.Inserted.{may_count, pin_of, pins_below}
+use Rattle.count_insertion.specs.Inserted.{may_count, pin_of, pins_at, pins_below}
+use Rattle.count_insertion.proofs.Listing.{none_below}
 
 -- Ranges
 
@@ -91,7 +93,12 @@ none_more set from until order none =
     ∙ ap (λ rs. below set from ++ rs) (none_in set from (until - from) (λ r a b. none r a (omega arith)))
     ∙ append-nil (below set from)
 
--- pins of one run more, and of none
+-- the registers of a set below one have their pins
+pub record Listed (set : List ℕ) (point bound from : ℕ) (pins : List Pin) : Type 0 where
+  pub order : from ≤ bound
+  pub listed : pins ≡ map (pin_of point) (below set from)
+
+-- pins of one run more
 pub pins_more :
     (set : List ℕ) (point from until : ℕ) (run : Run) (old new : List Pin) → IsRun set from until run → old ≡ map (pin_of point) (below set from) →
     new ≡ old ++ map (pin_of point) (range_with_len run.first (run.end - run.first)) → new ≡ map (pin_of point) (below set run.end)
@@ -182,9 +189,11 @@ marked_more func regs n reg register old new all inside is at m adds = record {
   both : (b : Bool) → ((b && true) || false) ≡ b
   both true = refl
   both false = refl
+
   neither : (b c : Bool) → ((b && false) || c) ≡ c
   neither true c = refl
   neither false c = refl
+
   register_is : holds_pointer func n ≡ reg.pointer
   register_is =
       let there : slice_get regs n ≡ Some reg = slice_get_read regs (length regs) n reg refl inside is in
@@ -221,25 +230,38 @@ same_bools true b f g = sym (f refl)
 same_bools false true f g = g refl
 same_bools false false f g = refl
 
-pub counting_is :
-    LiveByPaths → (func : Func) (point : ℕ) (kind : StmKind) (counting pointers live : List ℕ) (bound : ℕ) → may_count kind ≡ true → HasPointers pointers func →
-    HasLive live func point → bound ≡ length func.regs →
-    ((r : ℕ) → r < 64 * length live → has counting r ≡ (is_there kind r && (has pointers r && has live r))) →
-    map (pin_of point) (below counting bound) ≡ pins_below func point kind (length func.regs)
-counting_is paths func point kind counting pointers live bound may marked is_live_set all bits =
-    ap (λ n. map (pin_of point) (below counting n)) all
-    ∙ ap (map (pin_of point)) (filter_same (has counting) (counts_at func point kind) 0 (length func.regs) same)
-  where
-    same : (r : ℕ) → 0 ≤ r → r < 0 + length func.regs → has counting r ≡ counts_at func point kind r
-    same r low high =
-        let room = is_live_set.room in
-        let words = is_live_set.words in
+-- the pins of a point at which registers may count
+module _ (func : Func) (body : List Stm) (point : ℕ) (d : Stm) (all : body ≡ func.body) (inside : point < length body) where
+  abbrev kind : StmKind
+  kind = (get_or body point d).kind
+
+  stands : slice_get func.body point ≡ Some (get_or body point d)
+  stands = subst (λ (b : List Stm). slice_get b point ≡ Some (get_or body point d)) all (slice_get-get_or body point d inside)
+
+  pub none_at : may_count kind ≡ false → pins_at func point (slice_get func.body point) ≡ []
+  none_at none = ap (pins_at func point) stands ∙ none_below func point (length func.regs) kind none
+
+  module _
+      (paths : LiveByPaths) (old counting pointers live : List ℕ) (may : may_count kind ≡ true) (marked : HasPointers pointers func) (set : HasLive live func point)
+      (width : length old ≡ words_of func)
+      (bits : (r : ℕ) → r < 64 * length old → has counting r ≡ (is_there kind r && (has pointers r && has live r))) where
+    counts : (r : ℕ) → 0 ≤ r → r < 0 + length func.regs → has counting r ≡ counts_at func point kind r
+    counts r low high =
+        let room = set.room in
+        let words = set.words in
         let other = marked.words in
         let less : r < 64 * length live = omega arith in
-        let exact = is_live_set.exact r less in
+        let exact = set.exact r less in
         let live_is : has live r ≡ is_live func.body point r =
         same_bools (has live r) (is_live func.body point r) (λ h. (paths func.body point r).1 (exact.0 h)) (λ h. exact.1 ((paths func.body point r).0 h)) in
-        bits r less
+        bits r (omega arith)
         ∙ ap (λ b. is_there kind r && (b && has live r)) (marked.exact r (omega arith))
         ∙ ap (λ b. is_there kind r && (holds_pointer func r && b)) live_is
         ∙ sym (counts_is func point kind r may)
+
+    pub pins_are : (number bound : ℕ) → number ≡ point → bound ≡ length func.regs → map (pin_of number) (below counting bound) ≡ pins_at func point (slice_get func.body point)
+    pins_are number bound at end =
+        ap (λ p. map (pin_of p) (below counting bound)) at
+        ∙ ap (λ n. map (pin_of point) (below counting n)) end
+        ∙ ap (map (pin_of point)) (filter_same (has counting) (counts_at func point kind) 0 (length func.regs) counts)
+        ∙ sym (ap (pins_at func point) stands)

@@ -102,12 +102,7 @@ fn add_run(pins: &mut Vec<Pin>, point: u32, run: Run) -> Result<(), NoMemory>
 }
 
 /// The pins of a point for the registers of a set that are below a bound.
-fn pins_in(
-    alloc: Global,
-    set: &RegisterSet,
-    point: u32,
-    bound: u32,
-) -> Result<Items<Pin>, NoMemory>
+fn pins_in(alloc: Global, set: &RegisterSet, point: u32, bound: u32) -> Result<Items<Pin>, NoMemory>
     ensures { IfOk result (λ pins. pins ≡ map (pin_of point) (filter (has set.now) (range_with_len 0 bound))) }
 {
     let mut pins = Vec::new(alloc);
@@ -141,7 +136,10 @@ fn pins_at(
         return Ok(Items::from(Vec::new(alloc)));
     }
     find_counting(counting, pointers, live, kind);
-    pins_in(alloc, counting, fit(point)?, fit(func.regs.len())?)
+    let number = fit(point)?;
+    let bound = fit(func.regs.len())?;
+    let pins = pins_in(alloc, counting, number, bound)?;
+    Ok(pins)
 }
 
 /// The pins of each point of a function, from the last point to the first.
@@ -151,11 +149,13 @@ fn pins_by_point(alloc: Global, func: &Func, table: &LiveTable) -> Result<Vec<It
 {
     let pointers = pointers_of(alloc, func)?;
     let mut live = none_live(alloc, func)?;
-    let mut counting = RegisterSet::empty(alloc, func.regs.len())?;
+    let registers = func.regs.len();
+    let mut counting = RegisterSet::empty(alloc, registers)?;
     let mut lists = Vec::with_capacity(alloc, func.body.len())?;
     for point in (0..func.body.len()).rev() {
         table.step_back(func, &mut live, point);
-        lists.push(pins_at(alloc, func, point, &pointers, &live, &mut counting)?)?;
+        let pins = pins_at(alloc, func, point, &pointers, &live, &mut counting)?;
+        lists.push(pins)?;
     }
     Ok(lists)
 }
