@@ -9,7 +9,7 @@ loop-run-preserved c =
     record {
       order = run.ends;
       listed =
-          pins_more c.args.set.now c.args.point c.loop-run.from c.args.bound c.in-Some.run c.loop-run.pins.items c.add_run.new.pins.items run c.loop-run.invariant.listed
+          pins_more c.args.set.now c.args.point c.loop-run.from c.args.bound c.in-Some.run' c.loop-run.pins.items c.add_run.new.pins.items run c.loop-run.invariant.listed
           c.in_ok-add_run.ensures;
     }
 
@@ -23,6 +23,6 @@ loop-run-smaller c =
 pub returns : goal.returns
 returns c =
     let none : below c.args.set.now c.args.bound ≡ below c.args.set.now c.loop-run.from =
-    none_more c.args.set.now c.loop-run.from c.args.bound c.loop-run.invariant.order c.in-None.ensures in
+    none_more c.args.set.now c.loop-run.from c.args.bound c.loop-run.invariant.order c.in_default.ensures in
     let all : c.loop-run.pins.items ≡ map (pin_of c.args.point) (below c.args.set.now c.args.bound) = c.loop-run.invariant.listed ∙ ap (map (pin_of c.args.point)) (sym none) in
     cc
