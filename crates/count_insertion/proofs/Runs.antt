@@ -1,6 +1,6 @@
 -- Registers of a set that are found by runs.
-use Rattle.std.proofs.Common.{◌≡◌, ℕ, zero, suc, ◌+◌, ◌-◌, ◌*◌, ◌/◌, ◌%◌, ◌<◌, ◌≤◌, Bool, true, false, cond, ◌&&◌, ◌||◌, not, eqb, List, [], ◌∷◌, ◌++◌, length, map, get_or, replicate, Option, Some, None, refl, sym, ap, ◌∙◌, subst, arith, ⊎_elim, append-nil, append_assoc}
-use Rattle.std.specs.Prelude.{filter, slice_get, nat_eq}
+use Rattle.std.proofs.Common.{◌≡◌, ℕ, zero, suc, ◌+◌, ◌-◌, ◌*◌, ◌/◌, ◌%◌, ◌<◌, ◌≤◌, Bool, true, false, cond, ◌&&◌, ◌||◌, eqb, List, [], ◌∷◌, ◌++◌, length, map, get_or, replicate, Option, Some, refl, sym, ap, ◌∙◌, subst, arith, ⊎_elim, append-nil, append_assoc}
+use Rattle.std.specs.Prelude.{filter, slice_get}
 use Rattle.std.specs.List.{range_with_len}
 use Rattle.std.specs.Option.{option_map_or}
 use Rattle.std.proofs.lemmas.Bool.{cases_eq, cases_lt, eq-eqb, ne_eqb}
@@ -21,7 +21,7 @@ use Rattle.local_liveness.specs.declared.register_set.Run.{Run}
 use Rattle.local_liveness.specs.Sets.{has, Adds, HasNone, IsRun}
 use Rattle.local_liveness.specs.Tables.{LiveByPaths, HasLive, words_of}
 use Rattle.count_insertion.specs.Counting.{HasPointers, is_there}
-use Rattle.count_insertion.specs.Inserted.{may_count, pin_of, pins_at, pins_below}
+use Rattle.count_insertion.specs.Inserted.{may_count, pin_of, pins_at}
 use Rattle.count_insertion.proofs.Listing.{none_below}
 
 -- Ranges

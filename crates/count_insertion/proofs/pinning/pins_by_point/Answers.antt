@@ -1,4 +1,4 @@
-use Rattle.std.proofs.Common.{◌-◌, length, arith, ap, ◌∙◌}
+use Rattle.std.proofs.Common.{arith}
 use Rattle.count_insertion.proofs.Runs.{empty_words}
 use Rattle.count_insertion.proofs.Collecting.{collected_none, collected_more, collected_all}
 use Rattle.count_insertion.proofs.pinning.pins_by_point.Goals as goal

@@ -1,4 +1,4 @@
-use Rattle.std.proofs.Common.{◌≡◌, ◌∙◌, map, sym, ap, arith, refl}
+use Rattle.std.proofs.Common.{◌≡◌, ◌∙◌, map, sym, ap, arith}
 use Rattle.count_insertion.specs.Inserted.{pin_of}
 use Rattle.count_insertion.proofs.Runs.{below, pins_more, none_more}
 use Rattle.count_insertion.proofs.pinning.pins_in.Goals as goal

@@ -1,4 +1,4 @@
-use Rattle.std.proofs.Common.{length, arith, ap, ◌∙◌}
+use Rattle.std.proofs.Common.{length, arith, ap}
 use Rattle.count_insertion.proofs.Runs.{marked_none, marked_more, marked_all}
 use Rattle.count_insertion.proofs.pinning.pointers_of.Goals as goal
 

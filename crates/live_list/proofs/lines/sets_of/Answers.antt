@@ -1,4 +1,4 @@
-use Rattle.std.proofs.Common.{◌-◌, length, arith, ap, ◌∙◌}
+use Rattle.std.proofs.Common.{arith}
 use Rattle.live_list.proofs.Sets.{walked_none, walked_more, walked_all}
 use Rattle.live_list.proofs.lines.sets_of.Goals as goal
 
