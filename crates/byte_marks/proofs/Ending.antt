@@ -3,7 +3,7 @@ use Rattle.std.proofs.Common.{◌<◌, ◌≤◌, ◌+◌, ◌-◌, ◌/◌, ◌
 use Rattle.std.proofs.lemmas.Bool.{cases_lt}
 use Rattle.std.proofs.lemmas.List.{get_or_past}
 use Rattle.byte_memory.specs.Filled.{filled_up}
-use Rattle.byte_memory.proofs.Filling.{length-filled_up}
+use Rattle.byte_memory.specs.FilledEquations.{length-filled_up}
 use Rattle.byte_marks.specs.Ends.{ChangesEnds, HasEnd, IsKnown}
 use Rattle.byte_marks.specs.Marks.{Filled}
 use Rattle.byte_marks.proofs.Padded.{mark_there, mark_nothing, same_there}

@@ -1,22 +1,11 @@
 -- Lists of which the last items are all one and not there yet, and bytes among them.
-use Rattle.std.proofs.Common.{◌≡◌, ◌≤◌, ◌<◌, ◌+◌, ◌-◌, ◌*◌, ◌^◌, ◌∙◌, ℕ, zero, suc, List, [], ◌++◌, ◌⊎◌, inl, inr, length, length-append, length-drop, get_or, take, drop, replicate, refl, sym, ap, subst, append_assoc, arith}
+use Rattle.std.proofs.Common.{◌≡◌, ◌≤◌, ◌<◌, ◌+◌, ◌-◌, ◌*◌, ◌^◌, ◌∙◌, ℕ, zero, suc, List, ◌++◌, ◌⊎◌, inl, inr, length, length-append, length-drop, get_or, take, drop, replicate, refl, sym, ap, subst, append_assoc, arith}
 use Rattle.std.proofs.Math.Nat.{pow-suc}
 use Rattle.std.proofs.lemmas.List.{drop-append-le, take-append-le, get_or_append_left, get_or-append_right, get_or-replicate, length-replicate, replicate-append-replicate}
 use Rattle.hs_base.specs.Access.{bytes_of, little_endian}
 use Rattle.byte_memory.specs.Bytes.{part, word, put_word}
 use Rattle.byte_memory.specs.Filled.{filled_up}
-use Rattle.byte_memory.proofs.Words.{length-put_word, put_word_is, word_more, word_none}
-
-pub length-filled_up : {A : Type 0} (first : List A) (size : ℕ) (item : A) → length first ≤ size → length (filled_up first size item) ≡ size
-unfolding filled_up
-length-filled_up first size item fits =
-    let long : length first + (size - length first) ≡ size = omega arith in
-    length-append first (replicate (size - length first) item) ∙ ap (λ n. length first + n) (length-replicate (size - length first) item) ∙ long
-
--- none are there
-pub filled_none : {A : Type 0} (size : ℕ) (item : A) → filled_up [] size item ≡ replicate size item
-unfolding filled_up
-filled_none size item = let e : size - 0 ≡ size = omega arith in ap (λ n. replicate n item) e
+use Rattle.byte_memory.specs.BytesEquations.{length-put_word, put_word_is, word_more, word_none}
 
 -- a word among those that are there
 pub word_first : (first : List ℕ) (size addr width : ℕ) → addr + width ≤ length first → word (filled_up first size 0) addr width ≡ word first addr width

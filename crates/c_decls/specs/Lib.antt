@@ -8,6 +8,7 @@ pub mod Codes
 pub mod Held
 pub mod Refusals
 pub mod Typed
+pub mod TypedEquations
 pub mod TypeRules
 pub mod PlaceRules
 pub mod Callees

@@ -1,43 +1,16 @@
 -- A text is cut into pieces in one way, and so has one answer.
-use Rattle.std.proofs.Common.{◌≡◌, ℕ, zero, suc, ◌-◌, ◌<◌, ◌≤◌, Bool, inl, inr, List, [], ◌∷◌, length, take, drop, refl, ap, subst, sym, ◌∙◌, arith}
-use Rattle.std.proofs.lemmas.Bool.{cases_order}
-use Rattle.std.specs.Prelude.{Option, Some, None, Result, Ok, Err}
-use Rattle.c_lexer.specs.Pieces.{kind_of, Longest}
+use Rattle.std.proofs.Common.{◌≡◌, ℕ, zero, suc, ◌-◌, ◌<◌, ◌≤◌, inl, inr, List, [], ◌∷◌, length, take, drop, refl, ap, subst, sym, ◌∙◌, arith}
+use Rattle.std.specs.Prelude.{Result, Ok, Err}
+use Rattle.c_lexer.specs.Pieces.{Longest}
 use Rattle.c_lexer.specs.Readers.{piece_at, pieces_from}
 use Rattle.c_lexer.specs.Tokens.{first_place, next_place, behind, IsCut, answer_with, answer_of, HasAnswer, HasTokens, IsRefused, IsOnlyAnswer, OneAnswer}
 use Rattle.c_lexer.specs.declared.place.Place.{Place}
-use Rattle.c_lexer.specs.declared.piece.PieceKind.{PieceKind}
 use Rattle.c_lexer.specs.declared.piece.Piece.{Piece}
 use Rattle.c_lexer.specs.declared.token.Token.{Token as TextToken}
 use Rattle.c_lexer.specs.declared.token.LexError.{LexError}
 use Rattle.c_lexer.specs.declared.token.LexError.TheVariants.{Bad as BadPlace, NoMemory}
 use Rattle.c_lexer.proofs.LongestPieces.{piece_at_longest}
-
--- One longest piece.
-
-none_some : (o : Option PieceKind) (kind : PieceKind) → o ≡ None → o ≡ Some kind → ⊥
-none_some o kind e h = cc
-
-not_longer : (fresh : Bool) (text : List ℕ) (p q : Piece) → Longest fresh text p → Longest fresh text q → p.len < q.len → ⊥
-not_longer fresh text p q a b lt = none_some (kind_of fresh (take q.len text)) q.kind (a.longest q.len lt b.within) b.formed
-
-same_length : (fresh : Bool) (text : List ℕ) (p q : Piece) → Longest fresh text p → Longest fresh text q → p.len ≡ q.len
-same_length fresh text p q a b = elim (cases_order p.len q.len) [
-  | inl e ↦ e
-  | inr (inl lt) ↦ absurd (not_longer fresh text p q a b lt)
-  | inr (inr lt) ↦ absurd (not_longer fresh text q p b a lt)
-]
-
-same_piece : (k k' : PieceKind) (n n' : ℕ) → k ≡ k' → n ≡ n' → let p : Piece = record { kind = k; len = n } in let q : Piece = record { kind = k'; len = n' } in p ≡ q
-same_piece k k' n n' e h = rw (e, h) refl
-
-one_kind : (o : Option PieceKind) (k k' : PieceKind) → o ≡ Some k → o ≡ Some k' → k ≡ k'
-one_kind o k k' e h = cc
-
-pub longest_one : (fresh : Bool) (text : List ℕ) (p q : Piece) → Longest fresh text p → Longest fresh text q → p ≡ q
-longest_one fresh text p q a b =
-    let long = same_length fresh text p q a b in
-    same_piece p.kind q.kind p.len q.len (one_kind (kind_of fresh (take p.len text)) p.kind q.kind a.formed (ap (λ n. kind_of fresh (take n text)) long ∙ b.formed)) long
+use Rattle.c_lexer.specs.PiecesEquations.{longest_one}
 
 -- One cut.
 

@@ -1,24 +1,15 @@
 -- The value of digits, one digit on.
-use Rattle.std.proofs.Common.{◌≡◌, ℕ, ◌+◌, ◌*◌, ◌<◌, ◌≤◌, List, [], ◌∷◌, length, get_or, take, drop, refl, ap, sym, ◌∙◌, arith}
+use Rattle.std.proofs.Common.{◌≡◌, ℕ, ◌+◌, ◌*◌, ◌<◌, ◌≤◌, List, [], ◌∷◌, length, get_or, take, drop, ap, sym, ◌∙◌, arith}
 use Rattle.std.proofs.Math.Nat.{mul-le-mul_left}
 use Rattle.std.proofs.lemmas.List.{take-append-drop}
-use Rattle.std.proofs.lemmas.List.Sums.{fold-append, fold_more}
+use Rattle.std.proofs.lemmas.List.Sums.{fold-append}
 use Rattle.std.specs.List.{fold}
 use Rattle.c_lexer.specs.Bytes.{digit_value}
 use Rattle.c_lexer.specs.Numbers.{digits_value}
+use Rattle.c_lexer.specs.NumbersEquations.{digits_value_none, digits_value_more}
 
 abbrev step : ℕ → ℕ → ℕ → ℕ
 step base = λ value d. value * base + digit_value d
-
--- no digits
-pub digits_value_none : (base : ℕ) → digits_value base [] ≡ 0
-unfolding digits_value
-digits_value_none base = refl
-
--- one digit more
-pub digits_value_more : (base : ℕ) (xs : List ℕ) (i : ℕ) → i < length xs → digits_value base (take (i + 1) xs) ≡ digits_value base (take i xs) * base + digit_value (get_or xs i 0)
-unfolding digits_value
-digits_value_more base xs i h = fold_more (step base) 0 xs i 0 h
 
 le_times : (a base d v : ℕ) → 0 < base → a * base + d ≤ v → a ≤ v
 le_times a base d v h k = omega (arith, mul-le-mul_left a h, k)

@@ -11,4 +11,3 @@ pub mod CharacterLengths
 pub mod LiteralLaws
 pub mod Constants
 pub mod Values
-pub mod TokenForms

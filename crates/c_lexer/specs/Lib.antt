@@ -4,9 +4,12 @@ pub mod Gaps
 pub mod Literals
 pub mod Names
 pub mod Numbers
+pub mod NumbersEquations
 pub mod Pieces
+pub mod PiecesEquations
 pub mod Readers
 pub mod Signs
 pub mod Tokens
+pub mod Cutting
 pub mod Words
 pub mod Written

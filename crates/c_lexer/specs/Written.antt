@@ -1,7 +1,8 @@
 -- Tokens that are written one after another, each with a space or an end of line behind it.
-use Rattle.std.specs.Prelude.{◌≡◌, ℕ, Bool, ◌==◌, ◌||◌, List, [], ◌∷◌, ◌++◌, map, All, IsTrue}
-use Rattle.c_lexer.specs.Pieces.{IsToken}
+use Rattle.std.specs.Prelude.{◌≡◌, ℕ, Bool, true, ◌==◌, ◌||◌, List, [], ◌∷◌, ◌++◌, map, length, All, IsTrue}
+use Rattle.c_lexer.specs.Pieces.{IsToken, Longest}
 use Rattle.c_lexer.specs.Tokens.{HasTokens}
+use Rattle.c_lexer.specs.declared.piece.PieceKind.TheVariants.{Token}
 use Rattle.c_lexer.specs.declared.token.TokenKind.{TokenKind}
 use Rattle.c_lexer.specs.declared.token.Token.{Token as TextToken}
 
@@ -38,3 +39,9 @@ abbrev pub WrittenIsRead : Type 0
 WrittenIsRead =
     (written : List Written) → All IsWritten written → (tokens : List TextToken) × HasTokens (written_text written) tokens
     × (token_spellings tokens ≡ written_spellings written)
+
+-- a token is the longest piece before a separator
+abbrev pub TokensAreLongest : Type 0
+TokensAreLongest =
+    (fresh : Bool) (kind : TokenKind) (w : List ℕ) (b : ℕ) (rest : List ℕ) → IsToken kind w → is_separator b ≡ true →
+    Longest fresh (w ++ b ∷ rest) (record { kind = Token kind; len = length w })

@@ -29,7 +29,10 @@ mod words;
 
 pub use bytes::{is_name_byte, is_space};
 pub use gap::include_end;
-pub use laws::{every_text_has_one_answer, literals_are_characters, written_tokens_are_read_again};
+pub use laws::{
+    constants_fit, every_text_has_one_answer, literals_are_characters, pieces_are_the_cut,
+    tokens_are_longest, written_tokens_are_read_again,
+};
 pub use lexer::lex;
 pub use literal::literal_values;
 pub use number::{Base, Number, Suffix, read_number};

@@ -9,7 +9,7 @@ use Rattle.c_tree.specs.Tree.{Tree, Trees, At, Node, none, ◌▹◌}
 use Rattle.grammar_reading.specs.State.{State, past}
 use Rattle.grammar_reading.specs.Reading.{◌>>=◌, Reader}
 use Rattle.grammar_reading.specs.Statements.{else_by}
-use Rattle.grammar_reading.proofs.sound.Options.{none_some, some_same}
+use Rattle.grammar_reading.specs.ReadingEquations.{none_some, some_same}
 use Rattle.c_parser.specs.Pieces.{else_part}
 
 -- what was read behind `else`

@@ -18,7 +18,7 @@ use Rattle.grammar_reading.specs.Expressions.{strings_from, strings_by}
 use Rattle.grammar_reading.specs.Declarators.{specs_from, specs_by, spec_at, spec_by, spec_key, may_stand, with_key, with_whole, record_at, enum_at, member_at, members_at, suffixes_from, suffixes_by, keep_params}
 use Rattle.c_parser.specs.Pieces.{is_literal, begins_suffix, is_end, suffix_by, kept_suffix_at, one_word_at}
 use Rattle.c_parser.proofs.Steps.{strings_step, suffixes_step, specs_step}
-use Rattle.parser_parts.proofs.TokenWords.{str_word, name_word}
+use Rattle.parser_parts.specs.WordEquations.{str_word, name_word}
 
 -- what is read, and then changed, and what goes on from there
 bind_on : {A B C : Type 0} (r : Option A) (f : A → B) (k : B → Option C) (y : B) → r >>= (λ x. Some (f x)) ≡ Some y → r >>= (λ x. k (f x)) ≡ k y

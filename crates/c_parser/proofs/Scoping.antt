@@ -14,7 +14,7 @@ use Rattle.c_tree.specs.Words.{Word}
 use Rattle.grammar_reading.specs.State.{State, line_at, at_word, skip, past, back_to, in_body, with_new_params, at_key}
 use Rattle.grammar_reading.specs.Reading.{◌>>=◌, Reader, in_front, node, joined, parts_of, fixed, scoped}
 use Rattle.grammar_reading.specs.Rooms.{less, read}
-use Rattle.grammar_reading.specs.Laws.{behind}
+use Rattle.grammar_reading.specs.Laws.{behind, TreesAreRead}
 use Rattle.parser_parts.specs.Gives.{Fails, Reads}
 use Rattle.parser_parts.specs.declared.reader.Outer.{Outer}
 use Rattle.c_parser.specs.Ends.{Ends}
@@ -24,8 +24,7 @@ use Rattle.parser_parts.specs.declared.error.ReadError.TheVariants as errors
 use Rattle.grammar_reading.specs.Declarators.{is_void_list, function_suffix_at}
 use Rattle.grammar_reading.specs.Statements.{else_by, if_at, body_at}
 use Rattle.c_parser.specs.Pieces.{open_at, open_function_at}
-use Rattle.grammar_reading.proofs.sound.Options.{none_some, some_same, bind_some}
-use Rattle.grammar_reading.proofs.sound.Rooms.{trees_are_read}
+use Rattle.grammar_reading.specs.ReadingEquations.{none_some, some_same, bind_some}
 
 -- some names are more than others
 abbrev More : List Known → List Known → Type 0
@@ -89,14 +88,15 @@ Adds state rest = More state.scope.names rest.scope.names
 abbrev OnlyAdds : Reader → Type 0
 OnlyAdds reader = (state rest : State) (tree : Tree) → reader state ≡ Some (tree, rest) → Adds state rest
 
-pub read_adds : (room : ℕ) (place : Place) → OnlyAdds (read room place)
-read_adds room place state rest tree h =
-    let same : rest.scope ≡ behind place tree state.scope = (trees_are_read room place state rest tree h).scope in
+-- what is read at a place is a tree that may stand there, by the law `trees_are_read` of `grammar_reading`
+pub read_adds : TreesAreRead → (room : ℕ) (place : Place) → OnlyAdds (read room place)
+read_adds are_read room place state rest tree h =
+    let same : rest.scope ≡ behind place tree state.scope = (are_read room place state rest tree h).scope in
     subst (λ (scope : Scope). More state.scope.names scope.names) (sym same) (part_more tree (is_scope place) state.scope (after_more tree state.scope))
 
-less_adds : (room : ℕ) (place : Place) → OnlyAdds (less room place)
-less_adds zero place state rest tree h = none_some h
-less_adds (suc room) place state rest tree h = read_adds room place state rest tree h
+less_adds : TreesAreRead → (room : ℕ) (place : Place) → OnlyAdds (less room place)
+less_adds are_read zero place state rest tree h = none_some h
+less_adds are_read (suc room) place state rest tree h = read_adds are_read room place state rest tree h
 
 past_adds : (word : Word) (state rest : State) (b : Bool) → (if b then Some (skip state) else None) ≡ Some rest → Adds state rest
 past_adds word state rest true h = subst (λ (s : State). Adds state s) (some_same h) (more_same state.scope.names)
@@ -192,24 +192,24 @@ scope_ended view reader adds before inside behind outer (Err errors.NoMemory) (E
 scope_ended view reader adds before inside behind outer (Err errors.Syntax) (Err errors.Syntax) c e h ends = scope_fails reader before h
 
 -- a branch, a block, a statement with parts of its own
-pub branch_ended : {X : Type 0} (view : X → Tree) (room : ℕ) (before inside behind : State) (outer : Outer) (got result : Result X ReadError) → outer.count ≡ length before.scope.names → outer.typedef ≡ before.scope.typedef →
+pub branch_ended : TreesAreRead → {X : Type 0} (view : X → Tree) (room : ℕ) (before inside behind : State) (outer : Outer) (got result : Result X ReadError) → outer.count ≡ length before.scope.names → outer.typedef ≡ before.scope.typedef →
     Reads view got inside (read room p.Statement before) → Ends outer got result inside behind → Reads view result behind (scoped (read room p.Statement) before)
-branch_ended view room = scope_ended view (read room p.Statement) (read_adds room p.Statement)
+branch_ended are_read view room = scope_ended view (read room p.Statement) (read_adds are_read room p.Statement)
 
-pub block_ended : {X : Type 0} (view : X → Tree) (room : ℕ) (before inside behind : State) (outer : Outer) (got result : Result X ReadError) → outer.count ≡ length before.scope.names → outer.typedef ≡ before.scope.typedef →
+pub block_ended : TreesAreRead → {X : Type 0} (view : X → Tree) (room : ℕ) (before inside behind : State) (outer : Outer) (got result : Result X ReadError) → outer.count ≡ length before.scope.names → outer.typedef ≡ before.scope.typedef →
     Reads view got inside (fixed (less room) f.Block before) → Ends outer got result inside behind → Reads view result behind (scoped (fixed (less room) f.Block) before)
-block_ended view room = scope_ended view (fixed (less room) f.Block) (fixed_adds (less room) (less_adds room) f.Block)
+block_ended are_read view room = scope_ended view (fixed (less room) f.Block) (fixed_adds (less room) (less_adds are_read room) f.Block)
 
-pub open_ended : {X : Type 0} (view : X → Tree) (room : ℕ) (keyword : Keyword) (before inside behind : State) (outer : Outer) (got result : Result X ReadError) → outer.count ≡ length before.scope.names → outer.typedef ≡ before.scope.typedef →
+pub open_ended : TreesAreRead → {X : Type 0} (view : X → Tree) (room : ℕ) (keyword : Keyword) (before inside behind : State) (outer : Outer) (got result : Result X ReadError) → outer.count ≡ length before.scope.names → outer.typedef ≡ before.scope.typedef →
     Reads view got inside (open_at (less room) room keyword before) → Ends outer got result inside behind → Reads view result behind (scoped (open_at (less room) room keyword) before)
-open_ended view room keyword = scope_ended view (open_at (less room) room keyword) (open_adds (less room) (less_adds room) room keyword)
+open_ended are_read view room keyword = scope_ended view (open_at (less room) room keyword) (open_adds (less room) (less_adds are_read room) room keyword)
 
 -- a body: the parameters are declared in it
-pub body_ends : (room : ℕ) (before start inside behind : State) (tree : Tree) (count : ℕ) (flag : Bool) → count ≡ length before.scope.names → flag ≡ before.scope.typedef → start ≡ in_body before →
+pub body_ends : TreesAreRead → (room : ℕ) (before start inside behind : State) (tree : Tree) (count : ℕ) (flag : Bool) → count ≡ length before.scope.names → flag ≡ before.scope.typedef → start ≡ in_body before →
     fixed (less room) f.Body start ≡ Some (tree, inside) → behind ≡ closed_scope count flag inside → body_at (less room) room before ≡ Some (tree, behind)
-body_ends room before start inside behind tree count flag c e begun h same =
+body_ends are_read room before start inside behind tree count flag c e begun h same =
     let at : fixed (less room) f.Body (in_body before) ≡ Some (tree, inside) = ap (fixed (less room) f.Body) (sym begun) ∙ h in
-    let adds : Adds before inside = more_more before.scope.names (in_body before).scope.names inside.scope.names (before.params, refl) (fixed_adds (less room) (less_adds room) f.Body (in_body before) inside tree at) in
+    let adds : Adds before inside = more_more before.scope.names (in_body before).scope.names inside.scope.names (before.params, refl) (fixed_adds (less room) (less_adds are_read room) f.Body (in_body before) inside tree at) in
     ap (λ (r : Option (Tree × State)). r >>= (λ x. Some (backing before x))) at ∙ ap (λ s. Some (tree, s)) (closes before inside count flag c e adds ∙ sym same)
 
 pub body_fails : (room : ℕ) (before start : State) → start ≡ in_body before → fixed (less room) f.Body start ≡ None → body_at (less room) room before ≡ None
@@ -226,12 +226,12 @@ function_by : (inner : Place → Reader) (b : Bool) (state : State) →
 function_by inner true state = refl
 function_by inner false state = refl
 
-pub function_ends : (room : ℕ) (before inside behind : State) (tree : Tree) (count : ℕ) (flag : Bool) → count ≡ length before.scope.names → flag ≡ before.scope.typedef →
+pub function_ends : TreesAreRead → (room : ℕ) (before inside behind : State) (tree : Tree) (count : ℕ) (flag : Bool) → count ≡ length before.scope.names → flag ≡ before.scope.typedef →
     open_function_at (less room) before ≡ Some (tree, inside) →
     behind ≡ record { words = inside.words; scope = record { names = oldest count inside.scope.names; typedef = flag }; params = take (length inside.scope.names - count) inside.scope.names } →
     function_suffix_at (less room) room before ≡ Some (tree, behind)
-function_ends room before inside behind tree count flag c e h same =
-    let adds : Adds before inside = function_adds_by (less room) (less_adds room) (is_void_list before) before inside tree h in
+function_ends are_read room before inside behind tree count flag c e h same =
+    let adds : Adds before inside = function_adds_by (less room) (less_adds are_read room) (is_void_list before) before inside tree h in
     let names : oldest count inside.scope.names ≡ before.scope.names = ap (λ n. oldest n inside.scope.names) c ∙ oldest_back before.scope.names inside.scope.names adds in
     function_by (less room) (is_void_list before) before ∙ ap (λ (r : Option (Tree × State)). r >>= (λ x. Some (ending before x))) h
     ∙ ap (λ s. Some (tree, s))

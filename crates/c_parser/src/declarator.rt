@@ -23,7 +23,7 @@ use crate::kind::NameSort;
 use crate::levels::CONDITION;
 use crate::specifiers::plain_specs;
 use c_tree::{Base, Keyword, Param, Sign, Suffix, TypeName};
-use grammar_reading::Kind;
+use grammar_reading::{Kind, trees_are_read};
 use parser_parts::{
     DeepBase, DeepDeclarator, DeepMaybeExpr, DeepParam, DeepParams, DeepSuffix, DeepSuffixes,
     DeepTypename, ReadError, Reader, is_mark,
@@ -155,7 +155,7 @@ fn enclosed<'a>(
 }
 
 /// A name, where the sort of declarator may have one.
-#[tactic(auto, using(parser_parts::proofs::TokenWords::name_words), unfolding(c_tree::specs::Depth::below, c_tree::specs::Depth::layers, c_tree::specs::Depth::layers_all, c_tree::specs::Depth::greatest_depth, c_tree::specs::Depth::greatest_below, c_tree::specs::Depth::is_of_declarator, c_tree::specs::Depth::layer, c_tree::specs::Scopes::name_of, c_tree::specs::Scopes::name_among, c_tree::specs::Scopes::leads_to_name, c_tree::specs::Scopes::params_of, c_tree::specs::Scopes::params_among, c_tree::specs::Scopes::suffix_params))]
+#[tactic(auto, using(parser_parts::specs::WordEquations::name_words), unfolding(c_tree::specs::Depth::below, c_tree::specs::Depth::layers, c_tree::specs::Depth::layers_all, c_tree::specs::Depth::greatest_depth, c_tree::specs::Depth::greatest_below, c_tree::specs::Depth::is_of_declarator, c_tree::specs::Depth::layer, c_tree::specs::Scopes::name_of, c_tree::specs::Scopes::name_among, c_tree::specs::Scopes::leads_to_name, c_tree::specs::Scopes::params_of, c_tree::specs::Scopes::params_among, c_tree::specs::Scopes::suffix_params))]
 fn name<'a>(
     alloc: Global,
     reader: &mut Reader<'a>,
@@ -340,6 +340,7 @@ fn function(alloc: Global, reader: &mut Reader, room: usize) -> Result<DeepSuffi
     requires room { room < 401 }
     ensures { ReadsSuffix result reader.new (spec.function_suffix_at (less room) room reader.old) }
 {
+    trees_are_read();
     let outer = reader.enter();
     let suffix = open_function(alloc, reader, room)?;
     reader.leave_params(alloc, outer)?;

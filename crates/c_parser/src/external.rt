@@ -18,6 +18,7 @@ use crate::names::{declared, entry_rest, names_more};
 use crate::specifiers::specs;
 use crate::statement::items;
 use c_tree::{Decl, Declarator, Init, Sign, Specs, Stmt};
+use grammar_reading::trees_are_read;
 use hs_base::{Items, Line};
 use parser_parts::{ReadError, Reader};
 use std::alloc::Global;
@@ -148,6 +149,7 @@ fn read_body(alloc: Global, reader: &mut Reader, room: usize) -> Result<Body, Re
     requires some { 0 < room }
     ensures { ReadsBody result reader.new (spec.body_at (less room) room reader.old) }
 {
+    trees_are_read();
     let outer = reader.enter();
     reader.declare_params()?;
     let body = open_body(alloc, reader, room)?;

@@ -82,7 +82,7 @@ fn inits(alloc: Global, reader: &mut Reader, room: usize) -> Result<Vec<Init>, R
 }
 
 /// Puts an initializer behind others.
-#[tactic(auto, using(parser_parts::proofs::Parts::trees_behind))]
+#[tactic(auto, using(parser_parts::specs::TreesEquations::trees_behind))]
 fn push_init(list: &mut Vec<Init>, next: Init) -> Result<(), NoMemory>
     ensures { Pushes (trees init_view) result list.old.items list.new.items (init_view next) }
 {
@@ -170,7 +170,7 @@ pub fn names_more(
 }
 
 /// Puts a name behind others.
-#[tactic(auto, using(parser_parts::proofs::Parts::trees_behind))]
+#[tactic(auto, using(parser_parts::specs::TreesEquations::trees_behind))]
 fn push_entry(
     list: &mut Items<(Declarator, Option<Init>)>,
     next: (Declarator, Option<Init>),

@@ -231,7 +231,7 @@ fn parens(alloc: Global, reader: &mut Reader, room: usize) -> Result<DeepExpr, R
 
 /// A name that is no type.
 #[inline(never)]
-#[tactic(auto, using(parser_parts::proofs::TokenWords::name_words), unfolding(c_tree::specs::Grammar::shape))]
+#[tactic(auto, using(parser_parts::specs::WordEquations::name_words), unfolding(c_tree::specs::Grammar::shape))]
 fn name(alloc: Global, reader: &mut Reader, room: usize) -> Result<DeepExpr, ReadError>
     requires room { room < 401 }
     requires some { 0 < room }
@@ -250,7 +250,7 @@ fn name(alloc: Global, reader: &mut Reader, room: usize) -> Result<DeepExpr, Rea
 
 /// An integer constant.
 #[inline(never)]
-#[tactic(auto, using(parser_parts::proofs::TokenWords::int_words), unfolding(c_tree::specs::Grammar::shape))]
+#[tactic(auto, using(parser_parts::specs::WordEquations::int_words), unfolding(c_tree::specs::Grammar::shape))]
 fn int(alloc: Global, reader: &mut Reader, room: usize) -> Result<DeepExpr, ReadError>
     requires room { room < 401 }
     requires some { 0 < room }
@@ -266,7 +266,7 @@ fn int(alloc: Global, reader: &mut Reader, room: usize) -> Result<DeepExpr, Read
 
 /// A character constant.
 #[inline(never)]
-#[tactic(auto, using(parser_parts::proofs::TokenWords::char_words), unfolding(c_tree::specs::Grammar::shape))]
+#[tactic(auto, using(parser_parts::specs::WordEquations::char_words), unfolding(c_tree::specs::Grammar::shape))]
 fn character(alloc: Global, reader: &mut Reader, room: usize) -> Result<DeepExpr, ReadError>
     requires room { room < 401 }
     requires some { 0 < room }

@@ -23,7 +23,7 @@ use crate::pieces::{
     break_out, continue_on, empty, evaluation, for_start, local, maybe_expr, return_with,
 };
 use c_tree::{Expr, Keyword, Sign, Stmt};
-use grammar_reading::Kind;
+use grammar_reading::{Kind, trees_are_read};
 use hs_base::{Line, NoMemory};
 use parser_parts::{Outer, ReadError, Reader};
 use std::alloc::Global;
@@ -98,6 +98,7 @@ fn compound(
     requires some { 0 < room }
     ensures { Reads stmt_view result reader.new (scoped (open_at (less room) room keyword) reader.old) }
 {
+    trees_are_read();
     let outer = reader.enter();
     let read = open(alloc, reader, room, keyword);
     ended(reader, outer, read)
@@ -132,6 +133,7 @@ fn branch(alloc: Global, reader: &mut Reader, room: usize) -> Result<Stmt, ReadE
     requires room { room < 401 }
     ensures { Reads stmt_view result reader.new (read room Branch reader.old) }
 {
+    trees_are_read();
     let outer = reader.enter();
     let read = statement(alloc, reader, room);
     ended(reader, outer, read)
@@ -158,6 +160,7 @@ fn block(alloc: Global, reader: &mut Reader, room: usize) -> Result<Stmt, ReadEr
     requires some { 0 < room }
     ensures { Reads stmt_view result reader.new (scoped (fixed (less room) form.Block) reader.old) }
 {
+    trees_are_read();
     let outer = reader.enter();
     let read = open_block(alloc, reader, room);
     ended(reader, outer, read)
@@ -435,7 +438,7 @@ pub fn items(alloc: Global, reader: &mut Reader, room: usize) -> Result<Vec<Stmt
 }
 
 /// Puts a statement behind others.
-#[tactic(auto, using(parser_parts::proofs::Parts::trees_behind))]
+#[tactic(auto, using(parser_parts::specs::TreesEquations::trees_behind))]
 fn push(list: &mut Vec<Stmt>, stmt: Stmt) -> Result<(), NoMemory>
     ensures { Pushes (trees stmt_view) result list.old.items list.new.items (stmt_view stmt) }
 {

@@ -35,7 +35,7 @@ pub fn strings(alloc: Global, reader: &mut Reader) -> Result<Items<Items<u8>>, R
 }
 
 /// Puts a string literal behind others.
-#[tactic(auto, using(parser_parts::proofs::Parts::leaves_behind))]
+#[tactic(auto, using(parser_parts::specs::TreesEquations::leaves_behind))]
 fn push(list: &mut Items<Items<u8>>, literal: Items<u8>) -> Result<(), NoMemory>
     ensures { Pushes literal_leaves result list.old list.new (Leaf (Str literal)) }
 {

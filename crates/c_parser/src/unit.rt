@@ -77,7 +77,7 @@ fn next(alloc: Global, reader: &mut Reader) -> Result<Decl, ParseError>
 }
 
 /// Puts a declaration behind others.
-#[tactic(auto, using(parser_parts::proofs::Parts::trees_behind))]
+#[tactic(auto, using(parser_parts::specs::TreesEquations::trees_behind))]
 fn push(list: &mut Items<Decl>, decl: Decl) -> Result<(), NoMemory>
     ensures { Pushes (trees decl_view) result list.old list.new (decl_view decl) }
 {

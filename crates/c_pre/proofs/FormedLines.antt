@@ -10,8 +10,7 @@ use Rattle.c_lexer.specs.declared.token.Token.{Token}
 use Rattle.c_lexer.specs.declared.token.LexError.{LexError}
 use Rattle.c_lexer.specs.declared.token.LexError.TheVariants as lex
 use Rattle.c_lexer.specs.declared.token.LexKind.TheVariants.{BadByte}
-use Rattle.c_lexer.proofs.Cuts.{text_cut}
-use Rattle.c_lexer.proofs.Loop.{lexed_of}
+use Rattle.c_lexer.specs.Cutting.{PiecesAreTheCut, TokensHaveForms}
 use Rattle.c_pre.specs.Formed.{IsFormed, IsFormedMacro, IsFormedEntry, Formed}
 use Rattle.c_pre.specs.After.{and_then, at_line}
 use Rattle.c_pre.specs.Comments.{begins_with}
@@ -51,20 +50,24 @@ OnTokens most (Err e) = Unit {0}
 both_hold : (text : List ℕ) (tokens : List Token) → length text ≤ most_bytes → All IsLexed tokens → All (λ (t : Token). length t.bytes ≤ length text) tokens → All IsFormed tokens
 both_hold text tokens low lexed short = λ k d within. (lexed k d within, omega (arith, low, short k d within))
 
-lexed_formed : (text : List ℕ) → length text ≤ most_bytes → OnTokens (length text) (lexed text)
+-- what is read of a text is its cut, with the forms of tokens: the law `pieces_are_the_cut` of `c_lexer`
+abbrev pub Cuts : Type 0
+Cuts = PiecesAreTheCut × TokensHaveForms
+
+lexed_formed : Cuts → (text : List ℕ) → length text ≤ most_bytes → OnTokens (length text) (lexed text)
 unfolding lexed
-lexed_formed text low = by (lexed text) refl where
+lexed_formed cuts text low = by (lexed text) refl where
   by : (r : Result (List Token) LexError) → lexed text ≡ r → OnTokens (length text) r
   by (Ok tokens) e = (
-    both_hold text tokens low (lexed_of first_place text (pieces_from first_place 0 text) tokens (omega arith) (text_cut text) e)
-        (short_cut (length text) first_place text (pieces_from first_place 0 text) tokens (text_cut text) (omega arith) e),
-    few_cut first_place text (pieces_from first_place 0 text) tokens (text_cut text) e,
+    both_hold text tokens low (cuts.1 text (pieces_from first_place 0 text) tokens (cuts.0 text) e)
+        (short_cut (length text) first_place text (pieces_from first_place 0 text) tokens (cuts.0 text) (omega arith) e),
+    few_cut first_place text (pieces_from first_place 0 text) tokens (cuts.0 text) e,
   )
   by (Err f) e = tt
 
-rest_by : (b : Bool) (rest : List ℕ) → length rest ≤ most_bytes → OnTokens (length rest) (cond b (Err (lex.Bad BadByte 1)) (lexed rest))
-rest_by true rest low = tt
-rest_by false rest low = lexed_formed rest low
+rest_by : Cuts → (b : Bool) (rest : List ℕ) → length rest ≤ most_bytes → OnTokens (length rest) (cond b (Err (lex.Bad BadByte 1)) (lexed rest))
+rest_by cuts true rest low = tt
+rest_by cuts false rest low = lexed_formed cuts rest low
 
 -- behind so much work, no more tokens than this, but for those that work put in
 abbrev OnProgress : ℕ → ℕ → Result Progress Refusal → Type 0
@@ -98,9 +101,9 @@ with_run_formed here p most (Ok tokens) t f =
 with_run_formed here p most (Err (lex.Bad kind line)) t f = tt
 with_run_formed here p most (Err lex.NoMemory) t f = tt
 
-run_ended_formed : (here : Here) (p : Progress) → length here.run ≤ most_bytes → Formed p → OnProgress (length p.tokens + length here.run) p.work (run_ended here p)
+run_ended_formed : Cuts → (here : Here) (p : Progress) → length here.run ≤ most_bytes → Formed p → OnProgress (length p.tokens + length here.run) p.work (run_ended here p)
 unfolding run_ended
-run_ended_formed here p low f = with_run_formed here p (length here.run) (lexed here.run) (lexed_formed here.run low) f
+run_ended_formed cuts here p low f = with_run_formed here p (length here.run) (lexed here.run) (lexed_formed cuts here.run low) f
 
 -- an included text has a name that it may have
 abbrev pub OnName : Option (List ℕ) → Type 0
@@ -233,8 +236,8 @@ tokens_formed line most rest (Ok tokens) h = form_formed line (directive_of rest
 tokens_formed line most rest (Err (lex.Bad kind at)) h = tt
 tokens_formed line most rest (Err lex.NoMemory) h = tt
 
-directive_on_formed : (line : ℕ) (rest : List ℕ) → length rest ≤ most_bytes → OnResult (directive_on line rest)
-directive_on_formed line rest low = tokens_formed line (length rest) rest (rest_lexed rest) (rest_by (begins_with 35 (behind_spaces rest)) rest low)
+directive_on_formed : Cuts → (line : ℕ) (rest : List ℕ) → length rest ≤ most_bytes → OnResult (directive_on line rest)
+directive_on_formed cuts line rest low = tokens_formed line (length rest) rest (rest_lexed rest) (rest_by cuts (begins_with 35 (behind_spaces rest)) rest low)
 
 -- the tokens so far and those of the run are no more than this
 abbrev pub Holds : ℕ → ℕ → Here → Progress → Type 0
@@ -294,19 +297,19 @@ then_obeyed : (n w : ℕ) (r : Result Directive Refusal) (here : Here) (p : Prog
 then_obeyed n w (Ok d) here p h f = obeyed_formed n w d here p h f
 then_obeyed n w (Err e) here p h f = tt
 
-from_formed : (n w : ℕ) (b : Bool) (line rest : List ℕ) (here : Here) (p : Progress) → length rest ≤ most_bytes → OnProgress n w (Ok p) → OnStep (n + length line) w (cond b (Ok (step (at_header line here) p)) (and_then (directive_on here.line rest) (λ d. obeyed d (behind_line here) p)))
-from_formed n w true line rest here p low f = ((f.0, omega (arith, f.1), f.2), tt)
-from_formed n w false line rest here p low f =
-    then_obeyed (n + length line) w (directive_on here.line rest) (behind_line here) p (directive_on_formed here.line rest low) (f.0, omega (arith, f.1), f.2)
+from_formed : Cuts → (n w : ℕ) (b : Bool) (line rest : List ℕ) (here : Here) (p : Progress) → length rest ≤ most_bytes → OnProgress n w (Ok p) → OnStep (n + length line) w (cond b (Ok (step (at_header line here) p)) (and_then (directive_on here.line rest) (λ d. obeyed d (behind_line here) p)))
+from_formed cuts n w true line rest here p low f = ((f.0, omega (arith, f.1), f.2), tt)
+from_formed cuts n w false line rest here p low f =
+    then_obeyed (n + length line) w (directive_on here.line rest) (behind_line here) p (directive_on_formed cuts here.line rest low) (f.0, omega (arith, f.1), f.2)
 
-then_directed : (n w : ℕ) (r : Result Progress Refusal) (line rest : List ℕ) (here : Here) → length rest ≤ most_bytes → OnProgress n w r → OnStep (n + length line) w (and_then r (λ q. directed_from line rest here q))
-then_directed n w (Ok q) line rest here low f = from_formed n w (is_some (include_end rest)) line rest here q low f
-then_directed n w (Err e) line rest here low f = tt
+then_directed : Cuts → (n w : ℕ) (r : Result Progress Refusal) (line rest : List ℕ) (here : Here) → length rest ≤ most_bytes → OnProgress n w r → OnStep (n + length line) w (and_then r (λ q. directed_from line rest here q))
+then_directed cuts n w (Ok q) line rest here low f = from_formed cuts n w (is_some (include_end rest)) line rest here q low f
+then_directed cuts n w (Err e) line rest here low f = tt
 
-directed_formed : (line rest : List ℕ) (here : Here) (p : Progress) → length here.run ≤ most_bytes → length rest ≤ most_bytes → Formed p → OnStep (length p.tokens + length here.run + length line) p.work (directed line rest here p)
+directed_formed : Cuts → (line rest : List ℕ) (here : Here) (p : Progress) → length here.run ≤ most_bytes → length rest ≤ most_bytes → Formed p → OnStep (length p.tokens + length here.run + length line) p.work (directed line rest here p)
 unfolding directed
-directed_formed line rest here p run low f =
-    then_directed (length p.tokens + length here.run) p.work (run_ended here p) line rest here low (run_ended_formed here p run f)
+directed_formed cuts line rest here p run low f =
+    then_directed cuts (length p.tokens + length here.run) p.work (run_ended here p) line rest here low (run_ended_formed cuts here p run f)
 
 passed_formed : (line rest : List ℕ) (here : Here) (p : Progress) → Formed p → OnStep (length p.tokens + length here.run + length line) p.work (passed rest here p)
 unfolding passed
@@ -334,16 +337,16 @@ hash_short : (text : List ℕ) → length text ≤ most_bytes → OnRest (behind
 hash_short [] low = tt
 hash_short (b ∷ w) low = hash_by (b == 35) w (omega (arith, low))
 
-line_by_formed : (o : Option (List ℕ)) (line : List ℕ) (here : Here) (p : Progress) → length here.run ≤ most_bytes → OnRest o → Formed p → OnStep (length p.tokens + length here.run + length line) p.work (line_by o line here p)
-line_by_formed None line here p run low f = (text_holds (is_live here.groups) line here p f, tt)
-line_by_formed (Some rest) line here p run low f =
-    pick_step (length p.tokens + length here.run + length line) p.work (is_read (first_word rest) here.groups) (directed line rest here p) (passed rest here p) (directed_formed line rest here p run low f) (passed_formed line rest here p f)
+line_by_formed : Cuts → (o : Option (List ℕ)) (line : List ℕ) (here : Here) (p : Progress) → length here.run ≤ most_bytes → OnRest o → Formed p → OnStep (length p.tokens + length here.run + length line) p.work (line_by o line here p)
+line_by_formed cuts None line here p run low f = (text_holds (is_live here.groups) line here p f, tt)
+line_by_formed cuts (Some rest) line here p run low f =
+    pick_step (length p.tokens + length here.run + length line) p.work (is_read (first_word rest) here.groups) (directed line rest here p) (passed rest here p) (directed_formed cuts line rest here p run low f) (passed_formed line rest here p f)
 
-pub line_formed : (line : List ℕ) (here : Here) (p : Progress) (s : Step) → length here.run ≤ most_bytes → length line ≤ most_bytes → Formed p → line_read line here p ≡ Ok s → Holds (length p.tokens + length here.run + length line) p.work s.here s.progress × OnName s.include
+pub line_formed : Cuts → (line : List ℕ) (here : Here) (p : Progress) (s : Step) → length here.run ≤ most_bytes → length line ≤ most_bytes → Formed p → line_read line here p ≡ Ok s → Holds (length p.tokens + length here.run + length line) p.work s.here s.progress × OnName s.include
 unfolding line_read
-line_formed line here p s run low f e =
+line_formed cuts line here p s run low f e =
     let rest = hash_short (behind_spaces line) (omega (arith, low, length-drop (prefix_len is_space line) line)) in
-    let h : OnStep (length p.tokens + length here.run + length line) p.work (Ok s) = subst (OnStep (length p.tokens + length here.run + length line) p.work) e (line_by_formed (directive_rest line) line here p run rest f) in
+    let h : OnStep (length p.tokens + length here.run + length line) p.work (Ok s) = subst (OnStep (length p.tokens + length here.run + length line) p.work) e (line_by_formed cuts (directive_rest line) line here p run rest f) in
     h
 
 balanced_formed : (n w : ℕ) (o : Option ℕ) (p : Progress) → OnProgress n w (Ok p) → OnProgress n w (balanced o p)
@@ -354,8 +357,8 @@ then_balanced : (n w : ℕ) (r : Result Progress Refusal) (here : Here) → OnPr
 then_balanced n w (Ok q) here f = balanced_formed n w (first_line here.groups) q f
 then_balanced n w (Err e) here f = tt
 
-pub text_formed : (here : Here) (p q : Progress) → length here.run ≤ most_bytes → Formed p → text_ended here p ≡ Ok q → Formed q × (length q.tokens + p.work ≤ length p.tokens + length here.run + q.work) × (p.work ≤ most_work → q.work ≤ most_work)
+pub text_formed : Cuts → (here : Here) (p q : Progress) → length here.run ≤ most_bytes → Formed p → text_ended here p ≡ Ok q → Formed q × (length q.tokens + p.work ≤ length p.tokens + length here.run + q.work) × (p.work ≤ most_work → q.work ≤ most_work)
 unfolding text_ended
-text_formed here p q run f e =
-    let h : OnProgress (length p.tokens + length here.run) p.work (Ok q) = subst (OnProgress (length p.tokens + length here.run) p.work) e (then_balanced (length p.tokens + length here.run) p.work (run_ended here p) here (run_ended_formed here p run f)) in
+text_formed cuts here p q run f e =
+    let h : OnProgress (length p.tokens + length here.run) p.work (Ok q) = subst (OnProgress (length p.tokens + length here.run) p.work) e (then_balanced (length p.tokens + length here.run) p.work (run_ended here p) here (run_ended_formed cuts here p run f)) in
     h

@@ -11,7 +11,7 @@ use Rattle.c_lexer.specs.declared.piece.PieceKind.TheVariants.{Gap, Token as Tok
 use Rattle.c_lexer.specs.declared.token.Token.{Token}
 use Rattle.c_lexer.specs.declared.token.LexError.{LexError}
 use Rattle.c_lexer.specs.declared.token.LexError.TheVariants.{Bad, NoMemory}
-use Rattle.c_lexer.proofs.Cuts.{text_cut, has_answer}
+use Rattle.c_lexer.specs.Cutting.{PiecesAreTheCut}
 use Rattle.c_pre.specs.Reading.{lexed}
 use Rattle.c_pre.specs.Answering.{GivesLexed}
 
@@ -52,11 +52,11 @@ own most (Ok tokens) h = (refl, h)
 own most (Err (Bad kind line)) h = (refl, h)
 own most (Err NoMemory) h = tt
 
-pub gives_lexed : (text : List ℕ) (found : Result (List Token) LexError) → IsOnlyAnswer text found → GivesLexed (lexed text) (length text + 1) found
+pub gives_lexed : PiecesAreTheCut → (text : List ℕ) (found : Result (List Token) LexError) → IsOnlyAnswer text found → GivesLexed (lexed text) (length text + 1) found
 unfolding lexed
-gives_lexed text found only = by (only (lexed text) (has_answer text)) where
+gives_lexed cut text found only = by (only (lexed text) (pieces_from first_place 0 text, cut text, refl)) where
   by : (found ≡ lexed text) ⊎ (found ≡ Err NoMemory) → GivesLexed (lexed text) (length text + 1) found
-  by (inl e) = subst (GivesLexed (lexed text) (length text + 1)) (sym e) (own (length text + 1) (lexed text) (within_cut (length text + 1) first_place text (pieces_from first_place 0 text) (text_cut text) (omega arith)))
+  by (inl e) = subst (GivesLexed (lexed text) (length text + 1)) (sym e) (own (length text + 1) (lexed text) (within_cut (length text + 1) first_place text (pieces_from first_place 0 text) (cut text) (omega arith)))
   by (inr e) = subst (GivesLexed (lexed text) (length text + 1)) (sym e) tt
 
 -- no token of an answer is longer

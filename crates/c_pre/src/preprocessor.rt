@@ -15,7 +15,7 @@ use crate::lines::line_length;
 use crate::macros::Macros;
 use crate::progress::Progress;
 use crate::text_name::TextName;
-use c_lexer::{LexKind, Token};
+use c_lexer::{LexKind, Token, pieces_are_the_cut};
 use hs_base::{Items, Line, NoMemory, ReadError, Texts, read_all};
 use std::alloc::Global;
 
@@ -181,6 +181,7 @@ impl Progress {
         ensures keeps { T.texts texts.new ≡ T.texts texts.old }
         ensures cause { CountsFault (T.faults texts.old) (T.faults texts.new) result }
     {
+        pieces_are_the_cut();
         let source = self.open(alloc, texts, name)?;
         let mut here = Here::new(alloc, source.base);
         let mut at = 0;

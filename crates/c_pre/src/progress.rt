@@ -15,7 +15,7 @@ use crate::macros::Macros;
 use crate::marked::Marked;
 use crate::scan::{Expanded, expand};
 use crate::text_name::TextName;
-use c_lexer::{LexError, LexKind, Token, include_end, lex};
+use c_lexer::{LexError, LexKind, Token, include_end, lex, pieces_are_the_cut};
 use hs_base::{Items, Line, NoMemory};
 use std::alloc::Global;
 
@@ -40,6 +40,7 @@ fn read_tokens(alloc: Global, text: &[u8]) -> Result<Items<Token>, LexError>
     requires { length text.now < 2 ^ 32 }
     ensures { GivesLexed (lexed text.now) (length text.now + 1) result }
 {
+    pieces_are_the_cut();
     lex(alloc, text)
 }
 

@@ -1,37 +1,16 @@
 -- Lengths and conversions.
-use Rattle.std.proofs.Common.{◌≡◌, ◌≢◌, ◌≤◌, ℕ, Bool, true, false, cond, List, [], ◌∷◌, ◌++◌, ◌&&◌, take, length, nat_eq, nat_le, Some, None, refl, sym, ap, ◌∙◌, subst, ⊎_elim, codes, arith}
-use Rattle.std.specs.List.{list_all, starts_with}
+use Rattle.std.proofs.Common.{◌≡◌, ◌≢◌, ℕ, Bool, true, false, cond, List, [], ◌∷◌, ◌++◌, ◌&&◌, take, length, nat_eq, Some, None, refl, sym, ap, ◌∙◌, subst, codes}
+use Rattle.std.specs.List.{starts_with}
 use Rattle.std.specs.Option.{unwrap_or}
 use lib.Pointwise.{pointwise}
 use Rattle.std.proofs.lemmas.List.{append_cancel_left}
-use Rattle.std.proofs.lemmas.Bool.{eqb-true, leb-true, ne_eqb, or_cases, and_parts, false≢true}
+use Rattle.std.proofs.lemmas.Bool.{ne_eqb}
 use Rattle.hs_base.specs.declared.ends.IntKind.{IntKind}
 use Rattle.c_print.specs.declared.length.Length.{Length}
 use Rattle.c_print.specs.declared.length.Length.TheVariants.{Absent, Hh, H, L, Ll, Z}
-use Rattle.c_print.specs.Length.{length_bytes, signed_kind, unsigned_kind, byte_kind, is_one_of, kind_of}
+use Rattle.c_print.specs.Length.{length_bytes, kind_of}
 use Rattle.c_print.specs.Pieces.{length_at}
-use Rattle.c_print.specs.Item.{StartsOutside, ReadsConversion}
-
-one_of_bound : (low : ℕ) (bytes : List ℕ) (b : ℕ) → list_all (nat_le low) bytes ≡ true → is_one_of bytes b ≡ true → low ≤ b
-one_of_bound low [] b high found = absurd (false≢true found)
-one_of_bound low (c ∷ bytes) b high found =
-    let parts = and_parts (nat_le low c) (list_all (nat_le low) bytes) high in
-    ⊎_elim
-    (λ here. omega (arith, leb-true low c parts.0, eqb-true c b here))
-    (λ later. one_of_bound low bytes b parts.1 later)
-    (or_cases (nat_eq c b) (is_one_of bytes b) found)
-
--- each conversion is a letter from `X` on
-kind_bound : (length : Length) (conv : ℕ) (kind : IntKind) (signed unsigned text : Bool) →
-    is_one_of (codes "di") conv ≡ signed → is_one_of (codes "ouxX") conv ≡ unsigned → is_one_of (codes "cs") conv ≡ text →
-    cond signed (signed_kind length) (cond unsigned (unsigned_kind length) (cond text (byte_kind length) None)) ≡ Some kind → 88 ≤ conv
-kind_bound length conv kind true unsigned text s u t is = one_of_bound 88 (codes "di") conv refl s
-kind_bound length conv kind false true text s u t is = one_of_bound 88 (codes "ouxX") conv refl u
-kind_bound length conv kind false false true s u t is = one_of_bound 88 (codes "cs") conv refl t
-kind_bound length conv kind false false false s u t is = absurd (cc)
-
-pub conv_is_letter : (length : Length) (conv : ℕ) (kind : IntKind) → kind_of length conv ≡ Some kind → 88 ≤ conv
-conv_is_letter length conv kind is = kind_bound length conv kind _ _ _ refl refl refl is
+use Rattle.c_print.specs.Item.{ReadsConversion}
 
 -- and no letter of a length
 pub conv_is_not : (length : Length) (conv : ℕ) (kind : IntKind) → kind_of length conv ≡ Some kind →
@@ -82,17 +61,3 @@ one_conversion bytes conv conv' kind kind' rest rest' one other =
     let conv_same : conv ≡ conv' = cc in
     let kinds : Some kind ≡ Some kind' = sym one.kind_is ∙ (λ i. kind_of (same i) (conv_same i)) ∙ other.kind_is in
     (conv_same, cc, cc)
-
--- no flag and no digit stands before a conversion
-pub starts_outside : (test : ℕ → Bool) → (test 104 ≡ false) → (test 108 ≡ false) → (test 122 ≡ false) →
-    ((b : ℕ) → 88 ≤ b → test b ≡ false) → (bytes : List ℕ) (conv : ℕ) (kind : IntKind) (rest : List ℕ) →
-    ReadsConversion bytes conv kind rest → StartsOutside test bytes
-starts_outside test h l z high bytes conv kind rest reads =
-    subst (StartsOutside test) (sym reads.written) (by_length reads.length (high conv (conv_is_letter reads.length conv kind reads.kind_is))) where
-      by_length : (length : Length) → test conv ≡ false → StartsOutside test (length_bytes length ++ conv ∷ rest)
-      by_length Absent is = is
-      by_length Hh is = h
-      by_length H is = h
-      by_length L is = l
-      by_length Ll is = l
-      by_length Z is = z

@@ -16,7 +16,8 @@ use Rattle.c_print.specs.Pieces.{length_at, item_of, item_at, join, pieces_from,
 use Rattle.c_print.proofs.Widths.{value_width_bytes}
 use Rattle.c_print.proofs.Fronts.{take_while_front}
 use Rattle.c_print.proofs.Convs.{conv_is_not, length_at_is}
-use Rattle.c_print.proofs.Parts.{width_digits, item_ends, item_is_no_percent}
+use Rattle.c_print.specs.ItemEquations.{width_digits, item_is_no_percent}
+use Rattle.c_print.proofs.Parts.{item_ends}
 use Rattle.c_print.proofs.Pieces.{begins_plain, some_bytes, plain_written, plain_behind, plain_byte_some, piece_is_longer}
 
 past_front : (a front bytes behind : List ℕ) → a ≡ front → bytes ≡ front ++ behind → drop (length a) bytes ≡ behind

@@ -3,7 +3,6 @@ pub mod Fronts
 pub mod Convs
 pub mod Parts
 pub mod Pieces
-pub mod Puts
 pub mod Fields
 pub mod Numerals
 pub mod Functions

@@ -1,23 +1,18 @@
 -- An item has one reading.
-use Rattle.std.proofs.Common.{◌≡◌, ◌≢◌, ◌≤◌, ◌<◌, ℕ, Bool, true, false, List, [], ◌∷◌, ◌++◌, nat_eq, get_or, length, length-append, refl, sym, ap, ◌∙◌, subst, ⊎_elim, arith}
+use Rattle.std.proofs.Common.{◌≡◌, ◌≢◌, ◌≤◌, ◌<◌, ℕ, Bool, true, false, List, [], ◌∷◌, ◌++◌, get_or, length, length-append, refl, sym, ap, ◌∙◌, subst, ⊎_elim, arith}
 use Rattle.std.specs.List.{list_all}
 use Rattle.std.specs.Char.{is_ascii_digit}
 use Rattle.std.specs.Str.Parse.{digits_value}
 use Rattle.std.proofs.lemmas.Bool.{and_parts, cases_eq}
-use Rattle.std.proofs.lemmas.Fmt.{digits_decimal, first_decimal}
+use Rattle.std.proofs.lemmas.Fmt.{first_decimal}
 use Rattle.std.proofs.lemmas.Bool.Decides.{nat_tests}
 use Rattle.hs_base.specs.declared.ends.IntKind.{IntKind}
 use Rattle.c_print.specs.Item.{is_flag, StartsOutside, width_bytes, ReadsConversion, ReadsItem}
-use Rattle.c_print.proofs.Widths.{all_digits, width_bytes_some, value_width_bytes}
+use Rattle.c_print.proofs.Widths.{value_width_bytes}
 use Rattle.c_print.proofs.Fronts.{one_front}
 use Rattle.c_print.specs.Length.{length_bytes, is_one_of}
-use Rattle.c_print.proofs.Convs.{starts_outside, one_conversion}
-
-pub width_digits : (width : ℕ) → width ≤ 4095 → list_all is_ascii_digit (width_bytes width) ≡ true
-width_digits width small = ⊎_elim
-    (λ none. ap (λ w. list_all is_ascii_digit (width_bytes w)) none)
-    (λ some. ap (list_all is_ascii_digit) (width_bytes_some width some) ∙ digits_decimal all_digits width (omega arith))
-    (cases_eq width 0)
+use Rattle.c_print.specs.ItemEquations.{starts_outside, width_bytes_some, width_digits}
+use Rattle.c_print.proofs.Convs.{one_conversion}
 
 width_front : (width : ℕ) → width ≤ 4095 → get_or (width_bytes width) 0 0 ≢ 48
 width_front width small = ⊎_elim
@@ -99,31 +94,6 @@ one_item bytes left zeros width conv kind rest left' zeros' width' conv' kind' r
       same_kind = behind.1;
       same_rest = behind.2;
     }
-
--- an item does not begin with a percent sign
-abbrev is_percent : ℕ → Bool
-is_percent b = nat_eq b 37
-
-flag_is_no_percent : (b : ℕ) → is_flag b ≡ true → is_percent b ≡ false
-flag_is_no_percent b flag = grind (arith, nat_tests)
-
-digit_is_no_percent : (b : ℕ) → is_ascii_digit b ≡ true → is_percent b ≡ false
-digit_is_no_percent b digit = grind (arith, nat_tests)
-
-letter_is_no_percent : (b : ℕ) → 88 ≤ b → is_percent b ≡ false
-letter_is_no_percent b high = grind (arith, nat_tests)
-
-starts_in : (test : ℕ → Bool) → ((b : ℕ) → test b ≡ true → is_percent b ≡ false) → (front behind : List ℕ) →
-    list_all test front ≡ true → StartsOutside is_percent behind → StartsOutside is_percent (front ++ behind)
-starts_in test outside_percent [] behind all outside = outside
-starts_in test outside_percent (b ∷ front) behind all outside = outside_percent b (and_parts (test b) (list_all test front) all).0
-
-pub item_is_no_percent : (bytes : List ℕ) (left zeros : Bool) (width conv : ℕ) (kind : IntKind) (rest : List ℕ) →
-    ReadsItem bytes left zeros width conv kind rest → StartsOutside is_percent bytes
-item_is_no_percent bytes left zeros width conv kind rest item =
-    subst (StartsOutside is_percent) (sym item.written) (starts_in is_flag flag_is_no_percent item.flags (width_bytes width ++ item.behind) item.only_flags
-    (starts_in is_ascii_digit digit_is_no_percent (width_bytes width) item.behind (width_digits width item.width_fits)
-    (starts_outside is_percent refl refl refl letter_is_no_percent item.behind conv kind rest item.conversion)))
 
 pub item_is_longer : (bytes : List ℕ) (left zeros : Bool) (width conv : ℕ) (kind : IntKind) (rest : List ℕ) →
     ReadsItem bytes left zeros width conv kind rest → length rest < length bytes

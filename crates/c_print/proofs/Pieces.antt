@@ -7,7 +7,8 @@ use Rattle.hs_base.specs.declared.ends.IntKind.{IntKind}
 use Rattle.c_print.specs.declared.piece.Piece.{Piece}
 use Rattle.c_print.specs.declared.piece.Piece.TheVariants.{Plain, Item}
 use Rattle.c_print.specs.Item.{ReadsItem, StartsOutside}
-use Rattle.c_print.proofs.Parts.{one_item, item_is_no_percent, item_is_longer}
+use Rattle.c_print.specs.ItemEquations.{item_is_no_percent}
+use Rattle.c_print.proofs.Parts.{one_item, item_is_longer}
 use Rattle.std.proofs.lemmas.Bool.{eqb-true, eqb-false, true≢false}
 use Rattle.c_print.specs.Format.{plain_byte, GoesOnPlain, ReadsPlain, ReadsPiece, ReadsPieces, IsFormat, IsGiven}
 

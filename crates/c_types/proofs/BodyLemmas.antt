@@ -15,7 +15,8 @@ use Rattle.c_types.specs.Bodies.{IsSized, IsPlaced, KeepsRule, completed_tag}
 use Rattle.c_types.specs.Slots.{first_known, IsLargest}
 use Rattle.c_types.proofs.Filtered.{contains, filtered, same_bool, passes_all, passes_at, any_at, or_holds}
 use Rattle.c_types.proofs.ListLemmas.{first_sized, first_layout, moved_both}
-use Rattle.c_types.proofs.Sound.{AllSound, known_sound, rounded_le, slot_within, flat_map_push, some_passes, member_layouts_sound}
+use Rattle.c_types.specs.LayoutsEquations.{rounded_le}
+use Rattle.c_types.proofs.Sound.{AllSound, known_sound, slot_within, flat_map_push, some_passes, member_layouts_sound}
 use Rattle.c_types.proofs.MemberLemmas.{pairs}
 
 pub all_at : {X : Type 0} (P : X → Type 0) (xs : List X) (i : ℕ) (x : X) → AllByRecursion P xs → i < length xs → x ≡ get_or xs i x → P x

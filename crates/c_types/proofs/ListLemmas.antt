@@ -12,7 +12,7 @@ use Rattle.c_types.specs.TagTable.{TagTable, CompletedTag, known, layout_or, siz
 use Rattle.c_types.proofs.PlacingLemmas.{unwrap_map}
 use Rattle.c_types.specs.Bodies.{IsSized, IsBodyOf, completed_tag}
 use Rattle.c_types.specs.Slots.{first_known}
-use Rattle.c_types.proofs.MemberLemmas.{Extends, layout_stays, sized_stays}
+use Rattle.c_types.specs.TagTableEquations.{Extends, layout_stays, sized_stays}
 use Rattle.c_types.proofs.Places.{known_after_first}
 use Rattle.c_types.proofs.Sound.{layout_sound, known_sound}
 use Rattle.c_types.proofs.SlotLemmas.{repeats}

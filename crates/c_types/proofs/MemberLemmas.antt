@@ -1,42 +1,15 @@
 -- Members with their layouts, whatever is known besides.
-use Rattle.std.proofs.Common.{◌≡◌, ℕ, List, [], ◌∷◌, Bool, true, false, cond, Option, Some, None, Bor, option_map, map, refl, ap, sym, ◌∙◌, IsSome}
+use Rattle.std.proofs.Common.{◌≡◌, ℕ, List, [], ◌∷◌, Bool, true, false, cond, Option, Some, None, Bor, option_map, map, refl, ap, ◌∙◌}
 use Rattle.std.specs.Prelude.{bytes_eq, find, option_copied}
 use Rattle.std.specs.List.{AllByRecursion, zip}
 use Rattle.c_types.specs.declared.layouts.Layout.{Layout}
 use Rattle.c_types.specs.declared.bodies.Body.{Body}
 use Rattle.c_types.specs.declared.bodies.Member.{Member}
-use Rattle.c_types.specs.Types.{PlainType, Void, Int, Pointer, Array, Struct, Union, Function, plain}
-use Rattle.c_types.specs.Layouts.{Known, array_layout, layout_of}
+use Rattle.c_types.specs.Types.{PlainType, plain}
+use Rattle.c_types.specs.Layouts.{Known, layout_of}
 use Rattle.c_types.specs.TagTable.{PlainMember, member_layout, plain_member, placed_members}
 use Rattle.c_types.specs.Bodies.{IsSized, IsPlaced, completed_tag}
-
--- more is known
-abbrev pub Extends : Known → Known → Type 0
-Extends k more = (tag : ℕ) (l : Layout) → k tag ≡ Some l → more tag ≡ Some l
-
-pub some_array : (o : Option Layout) (n : ℕ) (l : Layout) → option_map (array_layout n) o ≡ Some l → (e : Layout) × (o ≡ Some e) × (array_layout n e ≡ l)
-some_array None n l h = cc
-some_array (Some e) n l h = (e, refl, (let same : array_layout n e ≡ l = cc in same))
-
-pub layout_stays : (k more : Known) → Extends k more → (type : PlainType) (l : Layout) → layout_of k type ≡ Some l → layout_of more type ≡ Some l
-layout_stays k more x Void l e = cc
-layout_stays k more x (Int int) l e = e
-layout_stays k more x (Pointer target) l e = e
-layout_stays k more x (Array element n) l e =
-    let r = some_array (layout_of k element) n l e in
-    rw (layout_stays k more x element r.0 r.1) (ap Some r.2)
-layout_stays k more x (Struct tag) l e = x tag l e
-layout_stays k more x (Union tag) l e = x tag l e
-layout_stays k more x (Function answer params) l e = cc
-
-pub sized_stays : (k more : Known) → Extends k more → (type : PlainType) → IsSome (layout_of k type) → layout_of k type ≡ layout_of more type
-sized_stays k more x type s =
-    elim (layout_of k type) as (λ o. IsSome o → layout_of k type ≡ o → layout_of k type ≡ layout_of more type) [
-      | None ↦ λ h e. cc
-      | Some l ↦ λ h e. e ∙ sym (layout_stays k more x type l e)
-    ]
-    s
-    refl
+use Rattle.c_types.specs.TagTableEquations.{Extends, sized_stays}
 
 abbrev pub pairs : List Member → List (List ℕ × PlainType)
 pairs ms = map (λ m. (m.name, plain m.ty)) ms

@@ -5,6 +5,7 @@ use Rattle.c_types.specs.declared.layouts.Layout.{Layout}
 use Rattle.c_types.specs.declared.bodies.Body.{Body}
 use Rattle.c_types.specs.Layouts.{Known}
 use Rattle.c_types.specs.TagTable.{CompletedTag, learn, known, tag_layout}
+use Rattle.c_types.specs.TagTableEquations.{stays_known}
 use Rattle.c_types.specs.Bodies.{completed_tag, place_in, IsPlaced, KeepsRule, AllLaid, IsBodyOf}
 
 -- what is known after bodies
@@ -13,10 +14,6 @@ after known bs = fold learn known (map completed_tag bs)
 
 abbrev pub has_tag : ℕ → CompletedTag → Bool
 has_tag tag done = done.tag == tag
-
-pub stays_known : (k : Known) (ds : List CompletedTag) (tag : ℕ) (l : Layout) → k tag ≡ Some l → fold learn k ds tag ≡ Some l
-stays_known k [] tag l e = e
-stays_known k (d ∷ ds) tag l e = stays_known (learn k d) ds tag l (rw e refl)
 
 -- what is known after the first tags stays known
 pub known_after_first : (k : Known) (ds : List CompletedTag) (n tag : ℕ) (l : Layout) → fold learn k (take n ds) tag ≡ Some l → fold learn k ds tag ≡ Some l

@@ -1,24 +1,9 @@
 -- Types as plain data: functions, and lists of parameters.
 use Rattle.std.proofs.Common.{◌≡◌, ℕ, suc, List, [], ◌∷◌, Bor, refl, ap, ◌∙◌, rules, IsTrue, false, ◌↔◌, ◌<◌, ◌≤◌, zero, length, take, get_or, arith}
-use Rattle.c_types.specs.declared.types.CType.{CType, Row_of-CType, end_of-CType, more_of-CType, items-the_row-CType, size-CType, the_lemmas}
+use Rattle.c_types.specs.declared.types.CType.{CType, size-CType, the_lemmas}
 use Rattle.c_types.specs.declared.types.CType.TheVariants as c
-use Rattle.c_types.specs.declared.types.CType.TheBlock.{hidden-the_row-CType-0}
 use Rattle.c_types.specs.declared.types.Signature.{Signature}
-use Rattle.c_types.specs.Types.{Function, none, first, plain, plain_row, plain_list, plain_signature}
-
--- the types of a row are those of its list
-plain_row-items : (n : _) (r : Row_of-CType n) → plain_row r ≡ plain_list (items-the_row-CType n r)
-plain_row-items n end_of-CType = refl
-plain_row-items n (more_of-CType t r) = ap (first (plain t)) (plain_row-items _ r)
-
-row_is : (n : _) (r : Row_of-CType n) (xs : List CType) → items-the_row-CType n r ≡ xs → plain_row r ≡ plain_list xs
-row_is n r xs e = plain_row-items n r ∙ ap plain_list e
-
-pub plain-parts : (s : Signature) → Function (plain s.result) (plain_row (hidden-the_row-CType-0 s.params)) ≡ plain_signature s
-plain-parts s = ap (λ ts. Function (plain s.result) ts) (row_is _ (hidden-the_row-CType-0 s.params) s.params.items (search (rules, the_lemmas)))
-
-pub plain-function : (x : Bor Signature) → plain (c.Function x) ≡ plain_signature x.now
-plain-function x = plain-parts x.now
+use Rattle.c_types.specs.Types.{Function, none, first, plain, plain_list}
 
 pub result_below : (x : Bor Signature) → size-CType x.now.result ≤ size-CType (c.Function x)
 result_below x = search (rules, the_lemmas)

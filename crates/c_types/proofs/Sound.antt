@@ -1,7 +1,6 @@
 -- Each layout of a type is sound.
-use Rattle.std.proofs.Common.{◌≡◌, ◌⊎◌, ◌≤◌, ◌+◌, ◌*◌, ◌%◌, ◌==◌, ℕ, suc, zero, Bool, true, false, List, [], ◌∷◌, ◌++◌, Some, None, unwrap_or, map, fold, filter, max, refl, ap, sym, ◌∙◌, append-nil, arith, subst, ⊎_elim, inl, inr}
-use Rattle.std.proofs.Math.Nat.{mod_self, max_comm, mul-zero, zero-mod}
-use Rattle.std.proofs.lemmas.Nat.{mul-mod_second}
+use Rattle.std.proofs.Common.{◌≡◌, ◌⊎◌, ◌≤◌, ◌+◌, ◌*◌, ◌%◌, ◌==◌, ℕ, suc, zero, Bool, true, false, List, [], ◌∷◌, ◌++◌, Some, None, unwrap_or, map, fold, filter, max, refl, ap, ◌∙◌, append-nil, arith, subst, ⊎_elim, inl, inr}
+use Rattle.std.proofs.Math.Nat.{mod_self, max_comm}
 use Rattle.c_types.proofs.PlacingLemmas.{max_is, max_aligned}
 use Rattle.std.proofs.lemmas.Grind.{flat_map-append}
 use Rattle.std.proofs.lemmas.Bool.{eqb-true}
@@ -11,35 +10,10 @@ use Rattle.c_types.specs.declared.layouts.Layout.{Layout}
 use Rattle.c_types.specs.declared.types.IntType.{IntType}
 use Rattle.c_types.specs.declared.types.IntType.TheVariants as i
 use Rattle.c_types.specs.TagTable.{CompletedTag, learn, known, tag_layout, member_layout}
-use Rattle.c_types.proofs.MemberLemmas.{some_array}
+use Rattle.c_types.specs.TagTableEquations.{some_array}
 use Rattle.c_types.specs.Types.{PlainType, Void, Int, Pointer, Array, Struct, Union, Function, width_of}
 use Rattle.c_types.specs.Layouts.{Known, Placed, IsAlignment, AreSlots, IsSound, moved, array_layout, number_layout, no_layout, pointer_layout, layout_of, place, placed, none_placed, members_layout, has_slot}
-
-pub slots_within : (low more high less : ℕ) (ss : List ℕ) → more ≤ low → high ≤ less → AreSlots low high ss → AreSlots more less ss
-slots_within low more high less [] a b h = tt
-slots_within low more high less (s ∷ ss) a b h = (omega arith, omega arith, h.2, slots_within (s + 4) (s + 4) high less ss (omega arith) b h.3)
-
-pub slots_append : (low mid high : ℕ) (xs ys : List ℕ) → low ≤ mid → mid ≤ high → AreSlots low mid xs → AreSlots mid high ys → AreSlots low high (xs ++ ys)
-slots_append low mid high [] ys a b h g = slots_within mid low high high ys a (omega arith) g
-slots_append low mid high (x ∷ xs) ys a b h g = (h.0, omega arith, h.2, slots_append (x + 4) mid high xs ys (omega arith) b h.3 g)
-
-pub slots_moved : (by low high : ℕ) (ss : List ℕ) → by % 4 ≡ 0 → AreSlots low high ss → AreSlots (by + low) (by + high) (moved by ss)
-slots_moved by low high [] d h = tt
-slots_moved by low high (s ∷ ss) d h = (
-  omega arith,
-  omega arith,
-  (let words = h.2 in omega arith),
-  slots_within (by + (s + 4)) (by + s + 4) (by + high) (by + high) (moved by ss) (omega arith) (omega arith) (slots_moved by (s + 4) high ss d h.3),
-)
-
--- slots that are none move anywhere
-pub slots_moved_if : (by low high : ℕ) (ss : List ℕ) → (ss ≡ []) ⊎ (by % 4 ≡ 0) → AreSlots low high ss → AreSlots (by + low) (by + high) (moved by ss)
-slots_moved_if by low high ss d h =
-    ⊎_elim (λ (e : ss ≡ []). subst (λ (l : List ℕ). AreSlots (by + low) (by + high) (moved by l)) (sym e) tt) (λ e. slots_moved by low high ss e h) d
-
--- numbers modulo an alignment
-product_whole : (n size align : ℕ) → size % align ≡ 0 → (n * size) % align ≡ 0
-product_whole n size align e = sym (mul-mod_second n size align) ∙ rw (e, mul-zero) (zero-mod align)
+use Rattle.c_types.specs.LayoutsEquations.{slots_within, rounded_le, slots_append, slots_moved_if, product_whole, whole_words, slots_of_array}
 
 aligned_some : (a : ℕ) → IsAlignment a → 1 ≤ a
 aligned_some a (inl e) = omega arith
@@ -47,20 +21,11 @@ aligned_some a (inr (inl e)) = omega arith
 aligned_some a (inr (inr (inl e))) = omega arith
 aligned_some a (inr (inr (inr e))) = omega arith
 
-whole_words : (size align : ℕ) → IsAlignment align → size % align ≡ 0 → align % 4 ≡ 0 → size % 4 ≡ 0
-whole_words size align (inl e) w q = absurd (let one = e in omega arith)
-whole_words size align (inr (inl e)) w q = absurd (let two = e in omega arith)
-whole_words size align (inr (inr (inl e))) w q = rw e at w
-whole_words size align (inr (inr (inr e))) w q = let eight : size % 8 ≡ 0 = rw e at w in omega arith
-
 rounded_whole : (n align : ℕ) → IsAlignment align → next_multiple_of n align % align ≡ 0
 rounded_whole n align (inl e) = rw e (omega arith)
 rounded_whole n align (inr (inl e)) = rw e (omega arith)
 rounded_whole n align (inr (inr (inl e))) = rw e (omega arith)
 rounded_whole n align (inr (inr (inr e))) = rw e (omega arith)
-
-pub rounded_le : (n align : ℕ) → n ≤ next_multiple_of n align
-rounded_le n align = omega arith
 
 max_words : (a b : ℕ) → IsAlignment a → IsAlignment b → a % 4 ≡ 0 → max a b % 4 ≡ 0
 max_words a b p (inl e) w = let some = aligned_some a p in omega arith
@@ -70,17 +35,6 @@ max_words a b p (inr (inr (inr e))) w = ⊎_elim (λ h. ap (λ n. n % 4) h ∙ w
 
 max_words_right : (a b : ℕ) → IsAlignment a → IsAlignment b → b % 4 ≡ 0 → max a b % 4 ≡ 0
 max_words_right a b p q w = ap (λ n. n % 4) (max_comm a b) ∙ max_words b a q p w
-
-array_slots :
-    (size : ℕ) (ss : List ℕ) → (ss ≡ []) ⊎ (size % 4 ≡ 0) → AreSlots 0 size ss → (a n : ℕ) →
-    AreSlots (a * size) ((a + n) * size) (flat_map (λ k. moved (k * size) ss) (range_with_len a n))
-array_slots size ss q h a zero = tt
-array_slots size ss q h a (suc n) =
-    let here : AreSlots (a * size + 0) (a * size + size) (moved (a * size) ss) =
-    slots_moved_if (a * size) 0 size ss (⊎_elim (λ (e : ss ≡ []). inl e) (λ e. inr (product_whole a size 4 e)) q) h in
-    let rest = array_slots size ss q h (a + 1) n in
-    slots_append (a * size) (a * size + size) ((a + suc n) * size) _ _ (omega arith) (omega arith) (slots_within (a * size + 0) (a * size) _ _ _ (omega arith) (omega arith) here)
-    (slots_within ((a + 1) * size) (a * size + size) ((a + 1 + n) * size) ((a + suc n) * size) _ (omega arith) (omega arith) rest)
 
 pub flat_map_none : {X : Type 0} (f : X → List ℕ) (xs : List X) → ((x : X) → f x ≡ []) → flat_map f xs ≡ []
 flat_map_none f [] e = refl
@@ -94,12 +48,10 @@ flat_map_push f xs x = flat_map-append f xs (x ∷ []) ∙ ap (λ t. flat_map f 
 
 pub array_sound : (n : ℕ) (l : Layout) → IsSound l → IsSound (array_layout n l)
 array_sound n l h =
-    let quad : (l.slots ≡ []) ⊎ (l.size % 4 ≡ 0) =
-    ⊎_elim (λ (e : l.slots ≡ []). inl e) (λ e. inr (whole_words l.size l.align h.aligned h.whole e)) h.pointers in
     record {
       aligned = h.aligned;
       whole = product_whole n l.size l.align h.whole;
-      slots = slots_within (0 * l.size) 0 ((0 + n) * l.size) (n * l.size) _ (omega arith) (omega arith) (array_slots l.size l.slots quad h.slots 0 n);
+      slots = slots_of_array n l h;
       pointers =
           ⊎_elim
           (λ (e : l.slots ≡ []). inl (flat_map_none (λ k. moved (k * l.size) l.slots) (range_with_len 0 n) (λ k. none_moved (k * l.size) l.slots e)))

@@ -1,6 +1,9 @@
 pub mod Types
+pub mod TypesEquations
 pub mod Layouts
+pub mod LayoutsEquations
 pub mod TagTable
+pub mod TagTableEquations
 pub mod Codes
 pub mod MemberPlaces
 pub mod Bodies

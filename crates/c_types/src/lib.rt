@@ -17,6 +17,7 @@
 #![tactic(auto)]
 
 mod bodies;
+mod laws;
 mod layouts;
 mod listing;
 mod member_list;
@@ -27,6 +28,7 @@ mod types;
 mod unions;
 
 pub use bodies::{Member, member_named, members};
+pub use laws::layouts_are_sound;
 pub use layouts::{Layout, MAX_SIZE};
 pub use sizes::{align_of, size_of};
 pub use slots::layout;

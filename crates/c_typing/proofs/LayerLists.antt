@@ -1,10 +1,10 @@
 -- Layers as the code keeps them.
-use Rattle.std.proofs.Common.{◌≡◌, ℕ, Bool, true, false, List, [], ◌∷◌, ◌++◌, map, reverse, length, arith, Option, Some, None, Result, Ok, Err, Box, Global, refl, sym, ap, subst, ◌∙◌}
-use Rattle.std.proofs.lemmas.List.{map-append, reverse-append, length-map, length-reverse}
+use Rattle.std.proofs.Common.{◌≡◌, ℕ, Bool, true, false, List, [], ◌∷◌, ◌++◌, map, length, arith, Option, Some, None, Result, Ok, Err, Box, Global, refl, sym, ap, subst, ◌∙◌}
+use Rattle.std.proofs.lemmas.List.{length-map, length-reverse}
 use Rattle.c_types.specs.declared.types.Signature.{Signature}
 use Rattle.c_types.specs.declared.types.CType.TheVariants as c
 use Rattle.c_types.specs.Types.{PlainType, Function, plain, plain_list}
-use Rattle.c_types.proofs.Same.{plain-function}
+use Rattle.c_types.specs.TypesEquations.{plain-function}
 use Rattle.c_types.specs.TagTable.{TagTable}
 use Rattle.std.specs.Prelude.{◌==◌}
 use Rattle.c_decls.specs.declared.refusal.TypeError.{TypeError}
@@ -13,12 +13,7 @@ use Rattle.c_decls.specs.Refusals.{Checked, Meets, then}
 use Rattle.c_decls.specs.TypeNames.{Layer, PointerTo, ArrayOf, FunctionOf, layered, layered_before, with_layers, with_param_layers}
 use Rattle.c_typing.specs.declared.layers.Layer.{Layer as CodeLayer}
 use Rattle.c_typing.specs.Layers.{plain_layer, plain_layers, layered_last, with_length}
-
--- a layer behind others is the first one from the specs
-pub layer_pushed : (layers : List CodeLayer) (layer : CodeLayer) →
-    plain_layers (layers ++ layer ∷ []) ≡ plain_layer layer ∷ plain_layers layers
-layer_pushed layers layer =
-    ap reverse (map-append plain_layer layers (layer ∷ [])) ∙ reverse-append (map plain_layer layers) (plain_layer layer ∷ [])
+use Rattle.c_typing.specs.LayersEquations.{layer_pushed}
 
 -- whether nothing is left
 abbrev pub is_none_left : List Layer → Bool

@@ -8,3 +8,4 @@ pub mod FormatLemmas
 pub mod Lents
 pub mod Lending
 pub mod Measures
+pub mod DigitSteps

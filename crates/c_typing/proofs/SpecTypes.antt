@@ -1,11 +1,8 @@
 -- The types of the words of specs.
-use Rattle.std.proofs.Common.{◌≡◌, ℕ, ◌+◌, Bool, true, false, cond, nat_eq, nat_lt, List, [], ◌∷◌, Option, Some, None, Ok, refl, sym, ap, ◌∙◌, count_by, zero-add, arith}
-use Rattle.std.specs.Prelude.{◌||◌}
+use Rattle.std.proofs.Common.{◌≡◌, ℕ, Bool, true, false, cond, nat_eq, List, [], ◌∷◌, Option, Some, None, Ok, refl, sym, ◌∙◌, count_by}
 use Rattle.std.specs.List.{find, list_any}
-use Rattle.std.proofs.lemmas.List.Sums.{sum_by-cons}
 use Rattle.c_types.specs.declared.types.IntType.TheVariants as i
 use Rattle.c_types.specs.Types.{PlainType, Void, Int}
-use Rattle.c_tree.specs.declared.word.Keyword.{Keyword}
 use Rattle.c_tree.specs.declared.tree.Spec.{Spec}
 use Rattle.c_tree.specs.declared.tree.Spec.TheVariants as s
 use Rattle.c_tree.specs.declared.tree.TagKind.{TagKind}
@@ -14,67 +11,11 @@ use Rattle.c_tree.specs.Tree.{Tree, Trees, ◌▹◌}
 use Rattle.c_tree.specs.View.{spec_tree, tag_tree}
 use Rattle.c_tree.specs.StatementView.{trees}
 use Rattle.c_decls.specs.Refusals.{Checked}
-use Rattle.c_decls.specs.TypeNames.{Context, many, has, is_void_word, is_char, is_short, is_long, is_signed_word, is_unsigned_word, word_type, special_type, specs_type}
+use Rattle.c_decls.specs.TypeNames.{Context, is_void_word, is_char, is_short, is_long, is_signed_word, is_unsigned_word, word_type, special_type, specs_type}
 use Rattle.c_typing.specs.SpecWords.{is_special, keyword, passes}
 use Rattle.c_typing.specs.declared.words.Words.{Words}
 use Rattle.c_typing.specs.WordCounts.{words_type}
-
-abbrev pub one_if : Bool → ℕ
-one_if b = cond b 1 0
-
-tag_is_no_word : (test : Keyword → Bool) (kind : TagKind) (line : ℕ) (rest : Trees) →
-    many test (tag_tree kind line ▹ rest) ≡ many test rest
-unfolding tag_tree
-tag_is_no_word test (t.Record sort name) line rest = refl
-tag_is_no_word test (t.RecordBody' sort name shape members) line rest = refl
-tag_is_no_word test (t.Enum name) line rest = refl
-tag_is_no_word test (t.EnumBody' name shape enumerators trailing) line rest = refl
-
--- a word counts where its keyword passes
-word_counts : (test : Keyword → Bool) (word : Spec) (rest : Trees) →
-    many test (spec_tree word ▹ rest) ≡ one_if (passes test (keyword word)) + many test rest
-unfolding spec_tree
-word_counts test s.Static rest = refl
-word_counts test s.Extern rest = refl
-word_counts test s.Typedef rest = refl
-word_counts test s.Const rest = refl
-word_counts test s.Void rest = refl
-word_counts test s.Char rest = refl
-word_counts test s.Short rest = refl
-word_counts test s.Int rest = refl
-word_counts test s.Long rest = refl
-word_counts test s.Signed rest = refl
-word_counts test s.Unsigned rest = refl
-word_counts test (s.Named name) rest = omega arith
-word_counts test (s.Tag' line kind) rest = tag_is_no_word test kind line rest ∙ omega arith
-
-count_first : (test : Keyword → Bool) (word : Spec) (words : List Spec) →
-    count_by (λ word. passes test (keyword word)) (word ∷ words)
-    ≡ one_if (passes test (keyword word)) + count_by (λ word. passes test (keyword word)) words
-count_first test word words = sum_by-cons (λ word. one_if (passes test (keyword word))) word words
-
-pub many_counted : (test : Keyword → Bool) (words : List Spec) →
-    many test (trees spec_tree words) ≡ count_by (λ word. passes test (keyword word)) words
-many_counted test [] = refl
-many_counted test (word ∷ words) =
-    word_counts test word (trees spec_tree words)
-    ∙ ap (λ n. one_if (passes test (keyword word)) + n) (many_counted test words)
-    ∙ sym (count_first test word words)
-
-first_counts : (b more : Bool) (n : ℕ) → nat_lt 0 n ≡ more → nat_lt 0 (one_if b + n) ≡ (b || more)
-first_counts true more n e = grind arith
-first_counts false more n e = ap (λ m. nat_lt 0 m) (zero-add n) ∙ e
-
-counted_any : (test : Keyword → Bool) (words : List Spec) →
-    nat_lt 0 (count_by (λ word. passes test (keyword word)) words) ≡ list_any (λ word. passes test (keyword word)) words
-counted_any test [] = refl
-counted_any test (word ∷ words) =
-    ap (λ n. nat_lt 0 n) (count_first test word words)
-    ∙ first_counts (passes test (keyword word)) (list_any (λ word. passes test (keyword word)) words) _ (counted_any test words)
-
-pub has_any : (test : Keyword → Bool) (words : List Spec) →
-    has test (trees spec_tree words) ≡ list_any (λ word. passes test (keyword word)) words
-has_any test words = ap (λ n. nat_lt 0 n) (many_counted test words) ∙ counted_any test words
+use Rattle.c_typing.specs.SpecWordsEquations.{has_any, many_counted}
 
 -- the type of words by which of them are there
 pub word_type_is : (words : List Spec) (w : Words) →

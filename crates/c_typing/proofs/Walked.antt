@@ -1,7 +1,7 @@
 -- The parts of the walk over expressions.
-use Rattle.std.proofs.Common.{◌≡◌, ℕ, Bool, true, false, true≢false, List, [], ◌∷◌, ◌++◌, map, reverse, Result, Option, Some, None, Ok, Err, Box, Vec, Global, refl, sym, ap, subst, ◌∙◌}
+use Rattle.std.proofs.Common.{◌≡◌, ℕ, Bool, true, false, true≢false, List, ◌∷◌, ◌++◌, map, reverse, Result, Option, Some, None, Ok, Err, Box, Vec, Global, refl, sym, ap, subst, ◌∙◌}
 use Rattle.std.proofs.lemmas.List.{reverse-append}
-use Rattle.c_types.specs.Types.{PlainType, PlainTypes, none as no_types, first, plain, plain_list}
+use Rattle.c_types.specs.Types.{PlainType, PlainTypes, first, plain, plain_list}
 use Rattle.c_types.specs.declared.types.CType.{CType}
 use Rattle.c_tree.specs.declared.operator.AssignOp.{AssignOp}
 use Rattle.c_tree.specs.declared.operator.AssignOp.TheVariants as a
@@ -37,6 +37,7 @@ use Rattle.c_typing.specs.Parts.{behind}
 use Rattle.c_typing.specs.Parts.{is_plain}
 use Rattle.c_typing.specs.Walks.{Walks}
 use Rattle.c_typing.proofs.Turns.{in_turn}
+use Rattle.c_typing.specs.TypeLists.{as_types}
 
 -- an answer of a rule in a context
 pub answers_walk : {A B : Type 0} (view : A → B) (c : Context) (r : Result A TypeError) (w : Checked B) → Answers view r w →
@@ -134,15 +135,6 @@ unfolding suffix_layers
 suffix_turns none c = refl
 suffix_turns (tree ▹ rest) c =
     ap (λ next. then (suffix_layer tree c) next) (λ i d. then (suffix_turns rest d.0 i) (λ more. Ok (more.0, d.1 ∷ more.1)))
-
--- types as the definition lists them
-abbrev pub as_types : List PlainType → PlainTypes
-as_types [] = no_types
-as_types (type ∷ rest) = first type (as_types rest)
-
-pub as_plain_list : (types : List CType) → as_types (map plain types) ≡ plain_list types
-as_plain_list [] = refl
-as_plain_list (type ∷ rest) = ap (first (plain type)) (as_plain_list rest)
 
 abbrev pub with_types : Checked (Context × List PlainType) → Checked (Context × PlainTypes)
 with_types answer = then answer (λ p. Ok (p.0, as_types p.1))

@@ -1,6 +1,9 @@
 pub mod Callee
 pub mod Layers
+pub mod LayersEquations
+pub mod TypeLists
 pub mod SpecWords
+pub mod SpecWordsEquations
 pub mod Walks
 pub mod Parts
 pub mod Format

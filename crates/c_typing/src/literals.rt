@@ -96,7 +96,7 @@ fn with_digit(value: u64, radix: u64, digit: u8) -> Option<u64>
 }
 
 /// The value of digits, where 64 bits hold it.
-#[tactic(auto, using(c_lexer::proofs::Digits::digit_steps))]
+#[tactic(auto, using(crate::proofs::DigitSteps::digit_steps))]
 fn digits_value(radix: u64, digits: &[u8]) -> Option<u64>
     ensures { IfSome result (λ value. value ≡ digits_value radix digits.now) }
 {

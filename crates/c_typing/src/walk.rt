@@ -263,7 +263,7 @@ impl Typer<'_> {
 
     /// The layers of a declarator, of which the last one stands next to the specs.
     #[cycle(walk)]
-    #[tactic(auto, unfolding(c_decls::specs::Expressions::layers, c_tree::specs::View::declarator_tree), using(crate::proofs::LayerLists::layer_pushed))]
+    #[tactic(auto, unfolding(c_decls::specs::Expressions::layers, c_tree::specs::View::declarator_tree), using(crate::specs::LayersEquations::layer_pushed))]
     pub fn layers(&mut self, tags: &Tags, declarator: &Declarator) -> Result<Vec<Layer>, TypeError>
         ensures { Walks (λ layers. plain_layers layers.items) (context_of self.new tags.now) result
             (rules.layers (declarator_tree declarator.now) (context_of self.old tags.now)) }

@@ -6,6 +6,7 @@ use Rattle.std.proofs.lemmas.Slice.Eq.{bytes_eq-Decides}
 use Rattle.std.proofs.lemmas.List.{append-nil, length-map}
 use Rattle.std.proofs.lemmas.List.Folds.{list_any-append}
 use Rattle.std.proofs.lemmas.List.Elements.{All-nil, All-cons, All-head, All-tail}
+use Rattle.c_lexer.specs.Written.{TokensAreLongest}
 use Rattle.c_tree.specs.declared.statement.Unit.{Unit as Code}
 use Rattle.c_tree.specs.Tree.{Tree, Trees}
 use Rattle.c_tree.specs.Scopes.{first_scope}
@@ -69,11 +70,11 @@ TellsPlain said = is_plain said.tree ≡ true → Tells said.tree
 abbrev DeclaresKnown : List Part → Said → Type 0
 DeclaresKnown done said = Have (Known done) (declared_by said.tree)
 
-again_known : (done : List Part) (spellings : List (List ℕ)) (said : Said) → AreKept done spellings → TellsPlain said → is_again spellings said ≡ true → DeclaresKnown done said
-again_known done spellings said kept tells again =
+again_known : TokensAreLongest → (done : List Part) (spellings : List (List ℕ)) (said : Said) → AreKept done spellings → TellsPlain said → is_again spellings said ≡ true → DeclaresKnown done said
+again_known longest done spellings said kept tells again =
     let both = and_parts (is_plain said.tree) (is_among spellings (spelling said.tree)) again in
     let k = kept (spelling said.tree) both.1 in
-    let same : declared_by k.0 ≡ declared_by said.tree = alike_declare k.0 said.tree k.1 (tells both.0) k.2 in
+    let same : declared_by k.0 ≡ declared_by said.tree = alike_declare longest k.0 said.tree k.1 (tells both.0) k.2 in
     subst (λ (names : List (List ℕ)). Have (Known done) names) same k.3
 
 all_more : (done more : List Part) (saids : List Said) → All (DeclaresKnown done) saids → All (DeclaresKnown (done ++ more)) saids
@@ -108,11 +109,11 @@ module _ (number : ℕ) (own : List (List ℕ)) (spellings : List (List ℕ)) wh
             (All-cons (DeclaresKnown ((done ++ part ∷ []) ++ more)) said rest (λ name is. known_more (done ++ part ∷ []) more name (g.1 name is)) g.2.1),
       )
 
-  walked : (saids : List Said) (done : List Part) (t : Scope) → All TellsPlain saids → AreKept done spellings → Covers (Known done) t →
+  walked : TokensAreLongest → (saids : List Said) (done : List Part) (t : Scope) → All TellsPlain saids → AreKept done spellings → Covers (Known done) t →
       Walked done saids (Parts saids (each_uses (trees_of saids) t))
   unfolding each_uses
-  walked [] done t tells kept covers = (tt, All-nil _)
-  walked (said ∷ rest) done t tells kept covers =
+  walked longest [] done t tells kept covers = (tt, All-nil _)
+  walked longest (said ∷ rest) done t tells kept covers =
       let next : Scope = after_external said.tree (record t { inner = 0; uses = [] }) in
       let part : Part = record { number = number; own = own; tree = said.tree; uses = next.uses } in
       let now : List Part = done ++ part ∷ [] in
@@ -122,12 +123,12 @@ module _ (number : ℕ) (own : List (List ℕ)) (spellings : List (List ℕ)) wh
       (begun_covers (Known now) t (covers_weaker (Known done) (Known now) (λ name k. known_more done (part ∷ []) name k) t covers)) in
       one_walked (is_again spellings said) done said rest next.uses (each_uses (trees_of rest) next) refl
       (λ again.
-      let known : DeclaresKnown done said = again_known done spellings said kept (All-head TellsPlain said rest tells) again in (
+      let known : DeclaresKnown done said = again_known longest done spellings said kept (All-head TellsPlain said rest tells) again in (
         known,
-        walked rest done next (All-tail TellsPlain said rest tells) kept
+        walked longest rest done next (All-tail TellsPlain said rest tells) kept
             (external_covers (Known done) said.tree (record t { inner = 0; uses = [] }) known (begun_covers (Known done) t covers)),
       ))
-      (here.1, declares, walked rest now next (All-tail TellsPlain said rest tells) (kept_more done (part ∷ []) spellings kept) here)
+      (here.1, declares, walked longest rest now next (All-tail TellsPlain said rest tells) (kept_more done (part ∷ []) spellings kept) here)
 
 -- Spellings.
 
@@ -180,21 +181,21 @@ declared_append [] ys done h g = subst (λ (all : List Part). AreDeclared all ys
 declared_append (x ∷ xs) ys done h g =
     (h.0, declared_append xs ys (done ++ x ∷ []) h.1 (subst (λ (all : List Part). AreDeclared all ys) (sym (append_assoc done (x ∷ []) xs)) g))
 
-unit_walked : (number : ℕ) (unit : Code) (done : List Part) (spellings : List (List ℕ)) → HaveNoDots (unit_view unit) →
+unit_walked : TokensAreLongest → (number : ℕ) (unit : Code) (done : List Part) (spellings : List (List ℕ)) → HaveNoDots (unit_view unit) →
     All TellsPlain (unit_said number (unit_view unit)) → AreKept done spellings →
     Walked number (own_in_program number (unit_view unit)) spellings done (unit_said number (unit_view unit))
     (left_parts number (own_in_program number (unit_view unit)) spellings (unit_said number (unit_view unit)) (unit_uses number (unit_view unit)))
-unit_walked number unit done spellings dots tells kept =
+unit_walked longest number unit done spellings dots tells kept =
     subst (λ (uses : List (List Use)). Walked number (own_in_program number (unit_view unit)) spellings done (unit_said number (unit_view unit))
     (left_parts number (own_in_program number (unit_view unit)) spellings (unit_said number (unit_view unit)) uses))
     (units_keep_bindings number unit dots)
-    (walked number (own_in_program number (unit_view unit)) spellings (unit_said number (unit_view unit)) done no_scope tells kept (tt, All-nil _))
+    (walked number (own_in_program number (unit_view unit)) spellings longest (unit_said number (unit_view unit)) done no_scope tells kept (tt, All-nil _))
 
-units_declared : (units : List Code) (number : ℕ) (done : List Part) (spellings : List (List ℕ)) → 0 < number → number + length units ≤ 65 →
+units_declared : TokensAreLongest → (units : List Code) (number : ℕ) (done : List Part) (spellings : List (List ℕ)) → 0 < number → number + length units ≤ 65 →
     All HaveNoDots (map unit_view units) → All IsOfText (map unit_view units) → AreKept done spellings →
     AreDeclared done (program_parts number (map unit_view units) spellings)
-units_declared [] number done spellings some few dots texts kept = tt
-units_declared (unit ∷ units) number done spellings some few dots texts kept =
+units_declared longest [] number done spellings some few dots texts kept = tt
+units_declared longest (unit ∷ units) number done spellings some few dots texts kept =
     let view : Trees = unit_view unit in
     let said : List Said = unit_said number view in
     let text : IsOfText view = All-head IsOfText view (map unit_view units) texts in
@@ -202,14 +203,14 @@ units_declared (unit ∷ units) number done spellings some few dots texts kept =
     let more : List (List ℕ) = spellings_of said in
     let tells : All TellsPlain said =
     each_tells unit.decls (unit_names number view) (unit_suffix number some (omega (arith, few))) (unit_read unit.decls first_scope text.allowed text.formed) in
-    let here = unit_walked number unit done spellings (All-head HaveNoDots view (map unit_view units) dots) tells kept in
+    let here = unit_walked longest number unit done spellings (All-head HaveNoDots view (map unit_view units) dots) tells kept in
     declared_append parts (program_parts (number + 1) (map unit_view units) (all_noted spellings more)) done here.0
-    (units_declared units (number + 1) (done ++ parts) (all_noted spellings more) (omega (arith, some)) (omega (arith, few))
+    (units_declared longest units (number + 1) (done ++ parts) (all_noted spellings more) (omega (arith, some)) (omega (arith, few))
     (All-tail HaveNoDots view (map unit_view units) dots) (All-tail IsOfText view (map unit_view units) texts)
     (λ spelled_so e. kept_by (done ++ parts) spellings more spelled_so (kept_more done parts spellings kept) (spelled (done ++ parts) said tells here.1)
     (noted_from more spellings spelled_so e)))
 
-pub merge_keeps_declared : MergeKeepsDeclared
-merge_keeps_declared first second more few dots texts =
+pub merge_keeps_declared : TokensAreLongest → MergeKeepsDeclared
+merge_keeps_declared longest first second more few dots texts =
     let units : List Code = first ∷ second ∷ more in
-    units_declared units 1 [] [] (omega arith) (omega (arith, few, length-map units unit_view)) dots texts (λ text e. absurd (cc))
+    units_declared longest units 1 [] [] (omega arith) (omega (arith, few, length-map units unit_view)) dots texts (λ text e. absurd (cc))

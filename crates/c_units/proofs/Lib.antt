@@ -37,3 +37,4 @@ pub mod FileDeclared
 pub mod KeptParams
 pub mod FunctionSteps
 pub mod NamedSteps
+pub mod TokenForms

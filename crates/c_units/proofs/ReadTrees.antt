@@ -4,6 +4,7 @@ use Rattle.std.specs.Prelude.{⊤}
 use Rattle.std.proofs.lemmas.Bool.{and_parts}
 use Rattle.std.proofs.lemmas.List.{append-nil}
 use Rattle.std.proofs.lemmas.List.Elements.{All-nil, All-cons, All-head, All-tail}
+use Rattle.c_lexer.specs.Written.{TokensAreLongest}
 use Rattle.c_lexer.specs.Pieces.{IsToken}
 use Rattle.c_lexer.specs.declared.token.TokenKind.{TokenKind}
 use Rattle.c_lexer.specs.declared.token.TokenKind.TheVariants as t
@@ -220,10 +221,10 @@ spelling_is : (tree : Tree) → spelling tree ≡ words_text (words (spell tree)
 unfolding tree_text spell spell_all shape
 spelling_is tree = ap (λ (l : List Piece). words_text (words l)) (append-nil (spell tree))
 
-pub alike_declare : (tree other : Tree) → Tells tree → Tells other → spelling tree ≡ spelling other → declared_by tree ≡ declared_by other
-alike_declare tree other h g e =
+pub alike_declare : TokensAreLongest → (tree other : Tree) → Tells tree → Tells other → spelling tree ≡ spelling other → declared_by tree ≡ declared_by other
+alike_declare longest tree other h g e =
     let same : word_spellings (words (spell tree)) ≡ word_spellings (words (spell other)) =
-    words_back (words (spell tree)) (words (spell other)) h.0 g.0 (sym (spelling_is tree) ∙ e ∙ spelling_is other) in
+    words_back longest (words (spell tree)) (words (spell other)) h.0 g.0 (sym (spelling_is tree) ∙ e ∙ spelling_is other) in
     let read : tree_sorts tree ≡ tree_sorts other =
     sorts_by (words (spell tree)) ∙ ap (map (λ (x : TokenKind × List ℕ). sort x.0 x.1)) same ∙ sym (sorts_by (words (spell other))) in
     sym h.1 ∙ ap (λ (l : List Sort). names_in (run (Before false 0 []) l)) read ∙ g.1

@@ -7,7 +7,7 @@ use Rattle.c_lexer.specs.Bytes.{is_mark}
 use Rattle.c_lexer.specs.Signs.{is_sign, is_double_sign, is_triple_sign}
 use Rattle.c_lexer.specs.declared.token.TokenKind.{TokenKind}
 use Rattle.c_lexer.specs.declared.token.TokenKind.TheVariants as t
-use Rattle.c_lexer.proofs.TokenForms.{keyword_token, sign_token}
+use Rattle.c_units.proofs.TokenForms.{keyword_token, sign_token}
 use Rattle.c_tree.specs.declared.operator.UnaryOp.{UnaryOp}
 use Rattle.c_tree.specs.declared.operator.UnaryOp.TheVariants as unary
 use Rattle.c_tree.specs.declared.operator.BinaryOp.{BinaryOp}

@@ -12,7 +12,7 @@ use Rattle.c_lexer.specs.Signs.{is_sign}
 use Rattle.c_lexer.specs.Gaps.{is_on_line, comment_end}
 use Rattle.c_lexer.specs.Pieces.{is_empty, literal_end, ends_at, literal_kind, number_kind, number_kind_by, quote_kind, block_kind, slash_kind, kind_by, kind_of, Longest, IsToken}
 use Rattle.c_lexer.specs.Readers.{piece}
-use Rattle.c_lexer.specs.Written.{is_separator}
+use Rattle.c_lexer.specs.Written.{TokensAreLongest, is_separator}
 use Rattle.c_lexer.specs.declared.bytes.ByteClass.{ByteClass}
 use Rattle.c_lexer.specs.declared.bytes.ByteClass.TheVariants.{Space, Letter, Digit, Quote, Hash, Slash, Mark, Other}
 use Rattle.c_lexer.specs.declared.number.Suffix.{Suffix}
@@ -22,8 +22,7 @@ use Rattle.c_lexer.specs.declared.token.LexKind.TheVariants.{BadByte, LiteralToo
 use Rattle.c_lexer.specs.declared.piece.PieceKind.{PieceKind}
 use Rattle.c_lexer.specs.declared.piece.PieceKind.TheVariants.{Gap, Token, Refused}
 use Rattle.c_lexer.specs.declared.piece.Piece.{Piece}
-use Rattle.c_lexer.proofs.Cuts.{longest_one}
-use Rattle.c_lexer.proofs.WrittenTokens.{token_longest}
+use Rattle.c_lexer.specs.PiecesEquations.{longest_one}
 use Rattle.c_tree.specs.declared.word.Sign.{Sign}
 use Rattle.c_tree.specs.declared.word.Sign.TheVariants as s
 use Rattle.c_tree.specs.Words.{Word, word_kind, word_bytes}
@@ -146,11 +145,11 @@ name_longest (c ∷ u) rest form = record {
 
 -- Words are told apart.
 
--- the token that a word begins with is the longest piece before what stands behind it
-begun_by : (kind : TokenKind) (core end : List ℕ) (b : ℕ) (rest : List ℕ) → IsToken kind core → IsEnd kind end → is_separator b ≡ true →
+-- the token that a word begins with is the longest piece before what stands behind it, by the law `tokens_are_longest`
+begun_by : TokensAreLongest → (kind : TokenKind) (core end : List ℕ) (b : ℕ) (rest : List ℕ) → IsToken kind core → IsEnd kind end → is_separator b ≡ true →
     Longest false (core ++ (end ++ b ∷ rest)) (piece (Token kind) (length core))
-begun_by kind core [] b rest form ends separated = token_longest false kind core b rest form separated
-begun_by kind core (d ∷ end) b rest form ends separated =
+begun_by longest kind core [] b rest form ends separated = longest false kind core b rest form separated
+begun_by longest kind core (d ∷ end) b rest form ends separated =
     subst (λ (k : TokenKind). Longest false (core ++ (d ∷ end ++ b ∷ rest)) (piece (Token k) (length core))) (sym ends.1)
     (subst (λ (n : ℕ). Longest false (core ++ (n ∷ end ++ b ∷ rest)) (piece (Token t.Name) (length core))) (sym ends.0)
     (name_longest core (end ++ b ∷ rest) (subst (λ (k : TokenKind). IsToken k core) ends.1 form)))
@@ -199,9 +198,9 @@ end_clean kind (b ∷ rest) h = ap (λ (n : ℕ). clean n && list_all clean rest
 abbrev Alike : Word → Word → List ℕ → List ℕ → Type 0
 Alike word other u v = (word_kind word ≡ word_kind other) × (word_bytes word ≡ word_bytes other) × (u ≡ v)
 
-words_alike : (word other : Word) (a b : ℕ) (u v : List ℕ) → Begins word → Begins other → is_separator a ≡ true → is_separator b ≡ true →
+words_alike : TokensAreLongest → (word other : Word) (a b : ℕ) (u v : List ℕ) → Begins word → Begins other → is_separator a ≡ true → is_separator b ≡ true →
     word_bytes word ++ a ∷ u ≡ word_bytes other ++ b ∷ v → Alike word other u v
-words_alike word other a b u v x y s r e =
+words_alike longest word other a b u v x y s r e =
     let one : List ℕ = x.core ++ (x.end ++ a ∷ u) in
     let two : List ℕ = y.core ++ (y.end ++ b ∷ v) in
     let same : one ≡ two =
@@ -209,8 +208,8 @@ words_alike word other a b u v x y s r e =
     let p : Piece = piece (Token (word_kind word)) (length x.core) in
     let q : Piece = piece (Token (word_kind other)) (length y.core) in
     let pieces : p ≡ q =
-    longest_one false two p q (subst (λ (l : List ℕ). Longest false l p) same (begun_by (word_kind word) x.core x.end a u x.token x.ends s))
-    (begun_by (word_kind other) y.core y.end b v y.token y.ends r) in
+    longest_one false two p q (subst (λ (l : List ℕ). Longest false l p) same (begun_by longest (word_kind word) x.core x.end a u x.token x.ends s))
+    (begun_by longest (word_kind other) y.core y.end b v y.token y.ends r) in
     let long : length x.core ≡ length y.core = piece_length (word_kind word) (word_kind other) (length x.core) (length y.core) pieces in
     let core : x.core ≡ y.core =
     sym (take_at x.core (x.end ++ a ∷ u) (length x.core) refl) ∙ ap₂ (λ (n : ℕ) (l : List ℕ). take n l) long same ∙ take_at y.core (y.end ++ b ∷ v) (length y.core) refl in
@@ -237,12 +236,12 @@ no_text [] b rest e = cc
 no_text (c ∷ x) b rest e = cc
 
 -- words of one text have the same kinds and spellings
-pub words_back : (ws vs : List Word) → AllBegin ws → AllBegin vs → words_text ws ≡ words_text vs → word_spellings ws ≡ word_spellings vs
+pub words_back : TokensAreLongest → (ws vs : List Word) → AllBegin ws → AllBegin vs → words_text ws ≡ words_text vs → word_spellings ws ≡ word_spellings vs
 unfolding words_text
-words_back [] [] h g e = refl
-words_back [] (v ∷ vs) h g e = absurd (no_text (word_bytes v) (separator v) (words_text vs) e)
-words_back (w ∷ ws) [] h g e = absurd (no_text (word_bytes w) (separator w) (words_text ws) (sym e))
-words_back (w ∷ ws) (v ∷ vs) h g e =
-    let first = words_alike w v (separator w) (separator v) (words_text ws) (words_text vs) h.0 g.0 (separated w) (separated v) e in
+words_back longest [] [] h g e = refl
+words_back longest [] (v ∷ vs) h g e = absurd (no_text (word_bytes v) (separator v) (words_text vs) e)
+words_back longest (w ∷ ws) [] h g e = absurd (no_text (word_bytes w) (separator w) (words_text ws) (sym e))
+words_back longest (w ∷ ws) (v ∷ vs) h g e =
+    let first = words_alike longest w v (separator w) (separator v) (words_text ws) (words_text vs) h.0 g.0 (separated w) (separated v) e in
     ap₂ (λ (x : TokenKind × List ℕ) (l : List (TokenKind × List ℕ)). x ∷ l)
-    (ap₂ (λ (k : TokenKind) (l : List ℕ). (k, l)) first.0 first.1) (words_back ws vs h.1 g.1 first.2)
+    (ap₂ (λ (k : TokenKind) (l : List ℕ). (k, l)) first.0 first.1) (words_back longest ws vs h.1 g.1 first.2)

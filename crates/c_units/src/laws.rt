@@ -5,6 +5,8 @@ ghost use Rattle.c_units.specs.KeptBindings.{UnitsKeepBindings};
 ghost use Rattle.c_units.specs.MergedBindings.{MergeKeepsInner};
 ghost use Rattle.c_units.specs.MergedNames.{MergesRename};
 
+use c_lexer::tokens_are_longest;
+
 /// In a unit as it stands in the program, each name in an expression is bound to the declaration that it is bound to in the
 /// unit alone (C99 6.2.1): what the unit has for itself, and no local that hides it, has the suffix.
 pub fn units_keep_their_bindings()
@@ -27,7 +29,9 @@ pub fn merge_keeps_file_bindings()
 /// external declaration up to its own: one that is left out, since an earlier unit has it in the same words, is not missed.
 pub fn merge_keeps_declarations()
     ensures { MergeKeepsDeclared }
-{}
+{
+    tokens_are_longest();
+}
 
 /// The external declarations of a merge are some of those of the units, in their order, with names that may have a suffix.
 pub fn merges_rename()

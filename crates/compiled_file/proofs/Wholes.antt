@@ -6,7 +6,7 @@ use Rattle.hs_base.specs.declared.ends.Limits.{Limits}
 use Rattle.hs_base.specs.Trace.{Event, Ending, Dangling}
 use Rattle.hs_base.specs.Cut.{cut, fits, refused_ending}
 use Rattle.hs_base.specs.Runs.{Next, Goes, Stops, Ran, after, fresh, led, moved}
-use Rattle.hs_base.proofs.Running.{after_grows, after_more, after_stays, one_end}
+use Rattle.hs_base.specs.RunsEquations.{after_grows, after_more, after_stays, one_end}
 use Rattle.flat_code.specs.declared.program.Code.{Code}
 use Rattle.object_meaning.specs.code.CodeState.{CodeState}
 use Rattle.object_meaning.specs.code.CodeMeaning.{enough, meaning, start, step}

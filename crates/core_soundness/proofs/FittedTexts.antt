@@ -7,10 +7,10 @@ use Rattle.core_soundness.proofs.Words.Types.{layout_of, number_layout, pointer_
 use Rattle.core_soundness.proofs.Words.Core.{low_bits, block_size, IsStatic, Core, Start}
 use Rattle.core_soundness.proofs.Words.Elaborating.{addressed_in, Code, Context, asked, Variable, first_context, Found, Fixed, Unknown, Nowhere, Inside, valued, size_or_zero, Storage, Typedef, storage_of, specs_before, declared_function, no_initializer, variable_number_of, with_new_variable, with_variable, start_of, start_in, started_variable, fill_variable, file_object, file_function, file_name, name_in, entry, entries, declaration, layers, walked, elaborated, found, begun, external, externals, Target, InRegister, InMemory, InStatic, bytes_of, static_integer, static_address, static_pointer, static_scalar, fill_scalar, scalar, whole, fill_text, is_character, text, by_text, by_expression, parts_of, takes_braces, is_scalar_type, all_surplus, initialize, initialize_parts, no_start, with_init_layers, is_twice_in, declared_as, reallocates, opened, core_of, with_static}
 use Rattle.core_soundness.proofs.Words.Facts.{HasLayouts, Solid, TableFits, Whole, Written, AllWritten, AreWritten}
-use Rattle.c_types.proofs.MemberLemmas.{some_array, Extends, layout_stays}
+use Rattle.c_types.specs.TagTableEquations.{some_array, Extends, layout_stays}
 use Rattle.c_types.specs.declared.types.IntType.TheVariants as i
 use Rattle.c_tree.specs.Forms as f
-use Rattle.c_decls.proofs.SameTypes.{same_equal}
+use Rattle.c_decls.specs.TypedEquations.{same_equal}
 use Rattle.c_decls.specs.BuiltIns as names
 use Rattle.c_decls.specs.Named as n
 use Rattle.core_soundness.proofs.Agreeing.{valued_agrees, found_agrees, came}
@@ -22,7 +22,7 @@ use Rattle.core_soundness.proofs.PointedTexts.{set_stay, before_level, function_
 use Rattle.core_soundness.proofs.Ranged.{fit_of, value_gone, opened_widens, K}
 use Rattle.core_soundness.proofs.RangedFound.{rises_refl}
 use Rattle.core_soundness.proofs.Scopes.{none_fits, Safe, get_left, get_last, get_push, get_below, set_get, Pushed, push_get, no_scope}
-use Rattle.core_soundness.proofs.Seats.{Has, Seat, has_row, Filled, filled_more, filled_bytes, filled_pointer, bytes_of_length, Proper, AllProper, PartsSeated, parts_end, parts_seated, seat_whole, filled_trimmed, MembersProper}
+use Rattle.core_soundness.proofs.Seats.{LayoutsAreSound, Has, Seat, has_row, Filled, filled_more, filled_bytes, filled_pointer, bytes_of_length, Proper, AllProper, PartsSeated, parts_end, parts_seated, seat_whole, filled_trimmed, MembersProper}
 use Rattle.core_soundness.proofs.SolidFills.{declared_function_rises, variable_rises, init_layers_whole, entry_rises, before_rises}
 use Rattle.core_soundness.proofs.SolidLayers.{has_size, declared_rises, typedef_rises, layers_rise}
 use Rattle.core_soundness.proofs.SolidTexts.{external_rises, begun_rises, first_solid, core_layouts}
@@ -165,10 +165,10 @@ module _ (ts : List CompletedTag) (room : ℕ) (slots : List ℕ) where
 
   -- braces
 
-  seated_parts : (c : Context) (asked : ℕ) (type : PlainType) (base : ℕ) (l : Layout) → Solid c → c.tags.completed ≡ ts → AllProper ts → Proper ts type → layout_of (known ts) type ≡ Some l → Seat room slots base l → PartsSeated ts room slots base (base + l.size) (parts_of c asked type base)
-  seated_parts c asked type base l solid same = subst (λ (x : List CompletedTag). AllProper x → Proper x type → layout_of (known x) type ≡ Some l → Seat room slots base l → PartsSeated x room slots base (base + l.size) (parts_of c asked type base)) same (parts_seated c room slots asked type base l solid)
+  seated_parts : LayoutsAreSound → (c : Context) (asked : ℕ) (type : PlainType) (base : ℕ) (l : Layout) → Solid c → c.tags.completed ≡ ts → AllProper ts → Proper ts type → layout_of (known ts) type ≡ Some l → Seat room slots base l → PartsSeated ts room slots base (base + l.size) (parts_of c asked type base)
+  seated_parts sound c asked type base l solid same = subst (λ (x : List CompletedTag). AllProper x → Proper x type → layout_of (known x) type ≡ Some l → Seat room slots base l → PartsSeated x room slots base (base + l.size) (parts_of c asked type base)) same (parts_seated sound c room slots asked type base l solid)
 
-module _ (ts : List CompletedTag) (all : AllProper ts) (room : ℕ) (slots : List ℕ) where
+module _ (sound : LayoutsAreSound) (ts : List CompletedTag) (all : AllProper ts) (room : ℕ) (slots : List ℕ) where
   mutual
     unfolding initialize initialize_parts
 
@@ -176,7 +176,7 @@ module _ (ts : List CompletedTag) (all : AllProper ts) (room : ℕ) (slots : Lis
     initialize_fills (Node f.InitExpr (At line ▹ e ▹ none)) in_scalar type offset low l target c solid same p q k seat h = expression_fills ts room slots e (line_of e) type offset low l target c solid q k seat h
     initialize_fills (Node (f.InitList trailing) (At line ▹ Node f.Inits inits ▹ none)) in_scalar type offset low l target c solid same p q k seat h =
         led_cond (Fills slots (offset + l.size) c) (takes_braces type in_scalar) (initialize_parts line inits (is_scalar_type type) (parts_of c (count inits) type offset) target c) (then (all_surplus inits c) (λ d. refused Assignment line))
-        (parts_fill inits line (is_scalar_type type) (parts_of c (count inits) type offset) low offset (offset + l.size) target c solid same k (seated_parts ts room slots c (count inits) type offset l solid same all p q seat) h)
+        (parts_fill inits line (is_scalar_type type) (parts_of c (count inits) type offset) low offset (offset + l.size) target c solid same k (seated_parts ts room slots sound c (count inits) type offset l solid same all p q seat) h)
         (led_after (Fills slots (offset + l.size) c) (all_surplus inits c) (λ d r. led_refused (Fills slots (offset + l.size) c)))
     initialize_fills tree in_scalar type offset low l target c solid same p q k seat h = led_refused (Fills slots (offset + l.size) c)
 
@@ -228,11 +228,13 @@ abbrev LaidObjects : Known → List Variable → Table → Type 0
 LaidObjects k vs file = (name : List ℕ) (type : PlainType) (i : ℕ) → named_in name file ≡ Some (n.Object type i) → (v : Variable) × (slice_get vs i ≡ Some v) × (layout_of k type ≡ Some v.layout)
 
 pub record Fitted (c : Context) : Type 0 where
+  pub sound : LayoutsAreSound
   pub objects : LaidObjects (K c) c.variables c.scopes.file
   pub starts : StartsFilled c.variables
 
 fitted_on : (c d : Context) → Settled c d → Extends (K c) (K d) → Fitted c → Fitted d
 fitted_on c d s x h = record {
+  sound = h.sound;
   objects = λ name type i e. let r = h.objects name type i (s.objects name type i e) in (r.0, subst (λ (vs : List Variable). slice_get vs i ≡ Some r.0) (sym s.variables) r.1, layout_stays (K c) (K d) x type r.0.layout r.2);
   starts = subst StartsFilled (sym s.variables) h.starts;
 }
@@ -265,7 +267,7 @@ starts_set vs index v start h p i u s g r =
 start_fitted : (index : ℕ) (c : Context) (start : Start) (v : Variable) → slice_get c.variables index ≡ Some v → Fitted c → Filled v.layout.slots v.layout.size start → Fitted (record c { variables = started_variable index start (slice_get c.variables index) c.variables })
 start_fitted index c start v e h p =
     subst (λ (o : Option Variable). Fitted (record c { variables = started_variable index start o c.variables })) (sym e)
-    (record { objects = objects_set (K c) c.variables _ c.scopes.file (set_stay c.variables index v start e) h.objects; starts = starts_set c.variables index v start h.starts p })
+    (record { sound = h.sound; objects = objects_set (K c) c.variables _ c.scopes.file (set_stay c.variables index v start e) h.objects; starts = starts_set c.variables index v start h.starts p })
 
 fill_fitted : (line index : ℕ) (type : PlainType) (inits : Trees) (c : Context) (v : Variable) → Solid c → Sorts c → SortedType c.tags.made type → Fitted c → slice_get c.variables index ≡ Some v → layout_of (K c) type ≡ Some v.layout → Led Fitted (fill_variable line index type inits c)
 fill_fitted line index type none c v solid ks st h at laid = led_ok Fitted h
@@ -275,7 +277,7 @@ fill_fitted line index type (init ▹ rest) c v solid ks st h at laid =
     led_unless Fitted (is_some (start_of (slice_get c.variables index))) DeclaredTwice line
     (λ t. led_after Fitted (initialize init false type 0 (InStatic no_start) c)
     (λ d q. let points = initialize_points init false type 0 (InStatic no_start) c (there_of c h) tt d q in
-    let fills = initialize_fills ts (all_proper c.tags.made ts ks.bodies) l.size l.slots init false type 0 0 l (InStatic no_start) c solid refl (proper_type c.tags.made ts type ks.bodies st) laid (omega arith) (seat_whole l) (nothing_filled l.slots 0) d q in
+    let fills = initialize_fills h.sound ts (all_proper c.tags.made ts ks.bodies) l.size l.slots init false type 0 0 l (InStatic no_start) c solid refl (proper_type c.tags.made ts type ks.bodies st) laid (omega arith) (seat_whole l) (nothing_filled l.slots 0) d q in
     let near = fitted_on c d.0 points.0 (same_known c d.0 fills.0.completed) h in
     let here : slice_get d.0.variables index ≡ Some v = subst (λ (vs : List Variable). slice_get vs index ≡ Some v) (sym points.0.variables) at in
     led_ok Fitted (start_fitted index d.0 (start_in d.1) v here near (filled_more l.slots (0 + l.size) l.size (start_in d.1) (omega arith) (target_filled l.slots (0 + l.size) d.1 fills.1)))))
@@ -313,6 +315,7 @@ module _ (name : List ℕ) (type : PlainType) (c : Context) (file : Table) where
       let laid : layout_of (K c) type ≡ Some v.layout = some_layout (layout_in c.tags type) s in
       subst (Placed index type) same (record {
         fitted = record {
+          sound = h.sound;
           objects = λ key t i g. ⊎_elim
               (λ (r : named_in key file ≡ Some (n.Object t i)). let z = h.objects key t i r in (z.0, get_left c.variables (v ∷ []) i z.0 z.1, z.2))
               (λ (r : Pushed key name (n.Object type index) (n.Object t i) file). new_object v t i here laid r.value)
@@ -453,7 +456,7 @@ declaration_fitted line words tree c k v w = led_refused Fitted
 -- texts
 
 begun_fitted : (line : ℕ) (addressed : List ℕ) (c : Context) → Fitted c → Fitted (begun line addressed c)
-begun_fitted line addressed c h = record { objects = h.objects; starts = h.starts }
+begun_fitted line addressed c h = record { sound = h.sound; objects = h.objects; starts = h.starts }
 
 external_fitted : (tree : Tree) (c : Context) → Sane c → Solid c → Sorts c → Written tree → Fitted c → Led Fitted (external tree c)
 unfolding external Written AllWritten
@@ -483,8 +486,8 @@ no_objects k (b ∷ list) name type i e = by (bytes_eq name (names.name_of b)) (
     by true rest q = cc
     by false rest q = rest q
 
-first_fitted : Fitted first_context
-first_fitted = record { objects = no_objects 0 built_ins; starts = λ i v s e q. cc }
+first_fitted : LayoutsAreSound → Fitted first_context
+first_fitted sound = record { sound = sound; objects = no_objects 0 built_ins; starts = λ i v s e q. cc }
 
 numbered_sorted : (j : ℕ) (bs : List BuiltIn) → TableFits (SortedName []) (numbered_from j bs)
 numbered_sorted j [] name v e = cc
@@ -496,14 +499,14 @@ numbered_sorted j (b ∷ bs) name v e =
 first_sorts : Sorts first_context
 first_sorts = record { names = record { file = numbered_sorted 0 built_ins; inner = tt }; list = none_fits (SortedName []); bodies = tt }
 
-walked_fitted : (unit : Trees) → AreWritten unit → Led Fitted (walked unit)
-walked_fitted unit w c q = externals_fitted unit first_context first_sane first_solid first_sorts w first_fitted c (behind_text unit c q).0
+walked_fitted : LayoutsAreSound → (unit : Trees) → AreWritten unit → Led Fitted (walked unit)
+walked_fitted sound unit w c q = externals_fitted unit first_context first_sane first_solid first_sorts w (first_fitted sound) c (behind_text unit c q).0
 
 -- the statics of a core
 
-pub core_statics : (unit : Trees) (core : Core) (tags : TagTable) → AreWritten unit → elaborated unit ≡ Ok (core, tags) → All (IsStatic core) core.statics
-core_statics unit core tags w q =
+pub core_statics : LayoutsAreSound → (unit : Trees) (core : Core) (tags : TagTable) → AreWritten unit → elaborated unit ≡ Ok (core, tags) → All (IsStatic core) core.statics
+core_statics sound unit core tags w q =
     let b = core_behind unit core tags q in
     let c = b.context in
     let layouts : HasLayouts (core_of c) = subst HasLayouts (sym b.made) (core_layouts unit core tags w q) in
-    subst (λ (x : Core). All (IsStatic x) x.statics) b.made (statics_sound c (walked_pointed unit c b.is) (walked_fitted unit w c b.is).starts layouts)
+    subst (λ (x : Core). All (IsStatic x) x.statics) b.made (statics_sound c (walked_pointed unit c b.is) (walked_fitted sound unit w c b.is).starts layouts)

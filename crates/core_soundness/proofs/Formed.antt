@@ -5,7 +5,7 @@ use Rattle.std.proofs.lemmas.List.Elements.{All-tail}
 use Rattle.std.proofs.lemmas.Bool.{false≢true}
 use Rattle.core_soundness.proofs.Words.Trees.{IsToken, IsLexed, Token, TokenKind, Takes, IsBase, IsDeclarator, Allowed, AllAllowed, IsExternal, AreExternals, Tally, with_keyword, with_word, tally, is_one_type, are_specs, obeys, is_none, Form, Item, Says, Here, Part, key, shape, form_home, keyword_home, home, rows, some, commas, behind_commas, some_commas, expr, HasTree, Place, name_of, has_typedef, params_of, Scope, leads_to_name, places, params_among, suffix_params, first_scope, is_scope, after, left, Piece, Said, Line, filled, spell, spell_all, IsWord, Spells, Tree, Trees, Leaf, At, Node, none, ◌▹◌, count, Word, Keyword}
 use Rattle.core_soundness.proofs.Words.Facts.{HasLists, HasParameters, IsDefinition, WordNames, Names, AllNames, IsHeld, HasParts, Written, AllWritten, Each, AreWritten}
-use Rattle.c_lexer.proofs.Constants.{constant_read}
+use Rattle.c_lexer.specs.Cutting.{ConstantsFit}
 use Rattle.c_lexer.specs.declared.token.TokenKind.TheVariants as kind
 use Rattle.c_tree.specs.Forms as f
 use Rattle.c_tree.specs.Places as p
@@ -454,20 +454,21 @@ module _ (W : List ℕ → Type 0) where
   EachFit [] = Unit {0}
   EachFit (pieces ∷ rest) = AllFit pieces × EachFit rest
 
-  word_fits : (word : Word) (token : Token) → Reads token → IsWord word token → IsHeld word × WordNames W word
-  word_fits (w.Int bytes) token l h =
+  -- an integer constant has 64 bits, by the law `constants_fit` of `c_lexer`
+  word_fits : ConstantsFit → (word : Word) (token : Token) → Reads token → IsWord word token → IsHeld word × WordNames W word
+  word_fits fit (w.Int bytes) token l h =
       let t : IsToken kind.Int bytes = subst (λ (k : TokenKind). IsToken k bytes) h.0 (subst (λ (x : List ℕ). IsToken token.kind x) h.1 l.0.0) in
-      ((constant_read bytes t).fits, tt)
-  word_fits (w.Name bytes) token l h = (tt, subst W h.1 (l.1 h.0))
-  word_fits word token l h = (tt, tt)
+      (fit bytes t, tt)
+  word_fits fit (w.Name bytes) token l h = (tt, subst W h.1 (l.1 h.0))
+  word_fits fit word token l h = (tt, tt)
 
-  spelled_fit : (pieces : List Piece) (tokens rest : List Token) → All Reads tokens → Spells pieces tokens rest → AllFit pieces
+  spelled_fit : ConstantsFit → (pieces : List Piece) (tokens rest : List Token) → All Reads tokens → Spells pieces tokens rest → AllFit pieces
   unfolding Spells
-  spelled_fit (Said word ∷ pieces) (token ∷ tokens) rest l h =
-      (word_fits word token (l 0 token (omega arith)) h.0, spelled_fit pieces tokens rest (All-tail Reads token tokens l) h.1)
-  spelled_fit (Line line ∷ pieces) (token ∷ tokens) rest l h =
-      (subst (λ (k : ℕ). 1 ≤ k) h.0 (l 0 token (omega arith)).0.1, spelled_fit pieces (token ∷ tokens) rest l h.1)
-  spelled_fit pieces tokens rest l h = search arith fits 100
+  spelled_fit fit (Said word ∷ pieces) (token ∷ tokens) rest l h =
+      (word_fits fit word token (l 0 token (omega arith)) h.0, spelled_fit fit pieces tokens rest (All-tail Reads token tokens l) h.1)
+  spelled_fit fit (Line line ∷ pieces) (token ∷ tokens) rest l h =
+      (subst (λ (k : ℕ). 1 ≤ k) h.0 (l 0 token (omega arith)).0.1, spelled_fit fit pieces (token ∷ tokens) rest l h.1)
+  spelled_fit fit pieces tokens rest l h = search arith fits 100
 
   parts_fit : (one other : List Piece) → AllFit (one ++ other) → AllFit one × AllFit other
   parts_fit [] other h = (tt, h)
@@ -527,6 +528,6 @@ module _ (W : List ℕ → Type 0) where
       let all = externals_made rest _ a.1 r.1 in
       ((((one.0, external_defined tree scope a.0), (one.1, external_params tree scope a.0)), all.0), (one.2, all.1))
 
-  pub unit_made : (tokens : List Token) (unit : Trees) → All Reads tokens → HasTree tokens unit → Each Grammatical unit × AllNames W unit
+  pub unit_made : ConstantsFit → (tokens : List Token) (unit : Trees) → All Reads tokens → HasTree tokens unit → Each Grammatical unit × AllNames W unit
   unfolding spell shape
-  unit_made tokens unit l h = externals_made unit first_scope h.allowed (spelled_fit (spell (Node f.Unit unit)) tokens [] l h.spelled)
+  unit_made fit tokens unit l h = externals_made unit first_scope h.allowed (spelled_fit fit (spell (Node f.Unit unit)) tokens [] l h.spelled)

@@ -1,5 +1,6 @@
 -- Each function of a core is sound, and so is the core.
 use Rattle.std.proofs.Common.{◌≡◌, Ok}
+use Rattle.c_lexer.specs.Cutting.{ConstantsFit}
 use Rattle.core_soundness.proofs.Words.Trees.{Trees}
 use Rattle.core_soundness.proofs.Words.Types.{TagTable}
 use Rattle.core_soundness.proofs.Words.Core.{EachFunc, IsFunction, IsSound, Core}
@@ -8,6 +9,7 @@ use Rattle.core_soundness.proofs.Words.Facts.{IsOfTexts}
 use Rattle.core_soundness.proofs.Cores.{core_flows, core_sizes}
 use Rattle.core_soundness.proofs.FittedTexts.{core_statics}
 use Rattle.core_soundness.proofs.NearTexts.{core_short}
+use Rattle.core_soundness.proofs.Seats.{LayoutsAreSound}
 use Rattle.core_soundness.proofs.SolidTexts.{core_layouts, core_ranges}
 use Rattle.core_soundness.proofs.Texts.{Made, made_all, made_weighed}
 use Rattle.core_soundness.proofs.Typing.{core_types, core_main, core_main_typed}
@@ -33,14 +35,14 @@ functions_sound unit core tags made q f func e =
       elements = ranges.elements;
     }
 
-pub cores_sound : (unit : Trees) (core : Core) (tags : TagTable) → IsOfTexts unit → elaborated unit ≡ Ok (core, tags) → IsSound core
-cores_sound unit core tags of q =
-    let made = made_all of.0 of.1 unit of.2 in
+pub cores_sound : ConstantsFit → LayoutsAreSound → (unit : Trees) (core : Core) (tags : TagTable) → IsOfTexts unit → elaborated unit ≡ Ok (core, tags) → IsSound core
+cores_sound fit layouts unit core tags of q =
+    let made = made_all fit of.0 of.1 unit of.2 in
     let sizes = core_sizes unit core tags q in
     let lists = core_short unit core tags (made_weighed of.0 of.1 unit of.2 of.3) of.3.short q in
     record {
       functions = functions_sound unit core tags made q;
-      statics = core_statics unit core tags made.written q;
+      statics = core_statics layouts unit core tags made.written q;
       static_bytes = sizes.static_bytes;
       code = sizes.code;
       one_main = core_main unit core tags made.written made.formed made.own q;

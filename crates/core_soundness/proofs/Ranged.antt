@@ -10,10 +10,10 @@ use Rattle.core_soundness.proofs.Words.Types.{Known, no_layout, Placed, none_pla
 use Rattle.core_soundness.proofs.Words.Core.{wrapped, IntKind, I8, U8, I16, U16, I32, U32, I64, U64, IsLayoutOfType, IsNumber, Mem, Atom, CmpOp, StmKind, Set, Load, Loadp, Test, Un, Bin, Cmp, Add, Sub, Off, Diff, Pcmp}
 use Rattle.core_soundness.proofs.Words.Elaborating.{byte_layout, element_layout, Piece, Does, Here, Context, emit, here, integer_by, pointer_by, Variable, Walked, asked, told, Code, Found, valued, convert, atom_in, write, Spot, unused, size_or_zero, Local, Memory, Value, Empty, read_spot, valued_from, atom_of, convert_integer, convert_to, tested, found, elements, struct_parts, parts_of, offset_among, offset_of, working, Working, Calculates, Shifts, Compares, Branches, convert_both, work, before_integer, move_pointer, between_pointers, pointer_beside, beside_integer, combine, combined, change, changed_to, member_address, reallocates, opened}
 use Rattle.core_soundness.proofs.Words.Facts.{IsStep, AtomIn, KindIn, PiecesIn, IsElement, MemsLaid, VariablesLaid, WalkedLaid, Solid, Whole, AreMade, TableWhole, NamesWhole, MembersWhole}
-use Rattle.hs_base.proofs.Wrapping.{low_bits_lt}
-use Rattle.c_types.proofs.MemberLemmas.{Extends, sized_stays, layout_stays, some_array}
-use Rattle.c_types.proofs.Places.{stays_known}
-use Rattle.c_types.proofs.Sound.{rounded_le}
+use Rattle.hs_base.specs.NumbersEquations.{low_bits_lt}
+use Rattle.c_types.specs.TagTableEquations.{Extends, sized_stays, layout_stays, some_array}
+use Rattle.c_types.specs.TagTableEquations.{stays_known}
+use Rattle.c_types.specs.LayoutsEquations.{rounded_le}
 use Rattle.c_types.specs.Layouts.{place}
 use Rattle.core_tree.specs.declared.statements.Atom.TheVariants as atom
 use Rattle.core_tree.specs.declared.statements.CmpOp.TheVariants as cmp

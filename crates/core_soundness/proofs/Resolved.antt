@@ -13,11 +13,7 @@ use Rattle.core_soundness.proofs.Words.Types.{behind_flags, digits_at, behind_di
 use Rattle.core_soundness.proofs.Words.Core.{IntKind, I32, plain_byte, GoesOnPlain, ReadsPieces, IsFormat, is_flag, StartsOutside, ReadsItem, length_bytes, is_one_of, kind_of, length_at, item_at, join, pieces_from, pieces_of, Piece, Plain, Item, Sort, Pointer, sort_of, register_sort, atom_sort, TakesAll, GivesResult, TakesCall, TakesFormat, IsTyped, HasRegister, answer_sort, Core, Func, Reg as Register, Atom, Stm, StmKind, Set, Return}
 use Rattle.core_soundness.proofs.Words.Elaborating.{Piece as CodePiece, Does, Here, Context, Walked, local_register, integer_temporary, pointer_temporary, file_variable, literal_object, Numbers, atom_by, atoms_by, numbered, body_of, register_by, static_by, numbers_of, temporary, pointer_register, function_of, variable_static, literal_static, core_of}
 use Rattle.core_soundness.proofs.Words.Facts.{World, walked_world, IsRegister, is_local, is_integer, is_pointer_temporary, IsObject, is_variable, is_literal, Holds, HoldAll, Receives, IsCall, IsPrinted, Fits, FitsAnswer, FitsIn, PiecesFit}
-use Rattle.c_print.proofs.Convs.{conv_is_letter}
-use Rattle.c_print.proofs.Fronts.{front_passes, rest_starts_outside}
-use Rattle.c_print.proofs.Parts.{item_is_no_percent}
-use Rattle.c_print.proofs.Pieces.{some_bytes}
-use Rattle.c_print.proofs.Widths.{width_bytes_value}
+use Rattle.c_print.specs.ItemEquations.{front_passes, rest_starts_outside, conv_is_letter, item_is_no_percent, width_bytes_value}
 use Rattle.core_tree.specs.declared.statements.Atom.TheVariants as atom
 use Rattle.core_soundness.proofs.Scopes.{get_left}
 use Rattle.core_soundness.proofs.Choices.{either_way, three_parts, some_same}
@@ -116,6 +112,9 @@ first_none b text h k (suc i) d below = k i d (omega (arith, below))
 
 none_none : All {X = ℕ} (λ (c : ℕ). c ≢ 0) []
 none_none k d below = absurd (omega (arith, below))
+
+some_bytes : (b : ℕ) (text : List ℕ) → b ∷ text ≢ []
+some_bytes b text e = cc
 
 -- one plain byte in front of pieces
 plain_first : (b : ℕ) (bytes rest : List ℕ) (pieces : List Piece) → bytes ≡ plain_byte b ++ rest → b ≢ 0 → ReadsPieces rest pieces [] → ReadsPieces bytes (join (Plain (b ∷ [])) pieces) []

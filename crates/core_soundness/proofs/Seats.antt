@@ -8,13 +8,17 @@ use Rattle.core_soundness.proofs.Words.Types.{Placed, none_placed, offset_after,
 use Rattle.core_soundness.proofs.Words.Core.{Start}
 use Rattle.core_soundness.proofs.Words.Elaborating.{Context, size_or_zero, bytes_of, with_bytes, with_pointer, without_zeros, trimmed, elements, struct_parts, parts_of}
 use Rattle.core_soundness.proofs.Words.Facts.{Solid, AreMade, MembersWhole}
-use Rattle.c_types.proofs.MemberLemmas.{Extends, some_array}
-use Rattle.c_types.proofs.Places.{stays_known}
-use Rattle.c_types.proofs.Sound.{rounded_le, layout_sound, member_sound, known_sound}
+use Rattle.c_types.specs.TagTableEquations.{Extends, some_array}
+use Rattle.c_types.specs.TagTableEquations.{stays_known}
+use Rattle.c_types.specs.LayoutsEquations.{rounded_le}
 use Rattle.c_types.specs.Layouts.{place}
 use Rattle.core_soundness.proofs.Ranged.{members_same, learnt, rest_placed, fold_rest}
 use Rattle.core_soundness.proofs.WholeTypes.{members_stay, learn_extends, placed_far}
 use Rattle.core_soundness.proofs.Choices.{either_way, some_same}
+
+-- the law `layouts_are_sound` of `c_types`
+abbrev pub LayoutsAreSound : Type 0
+LayoutsAreSound = (tags : List CompletedTag) (t : PlainType) (l : Layout) → layout_of (known tags) t ≡ Some l → IsSound l
 
 -- where a type lies in a whole: its slots are those of the whole there, and no other slot of the whole touches it
 
@@ -529,11 +533,11 @@ module _ (ts : List CompletedTag) (room : ℕ) (slots : List ℕ) where
       let here : Seat room slots offset l = subst (λ (x : ℕ). Seat room slots x l) (sym at) (seat_within room slots base (i * l.size) (array_layout total l) l seat (seat_element total i l sound (omega (arith, fits)))) in
       (omega arith, (l, e, here, p, elements_seated base total l element sound e p seat asked n (i + 1) (offset + l.size) (next_element base i l.size offset at) (omega (arith, fits))))
 
-  array_seated : (c : Context) (asked n base : ℕ) (element : PlainType) (l : Layout) → c.tags.completed ≡ ts → layout_of (known ts) element ≡ Some l → Proper ts element → Seat room slots base (array_layout n l) → PartsSeated ts room slots base (base + n * l.size) (elements asked n base (size_or_zero c element) element)
-  array_seated c asked n base element l same e p seat =
+  array_seated : LayoutsAreSound → (c : Context) (asked n base : ℕ) (element : PlainType) (l : Layout) → c.tags.completed ≡ ts → layout_of (known ts) element ≡ Some l → Proper ts element → Seat room slots base (array_layout n l) → PartsSeated ts room slots base (base + n * l.size) (elements asked n base (size_or_zero c element) element)
+  array_seated sound c asked n base element l same e p seat =
       let size : size_or_zero c element ≡ l.size = ap (λ (x : List CompletedTag). unwrap_or (option_map (λ (y : Layout). y.size) (layout_of (known x) element)) 0) same ∙ ap (λ (o : Option Layout). unwrap_or (option_map (λ (y : Layout). y.size) o) 0) e in
       subst (λ (s : ℕ). PartsSeated ts room slots base (base + n * l.size) (elements asked n base s element)) (sym size)
-      (elements_seated base n l element (layout_sound (known ts) (known_sound ts) element l e) e p seat asked n 0 base (omega arith) (omega arith))
+      (elements_seated base n l element (sound ts element l e) e p seat asked n 0 base (omega arith) (omega arith))
 
 -- tags
 
@@ -567,17 +571,19 @@ tag_at j (t ∷ tags) tag done l m e h = by (t.tag == tag) refl (λ q. tag_at (l
         })
     by false s again q = again q
 
-each_sound : (ts : List CompletedTag) (ms : List (List ℕ × PlainType)) → EachSound (map (member_layout (known ts)) ms)
-each_sound ts [] = tt
-each_sound ts (m ∷ ms) = (member_sound (known ts) (known_sound ts) m, each_sound ts ms)
-
 there : (o : Option Layout) (d : Layout) → is_some o ≡ true → o ≡ Some (unwrap_or o d)
 there o d e = search arith fits 100
+
+each_sound : LayoutsAreSound → (ts : List CompletedTag) (ms : List (List ℕ × PlainType)) → MembersWhole (known ts) ms → EachSound (map (member_layout (known ts)) ms)
+each_sound sound ts [] whole = tt
+each_sound sound ts (m ∷ ms) whole =
+    let l = member_layout (known ts) m in
+    (sound ts m.1 l (there (layout_of (known ts) m.1) Rattle.c_types.specs.Layouts.no_layout whole.0.1), each_sound sound ts ms whole.1)
 
 abbrev member_of : (List ℕ × PlainType) × (ℕ × Layout) → PlainMember
 member_of x = record { name = x.0.0; type = x.0.1; offset = x.1.0 }
 
-module _ (ts : List CompletedTag) (room : ℕ) (slots : List ℕ) where
+module _ (sound : LayoutsAreSound) (ts : List CompletedTag) (room : ℕ) (slots : List ℕ) where
   rows_seated : (base : ℕ) (w : Layout) → Seat room slots base w → (ms : List (List ℕ × PlainType)) (p : Placed) (low high : ℕ) → MembersWhole (known ts) ms → MembersProper ts ms → Seated w.size w.slots low high (rest_placed false p (map (member_layout (known ts)) ms))
       → PartsSeated ts room slots (base + low) (base + high) (map (λ (m : PlainMember). (m.type, base + m.offset)) (map member_of (zip ms (rest_placed false p (map (member_layout (known ts)) ms)))))
   rows_seated base w seat [] p low high whole proper h = omega (arith, h)
@@ -594,7 +600,7 @@ module _ (ts : List CompletedTag) (room : ℕ) (slots : List ℕ) where
       let seat2 : Seat room slots base w = subst (λ (x : Layout). Seat room slots base x) (sym same) seat in
       let listed : (placed done.is_union ls).members ≡ rest_placed false none_placed ls = ap (λ (t : Bool). (placed t ls).members) u ∙ fold_rest false none_placed ls in
       let zero_first : base + 0 ≡ base = omega arith in
-      let parts = rows_seated base w seat2 done.members none_placed 0 w.size h.members proper (struct_seats ls (each_sound ts done.members)) in
+      let parts = rows_seated base w seat2 done.members none_placed 0 w.size h.members proper (struct_seats ls (each_sound sound ts done.members h.members)) in
       let parts2 = subst (λ (x : ℕ). PartsSeated ts room slots x (base + w.size) (map (λ (m : PlainMember). (m.type, base + m.offset)) (map member_of (zip done.members (rest_placed false none_placed ls))))) zero_first parts in
       let parts3 = subst (λ (x : Layout). PartsSeated ts room slots base (base + x.size) (map (λ (m : PlainMember). (m.type, base + m.offset)) (map member_of (zip done.members (rest_placed false none_placed ls))))) same parts2 in
       subst (λ (ps : List (ℕ × Layout)). PartsSeated ts room slots base (base + l.size) (map (λ (m : PlainMember). (m.type, base + m.offset)) (map member_of (zip done.members ps)))) (sym listed) parts3
@@ -610,11 +616,12 @@ module _ (ts : List CompletedTag) (room : ℕ) (slots : List ℕ) where
       let rest = map (member_layout (known ts)) ms in
       let w = members_layout true (first ∷ rest) in
       let same : w ≡ l = ap (λ (t : Bool). members_layout t (first ∷ rest)) (sym e) ∙ h.is in
-      let inner : Seat w.size w.slots 0 first = union_seat first rest (member_sound (known ts) (known_sound ts) m) (h.rule e) in
+      let laid : layout_of (known ts) m.1 ≡ Some first = there (layout_of (known ts) m.1) Rattle.c_types.specs.Layouts.no_layout h.members.0.1 in
+      let inner : Seat w.size w.slots 0 first = union_seat first rest (sound ts m.1 first laid) (h.rule e) in
       let seat2 : Seat room slots base w = subst (λ (x : Layout). Seat room slots base x) (sym same) seat in
       let here = seat_within room slots base 0 w first seat2 inner in
       let last : base + 0 + first.size ≤ base + l.size = (let s = ap (λ (x : Layout). x.size) same in omega (arith, inner.inside, s)) in
-      let parts : PartsSeated ts room slots base (base + l.size) ((m.1, base + 0) ∷ []) = (omega arith, (first, there (layout_of (known ts) m.1) Rattle.c_types.specs.Layouts.no_layout h.members.0.1, here, proper.0, last)) in
+      let parts : PartsSeated ts room slots base (base + l.size) ((m.1, base + 0) ∷ []) = (omega arith, (first, laid, here, proper.0, last)) in
       let listed : (placed u (first ∷ rest)).members ≡ rest_placed true none_placed (first ∷ rest) = ap (λ (t : Bool). (placed t (first ∷ rest)).members) e ∙ fold_rest true none_placed (first ∷ rest) in
       subst (λ (ps : List (ℕ × Layout)). PartsSeated ts room slots base (base + l.size) (take 1 (map (λ (x : PlainMember). (x.type, base + x.offset)) (map member_of (zip (m ∷ ms) ps))))) (sym listed) parts
 
@@ -627,7 +634,7 @@ module _ (ts : List CompletedTag) (room : ℕ) (slots : List ℕ) where
 
 -- the parts of a type
 
-pub parts_seated : (c : Context) (room : ℕ) (slots : List ℕ) (asked : ℕ) (type : PlainType) (base : ℕ) (l : Layout) → Solid c → (let ts = c.tags.completed in AllProper ts → Proper ts type → layout_of (known ts) type ≡ Some l → Seat room slots base l → PartsSeated ts room slots base (base + l.size) (parts_of c asked type base))
+pub parts_seated : LayoutsAreSound → (c : Context) (room : ℕ) (slots : List ℕ) (asked : ℕ) (type : PlainType) (base : ℕ) (l : Layout) → Solid c → (let ts = c.tags.completed in AllProper ts → Proper ts type → layout_of (known ts) type ≡ Some l → Seat room slots base l → PartsSeated ts room slots base (base + l.size) (parts_of c asked type base))
 unfolding parts_of
-parts_seated c room slots asked type base l h all proper e seat =
+parts_seated sound c room slots asked type base l h all proper e seat =
     search (arith, some_array, array_seated, option_map, body_seated, tag_at, union_seated) fits 100

@@ -5,7 +5,7 @@ use Rattle.core_soundness.proofs.Words.Types.{Known, no_layout, TagTable, known,
 use Rattle.core_soundness.proofs.Words.Core.{block_size, IsLayoutOfType, IsNumber, Start, Atom, Set, Clear, Off, Copy}
 use Rattle.core_soundness.proofs.Words.Elaborating.{Context, Variable, asked, emit, Found, Spot, Local, Memory, atom_in, valued, convert, write, size_or_zero, Storage, Typedef, Outside, storage_of, specs_alone, specs_before, zero_of, cleared, fill_memory, fill_register, fill_at, fill_local, local_object, local_name, function_number, with_function, declared_function, no_initializer, variable_number_of, with_new_variable, with_variable, start_of, started_variable, started, fill_variable, file_object, file_function, file_value, file_name, name_in, entry, entries, declaration, layers, found, Target, InRegister, InMemory, InStatic, static_scalar, member_place, store_at, fill_scalar, scalar, copy_to, fill_record, is_same_place, whole, fill_text, is_character, text, by_text, by_expression, parts_of, takes_braces, is_scalar_type, all_surplus, initialize, initialize_parts, no_start, text_length, given_length, with_init_layers, not_whole, is_twice, declared_as, next_is_memory, with_memory, with_register, local_in, counted_local, with_local, opened, with_static, with_literal}
 use Rattle.core_soundness.proofs.Words.Facts.{AtomIn, VariablesLaid, Solid, Whole, HasParts, Written, AllWritten}
-use Rattle.c_types.proofs.MemberLemmas.{Extends}
+use Rattle.c_types.specs.TagTableEquations.{Extends}
 use Rattle.core_tree.specs.declared.statements.Atom.TheVariants as atom
 use Rattle.c_tree.specs.Forms as f
 use Rattle.c_tree.specs.Words as w

@@ -5,6 +5,7 @@ use Rattle.std.proofs.lemmas.List.Sums.{sum_by-cons}
 use Rattle.core_soundness.proofs.Words.Trees.{IsToken, IsLexed, Token, TokenKind, HasTree, IsSuffixed, Tree, Trees, none, ◌▹◌}
 use Rattle.core_soundness.proofs.Words.Core.{IsShort}
 use Rattle.core_soundness.proofs.Words.Facts.{joined, all_joined, HaveTrees, AllNames, IsMadeOf, IsSmall, IsOfTexts, Each, AreWritten}
+use Rattle.c_lexer.specs.Cutting.{ConstantsFit}
 use Rattle.c_lexer.specs.declared.token.TokenKind.TheVariants as kind
 use Rattle.core_soundness.proofs.Formed.{Grammatical, AreFormed, all_written, all_formed, unit_made}
 use Rattle.core_soundness.proofs.Near.{unit_weighed}
@@ -17,14 +18,14 @@ use Rattle.core_soundness.proofs.Walks.{weights}
 pub text_made : (tokens : List Token) (unit : Trees) → All IsLexed tokens → HasTree tokens unit → IsMadeOf (tokens ∷ []) (unit ∷ []) unit
 text_made tokens unit l h = record { trees = ((l, h), tt); renamed = renames_own unit }
 
-pub text_one : (tokens : List Token) (unit : Trees) → All IsLexed tokens → length tokens ≤ 268435456 → All (λ (token : Token). IsShort token.bytes) tokens → HasTree tokens unit → IsOfTexts unit
-text_one tokens unit l few short h = (
+pub text_one : ConstantsFit → (tokens : List Token) (unit : Trees) → All IsLexed tokens → length tokens ≤ 268435456 → All (λ (token : Token). IsShort token.bytes) tokens → HasTree tokens unit → IsOfTexts unit
+text_one fit tokens unit l few short h = (
   tokens ∷ [],
   unit ∷ [],
   text_made tokens unit l h,
   record {
     few = omega (arith, few, sum_by-cons (λ (ts : List Token). length ts) tokens []);
-    short = (unit_made IsShort tokens unit (λ i token e. (l i token e, λ k. short i token e)) h).1;
+    short = (unit_made IsShort fit tokens unit (λ i token e. (l i token e, λ k. short i token e)) h).1;
   },
 )
 
@@ -48,14 +49,14 @@ weights_joined (tree ▹ rest) other = omega (arith, weights_joined rest other)
 abbrev NamesAre : (List ℕ → Type 0) → List Token → Type 0
 NamesAre W tokens = All (λ (token : Token). IsLexed token → token.kind ≡ kind.Name → W token.bytes) tokens
 
-have_all : (W : List ℕ → Type 0) (texts : List (List Token)) (units : List Trees) → HaveTrees texts units → All (NamesAre W) texts → Each Grammatical (all_joined units) × AllNames W (all_joined units)
-have_all W [] [] h s = (tt, tt)
-have_all W (tokens ∷ texts) (unit ∷ units) h s =
+have_all : ConstantsFit → (W : List ℕ → Type 0) (texts : List (List Token)) (units : List Trees) → HaveTrees texts units → All (NamesAre W) texts → Each Grammatical (all_joined units) × AllNames W (all_joined units)
+have_all fit W [] [] h s = (tt, tt)
+have_all fit W (tokens ∷ texts) (unit ∷ units) h s =
     let named = All-head (NamesAre W) tokens texts s in
-    let one = unit_made W tokens unit (λ i token e. (h.0.0 i token e, named i token e (h.0.0 i token e))) h.0.1 in
-    let all = have_all W texts units h.1 (All-tail (NamesAre W) tokens texts s) in
+    let one = unit_made W fit tokens unit (λ i token e. (h.0.0 i token e, named i token e (h.0.0 i token e))) h.0.1 in
+    let all = have_all fit W texts units h.1 (All-tail (NamesAre W) tokens texts s) in
     (each_joined Grammatical unit (all_joined units) one.0 all.0, names_joined W unit (all_joined units) one.1 all.1)
-have_all W texts units h s = absurd h
+have_all fit W texts units h s = absurd h
 
 own_token : (sort : TokenKind) (bytes : List ℕ) → sort ≡ kind.Name → IsToken sort bytes → IsOwn bytes
 own_token sort bytes e h = own_name bytes (subst (λ (k : TokenKind). IsToken k bytes) e h)
@@ -69,9 +70,9 @@ pub record Made (unit : Trees) : Type 0 where
   pub formed : AreFormed unit
   pub own : HaveOwnNames unit
 
-pub made_all : (texts : List (List Token)) (units : List Trees) (unit : Trees) → IsMadeOf texts units unit → Made unit
-made_all texts units unit m =
-    let all = have_all IsOwn texts units m.trees (own_tokens texts) in
+pub made_all : ConstantsFit → (texts : List (List Token)) (units : List Trees) (unit : Trees) → IsMadeOf texts units unit → Made unit
+made_all fit texts units unit m =
+    let all = have_all fit IsOwn texts units m.trees (own_tokens texts) in
     let some = some_grammatical (all_joined units) unit m.renamed all.0 in
     record {
       written = all_written unit some;
@@ -98,7 +99,7 @@ IsHeldName name = length name ≤ 268435456
 suffix_short : (name new : List ℕ) → IsSuffixed name new → IsHeldName name → IsShort new
 suffix_short name new s h = omega (arith, h, s.short, ap length s.is, length-append name s.suffix)
 
-pub names_short : (texts : List (List Token)) (units : List Trees) (unit : Trees) → IsMadeOf texts units unit → All (λ (tokens : List Token). All (λ (token : Token). length token.bytes ≤ 268435456) tokens) texts → AllNames IsShort unit
-names_short texts units unit m s =
+pub names_short : ConstantsFit → (texts : List (List Token)) (units : List Trees) (unit : Trees) → IsMadeOf texts units unit → All (λ (tokens : List Token). All (λ (token : Token). length token.bytes ≤ 268435456) tokens) texts → AllNames IsShort unit
+names_short fit texts units unit m s =
     some_names IsHeldName IsShort suffix_short (all_joined units) unit m.renamed
-    (have_all IsHeldName texts units m.trees (λ i tokens e j token q l named. s i tokens e j token q)).1
+    (have_all fit IsHeldName texts units m.trees (λ i tokens e j token q l named. s i tokens e j token q)).1

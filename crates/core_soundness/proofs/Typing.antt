@@ -14,7 +14,7 @@ use Rattle.c_types.specs.Types as types
 use Rattle.c_types.specs.declared.types.IntType.TheVariants as i
 use Rattle.c_tree.specs.Forms as f
 use Rattle.c_tree.specs.Tree as t
-use Rattle.c_decls.proofs.SameTypes.{same_equal}
+use Rattle.c_decls.specs.TypedEquations.{same_equal}
 use Rattle.c_decls.specs.Named as n
 use Rattle.elaboration.specs.Externals as externals
 use Rattle.core_soundness.proofs.Agreeing.{came}

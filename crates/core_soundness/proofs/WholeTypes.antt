@@ -6,11 +6,11 @@ use Rattle.std.specs.Option.{option_or}
 use Rattle.core_soundness.proofs.Words.Types.{Known, ArraysFit, Placed, none_placed, placed, layout_of, no_layout, members_layout, CompletedTag, TagTable, PlainMember, learn, known, tag_layout, members_in, PlainType, PlainTypes, Pointer, Array, Function, none, first, width_of, Layout, IntType, PlainNamed}
 use Rattle.core_soundness.proofs.Words.Core.{IsCompleted, AreCompleted, IsLayoutOfType}
 use Rattle.core_soundness.proofs.Words.Facts.{IsRow, Whole, AllWhole, MembersWhole, AreMade, NamedWhole}
-use Rattle.c_types.proofs.MemberLemmas.{Extends, some_array, layout_stays}
-use Rattle.c_types.proofs.Places.{stays_known}
-use Rattle.c_types.proofs.Sound.{rounded_le}
+use Rattle.c_types.specs.TagTableEquations.{Extends, some_array, layout_stays}
+use Rattle.c_types.specs.TagTableEquations.{stays_known}
+use Rattle.c_types.specs.LayoutsEquations.{rounded_le}
 use Rattle.c_types.specs.Layouts.{place}
-use Rattle.core_tree.proofs.TypeLayouts.{type_layout_small}
+use Rattle.core_tree.specs.LayoutsOfTypesEquations.{type_layout_small}
 use Rattle.c_decls.specs.Named as n
 
 abbrev pub nothing : Known

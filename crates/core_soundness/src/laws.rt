@@ -26,6 +26,9 @@ ghost use Rattle.core_soundness.specs.Texts.{AllNames, IsMadeOf, IsOfTexts, IsSm
 ghost use Rattle.core_soundness.specs.Written.{AreWritten, Written};
 ghost use Rattle.core_soundness.specs.Laws.{AreWithin, CallsInside, HasFlow, HasLayouts, HasRanges, HasShortLists, HasSizes, HasTypes};
 
+use c_lexer::constants_fit;
+use c_types::layouts_are_sound;
+
 /// In each function of the core of a text every edge leads to a statement, only a loop goes back, and scopes are opened
 /// and closed in the same way on all paths.
 pub fn control_flows()
@@ -45,7 +48,9 @@ pub fn types_agree()
 /// Exactly one function of the core of texts is named `main` (C99 5.1.2.2.1).
 pub fn one_main()
     ensures { (texts : List (List Token)) (units : List Trees) (unit : Trees) (core : Core) (tags : TagTable) → IsMadeOf texts units unit → elaborated unit ≡ Ok (core, tags) → count_by is_main core.funcs ≡ 1 }
-{}
+{
+    constants_fit();
+}
 
 /// Each call of the core of a text names one of its functions (C99 6.5.2.2).
 pub fn calls_are_inside()
@@ -56,12 +61,16 @@ pub fn calls_are_inside()
 /// results of its sorts.
 pub fn statements_are_typed()
     ensures { (texts : List (List Token)) (units : List Trees) (unit : Trees) (core : Core) (tags : TagTable) → IsMadeOf texts units unit → elaborated unit ≡ Ok (core, tags) → EachFunc core (HasTypes core) }
-{}
+{
+    constants_fit();
+}
 
 /// The function named `main` of the core of a text has no parameters, and its returns have integers (C99 5.1.2.2.1).
 pub fn main_answers()
     ensures { (texts : List (List Token)) (units : List Trees) (unit : Trees) (core : Core) (tags : TagTable) → IsMadeOf texts units unit → elaborated unit ≡ Ok (core, tags) → ForSome (slice_get core.funcs (main_of core)) (IsMain core) }
-{}
+{
+    constants_fit();
+}
 
 /// A format that passes the test of formats is one, with the pieces that its bytes have (C99 7.19.6.1).
 pub fn formats_are_read()
@@ -72,18 +81,24 @@ pub fn formats_are_read()
 pub fn texts_are_made_of_themselves()
     ensures made { (tokens : List Token) (unit : Trees) → All IsLexed tokens → HasTree tokens unit → IsMadeOf (tokens ∷ []) (unit ∷ []) unit }
     ensures small { (tokens : List Token) (unit : Trees) → All IsLexed tokens → length tokens ≤ 268435456 → All (λ token. IsShort token.bytes) tokens → HasTree tokens unit → IsOfTexts unit }
-{}
+{
+    constants_fit();
+}
 
 /// Names with a suffix are shorter than 2 to the 32, where no token has more than 268,435,456 bytes.
 pub fn names_stay_short()
     ensures { (texts : List (List Token)) (units : List Trees) (unit : Trees) → IsMadeOf texts units unit → All (λ tokens. All (λ token. length token.bytes ≤ 268435456) tokens) texts → AllNames IsShort unit }
-{}
+{
+    constants_fit();
+}
 
 /// A tree made of those of texts has lines from 1 on and constants of at most 64 bits; members and initializers stand where braces
 /// are; and each definition of a function has a parameter list.
 pub fn trees_are_written()
     ensures { (texts : List (List Token)) (units : List Trees) (unit : Trees) → IsMadeOf texts units unit → AreWritten unit }
-{}
+{
+    constants_fit();
+}
 
 /// Memory locals and statics of the core of a text have the layouts of types (C99 6.2.5, 6.7.2.1).
 pub fn layouts_are_of_types()
@@ -111,7 +126,9 @@ pub fn numbers_are_in_range()
 /// Each function of the core of a text is sound.
 pub fn functions_are_sound()
     ensures { (texts : List (List Token)) (units : List Trees) (unit : Trees) (core : Core) (tags : TagTable) → IsMadeOf texts units unit → elaborated unit ≡ Ok (core, tags) → EachFunc core (IsFunction core) }
-{}
+{
+    constants_fit();
+}
 
 /// Each pointer that a static of the core of a text holds first names a static of the core, and an offset in it up to its end
 /// (C99 6.6, 6.7.8).
@@ -124,7 +141,9 @@ pub fn static_pointers_are_inside()
 /// ends (C99 6.6, 6.7.8).
 pub fn statics_are_sound()
     ensures { (unit : Trees) (core : Core) (tags : TagTable) → AreWritten unit → elaborated unit ≡ Ok (core, tags) → All (IsStatic core) core.statics }
-{}
+{
+    layouts_are_sound();
+}
 
 /// A text has no more tokens than bytes, and none of its tokens is longer than it.
 pub fn tokens_are_within()
@@ -141,4 +160,7 @@ pub fn lists_are_short()
 /// than 2 to the 32.
 pub fn cores_are_sound()
     ensures { (unit : Trees) (core : Core) (tags : TagTable) → IsOfTexts unit → elaborated unit ≡ Ok (core, tags) → IsSound core }
-{}
+{
+    constants_fit();
+    layouts_are_sound();
+}

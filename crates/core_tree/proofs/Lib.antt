@@ -1,4 +1,2 @@
-mod Counting
-pub mod Paths
 mod Joining
 pub mod TypeLayouts

@@ -7,6 +7,8 @@ ghost use Rattle.core_tree.specs.declared.statements.Stm.{Stm};
 ghost use Rattle.core_tree.specs.LayoutsOfTypes.{IsLayoutOfType};
 ghost use Rattle.core_tree.specs.Lives.{IsLive, is_live};
 
+use c_types::layouts_are_sound;
+
 /// The bounded test says exactly whether a register is live after a point, which is said by paths.
 pub fn live_by_paths()
     ensures { (body : List Stm) (point r : ℕ) → IsTrue (is_live body point r) ↔ IsLive body point r }
@@ -16,4 +18,6 @@ pub fn live_by_paths()
 pub fn layouts_of_types()
     ensures sound { (l : Layout) → IsLayoutOfType l → IsSound l }
     ensures small { (l : Layout) → IsLayoutOfType l → l.size ≤ 268435456 }
-{}
+{
+    layouts_are_sound();
+}

@@ -9,7 +9,7 @@ use Rattle.delay_scopes.specs.Queue.{ScopesModel, block_in}
 use Rattle.delay_scopes.specs.Pointers.{LowersBy, slots_of, words_in, words_inside}
 use Rattle.delay_scopes.specs.Walks.{AreCovered, IsCovered}
 use Rattle.delay_scopes.proofs.Chaining.{in_queue, object_inside, object_is, next_is}
-use Rattle.delay_scopes.proofs.Lowering.{covers_object, lowers_object}
+use Rattle.delay_scopes.specs.PointersEquations.{covers_object, lowers_object}
 
 -- the steps for an object: its size, its layout and the next block, and two for each slot
 abbrev pub steps_off : List Element → List ℕ → ℕ → ℕ

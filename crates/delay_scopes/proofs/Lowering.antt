@@ -1,13 +1,12 @@
 -- Words that are taken off the counts, one after another.
-use Rattle.std.proofs.Common.{◌≡◌, ◌≢◌, ◌≤◌, ◌<◌, ◌+◌, ◌-◌, ◌/◌, inl, inr, ℕ, Bool, cond, List, [], ◌∷◌, ◌++◌, length, get_or, take, drop, set, refl, sym, ap, ◌∙◌, subst, arith}
+use Rattle.std.proofs.Common.{◌≡◌, ◌≢◌, ◌≤◌, ◌<◌, ◌+◌, ◌-◌, ◌/◌, inl, inr, ℕ, Bool, cond, List, [], ◌∷◌, length, get_or, take, set, refl, sym, ap, ◌∙◌, subst, arith}
 use Rattle.std.specs.Prelude.{not, nat_eq, ◌&&◌}
-use Rattle.std.specs.List.{flat_map}
 use Rattle.std.proofs.lemmas.Bool.{cases_eq, cases_lt, and_from, and_left, and_right, eq-eqb, ne_eqb, cond-true, cond-false}
-use Rattle.std.proofs.lemmas.List.{append-nil, get_or_past, get_or-set_same, get_or-set_other, length-set, take_more, take-append-drop}
-use Rattle.std.proofs.lemmas.List.Concat.{flat_map-append}
-use Rattle.std.proofs.lemmas.List.Sums.{sum_by-append, sum_by-take-le}
+use Rattle.std.proofs.lemmas.List.{get_or_past, get_or-set_same, get_or-set_other, length-set, take_more}
+use Rattle.std.proofs.lemmas.List.Sums.{sum_by-take-le}
 use Rattle.count_table.specs.Table.{Table, with_count}
 use Rattle.delay_scopes.specs.Pointers.{LowersBy, into_granule}
+use Rattle.delay_scopes.specs.PointersEquations.{into_both, lowers_both}
 
 -- One word
 
@@ -69,16 +68,6 @@ lowers_null table w null = record {
 
 -- Words after words
 
-pub into_both : (granule : ℕ) (xs ys : List ℕ) → into_granule granule (xs ++ ys) ≡ into_granule granule xs + into_granule granule ys
-into_both granule xs ys = sum_by-append (λ w. cond (leads_into granule w) 1 0) xs ys
-
-lowers_both : (xs ys : List ℕ) (a b c : Table) → LowersBy xs a b → LowersBy ys b c → LowersBy (xs ++ ys) a c
-lowers_both xs ys a b c first second = record {
-  most = second.most ∙ first.most;
-  long = second.long ∙ first.long;
-  exact = λ granule. omega (arith, into_both granule xs ys, first.exact granule, second.exact granule);
-}
-
 pub lowers_more : (words : List ℕ) (k : ℕ) (a b c : Table) → k < length words → LowersBy (take k words) a b → LowersBy (get_or words k 0 ∷ []) b c → LowersBy (take (k + 1) words) a c
 lowers_more words k a b c below first second =
     subst (λ (l : List ℕ). LowersBy l a c) (sym (take_more words k 0 below)) (lowers_both (take k words) (get_or words k 0 ∷ []) a b c first second)
@@ -90,27 +79,4 @@ covers_next words k a b below covered lowered granule =
     let next : into_granule granule (take (k + 1) words) ≡ into_granule granule (take k words) + into_granule granule (get_or words k 0 ∷ []) =
     ap (into_granule granule) (take_more words k 0 below) ∙ into_both granule (take k words) (get_or words k 0 ∷ []) in
     let part : into_granule granule (take (k + 1) words) ≤ into_granule granule words = sum_by-take-le (λ w. cond (leads_into granule w) 1 0) words (k + 1) in
-    omega (arith, covered granule, lowered.exact granule)
-
--- Objects after objects
-
--- the words of the objects of a queue, one object more
-words_more : (words : ℕ → List ℕ) (queue : List ℕ) (k : ℕ) → k < length queue → flat_map words (take (k + 1) queue) ≡ flat_map words (take k queue) ++ words (get_or queue k 0)
-words_more words queue k below =
-    ap (flat_map words) (take_more queue k 0 below) ∙ flat_map-append words (take k queue) (get_or queue k 0 ∷ [])
-    ∙ ap (λ l. flat_map words (take k queue) ++ l) (append-nil (words (get_or queue k 0)))
-
-pub lowers_object : (words : ℕ → List ℕ) (queue : List ℕ) (k : ℕ) (a b c : Table) → k < length queue → LowersBy (flat_map words (take k queue)) a b → LowersBy (words (get_or queue k 0)) b c → LowersBy (flat_map words (take (k + 1) queue)) a c
-lowers_object words queue k a b c below first second =
-    subst (λ (l : List ℕ). LowersBy l a c) (sym (words_more words queue k below)) (lowers_both (flat_map words (take k queue)) (words (get_or queue k 0)) a b c first second)
-
-pub covers_object : (words : ℕ → List ℕ) (queue : List ℕ) (k : ℕ) (a b : Table) → k < length queue → ((granule : ℕ) → into_granule granule (flat_map words queue) ≤ get_or a.counts granule 0) → LowersBy (flat_map words (take k queue)) a b
-    → (granule : ℕ) → into_granule granule (words (get_or queue k 0)) ≤ get_or b.counts granule 0
-covers_object words queue k a b below covered lowered granule =
-    let split : flat_map words queue ≡ flat_map words (take (k + 1) queue) ++ flat_map words (drop (k + 1) queue) =
-    ap (flat_map words) (sym (take-append-drop (k + 1) queue)) ∙ flat_map-append words (take (k + 1) queue) (drop (k + 1) queue) in
-    let whole : into_granule granule (flat_map words queue) ≡ into_granule granule (flat_map words (take (k + 1) queue)) + into_granule granule (flat_map words (drop (k + 1) queue)) =
-    ap (into_granule granule) split ∙ into_both granule (flat_map words (take (k + 1) queue)) (flat_map words (drop (k + 1) queue)) in
-    let more : into_granule granule (flat_map words (take (k + 1) queue)) ≡ into_granule granule (flat_map words (take k queue)) + into_granule granule (words (get_or queue k 0)) =
-    ap (into_granule granule) (words_more words queue k below) ∙ into_both granule (flat_map words (take k queue)) (words (get_or queue k 0)) in
     omega (arith, covered granule, lowered.exact granule)

@@ -4,7 +4,7 @@ use Rattle.c_types.specs.declared.types.CType.{CType}
 use Rattle.c_types.specs.declared.types.CType.TheVariants as c
 use Rattle.c_types.specs.declared.types.Signature.{Signature}
 use Rattle.c_types.specs.Types.{PlainType, plain, plain_list}
-use Rattle.c_types.proofs.Same.{plain-function}
+use Rattle.c_types.specs.TypesEquations.{plain-function}
 use Rattle.c_decls.specs.PlaceRules.{length_of}
 use Rattle.elaboration.specs.Externals.{params_of}
 

@@ -5,7 +5,7 @@ use Rattle.c_types.specs.Types.{PlainType}
 use Rattle.c_decls.specs.Named.{PlainNamed, Object, Register, Function, Typedef, Constant, BuiltIn, Tag}
 use Rattle.c_decls.specs.ScopeList.{Table, ScopeList, IsSameAgain, IsTwiceIn, IsTwice, named_in, innermost}
 use Rattle.c_decls.specs.Typed.{same}
-use Rattle.c_decls.proofs.SameTypes.{same_equal, same_itself}
+use Rattle.c_decls.specs.TypedEquations.{same_equal, same_itself}
 use Rattle.elaboration.specs.Locals.{is_same_again, is_file, is_twice_in, is_twice}
 
 same_by : (a b : PlainType) → a ≡ b → same a b ≡ true

@@ -11,7 +11,7 @@ use Rattle.elaboration.specs.Context.{Code, Context, With}
 use Rattle.elaboration.specs.Conversions.{Found, valued_from}
 use Rattle.elaboration.specs.Assignments.{set_to, scalar_assigned}
 use Rattle.elab_rules.specs.Behind.{Behind, From}
-use Rattle.elab_rules.proofs.Growth.{Grown, valued_from_grown, cut_back}
+use Rattle.elab_rules.specs.GrowthEquations.{Grown, valued_from_grown, cut_back}
 
 pub scalar_done : (line : ℕ) (code : Code) (before : Mark) (tree : Tree) (target : Found) (d : Context × Found) (typed : PlainTyped) (v r : Context × Found) →
     mark_of code ≡ before → Behind code.pieces d.0.code.pieces →

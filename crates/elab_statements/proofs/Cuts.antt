@@ -6,8 +6,8 @@ use Rattle.c_tree.specs.View.{expr_tree}
 use Rattle.elab_base.specs.declared.code.Mark.{Mark}
 use Rattle.elab_base.specs.Marks.{mark_of, cut}
 use Rattle.elab_rules.specs.Behind.{From}
-use Rattle.elab_rules.proofs.Growth.{Grown, none_behind, cut_back, valued_grown}
-use Rattle.elab_rules.proofs.Grown.{found_grown}
+use Rattle.elab_rules.specs.GrowthEquations.{Grown, none_behind, cut_back, valued_grown}
+use Rattle.elab_rules.specs.FoundEquations.{found_grown}
 use Rattle.c_tree.specs.Tree.{Tree}
 use Rattle.c_decls.specs.declared.refusal.TypeKind.{TypeKind}
 use Rattle.c_decls.specs.Refusals.{then}

@@ -4,6 +4,7 @@ pub mod Entries
 pub mod Again
 pub mod Cuts
 pub mod Digits
+pub mod ListRules
 pub mod Forms
 pub mod InitsInTurn
 pub mod GivenLengths

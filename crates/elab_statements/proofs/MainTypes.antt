@@ -7,7 +7,7 @@ use Rattle.c_types.specs.declared.types.CType.{CType}
 use Rattle.c_types.specs.declared.types.CType.TheVariants as c
 use Rattle.c_types.specs.declared.types.Signature.{Signature}
 use Rattle.c_types.specs.Types.{PlainType, Int, Function, none, plain, plain_list}
-use Rattle.c_types.proofs.Same.{plain-function}
+use Rattle.c_types.specs.TypesEquations.{plain-function}
 use Rattle.c_decls.specs.Typed.{same, all_same}
 
 no_params : (params : List CType) → all_same (plain_list params) none ≡ (length params == 0)

@@ -45,7 +45,7 @@ fn member_part(alloc: Global, offset: u32, member: &Member) -> Result<Part, NoMe
 }
 
 /// So many members, from the first on, of what stands at an offset.
-#[tactic(auto, using(elab_base::proofs::ListRules::list_rules))]
+#[tactic(auto, using(crate::proofs::ListRules::list_rules))]
 fn member_parts(
     alloc: Global,
     offset: u32,
@@ -65,7 +65,7 @@ fn member_parts(
 }
 
 /// So many members, from the first on, of a struct or union at an offset; none of an incomplete one.
-#[tactic(auto, using(elab_base::proofs::ListRules::list_rules))]
+#[tactic(auto, using(crate::proofs::ListRules::list_rules))]
 pub(crate) fn parts_of(
     alloc: Global,
     tags: &Tags,

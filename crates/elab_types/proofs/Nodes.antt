@@ -32,11 +32,11 @@ use Rattle.c_decls.specs.TypeNames.{Layer, FunctionOf, word_type, special_type, 
 use Rattle.c_typing.specs.declared.layers.Layer.{Layer as CodeLayer}
 use Rattle.c_typing.specs.Layers.{plain_layer, plain_layers}
 use Rattle.c_typing.specs.SpecWords.{is_special}
-use Rattle.c_typing.proofs.Walked.{as_types}
 use Rattle.elaboration.specs.Context.{Context, With, asked, entered}
 use Rattle.elaboration.specs.Declarators.{Members, with_type, words_type, tag_type, members, member_names, member, specs, layers, suffix_layers, suffix_layer, params, param, left_params}
 use Rattle.elab_types.specs.Steps.{record_body, enum_body, members_by, member_by, param_by, behind, array_layer}
 use Rattle.elab_types.proofs.Turns.{then_then, then_same, pushed}
+use Rattle.c_typing.specs.TypeLists.{as_types}
 
 -- words
 

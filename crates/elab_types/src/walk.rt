@@ -176,7 +176,7 @@ fn member_by(
 
 /// The layers of a declarator, of which the last one stands next to the specs (C99 6.7.5).
 #[cycle(walk)]
-#[tactic(auto, unfolding(elaboration::specs::Declarators::layers, c_tree::specs::View::declarator_tree), using(c_typing::proofs::LayerLists::layer_pushed))]
+#[tactic(auto, unfolding(elaboration::specs::Declarators::layers, c_tree::specs::View::declarator_tree), using(c_typing::specs::LayersEquations::layer_pushed))]
 pub fn layers(state: &mut Elaborator, declarator: &Declarator) -> Result<Vec<Layer>, TypeError>
     ensures { FindsLayers state.new result (plain.layers (declarator_tree declarator.now) state.old) }
 {

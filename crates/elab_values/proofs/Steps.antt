@@ -21,8 +21,8 @@ use Rattle.c_decls.specs.Callees.{NoFunction}
 use Rattle.elab_base.specs.declared.code.Mark.{Mark}
 use Rattle.elab_base.specs.Marks.{mark_of, cut}
 use Rattle.elab_rules.specs.Behind.{Behind, From}
-use Rattle.elab_rules.proofs.Growth.{Grown, none_behind, cut_back, valued_grown}
-use Rattle.elab_rules.proofs.Grown.{found_grown, operand_grown}
+use Rattle.elab_rules.specs.GrowthEquations.{Grown, none_behind, cut_back, valued_grown}
+use Rattle.elab_rules.specs.FoundEquations.{found_grown, operand_grown}
 use Rattle.elab_values.specs.Forms.{before_value, between_values, changed_place}
 use Rattle.c_decls.specs.Expressions.{typed}
 use Rattle.elaboration.specs.Context.{Context, With, asked}

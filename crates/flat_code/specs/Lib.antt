@@ -3,3 +3,4 @@ pub mod Table
 pub mod Lives
 pub mod Sites
 pub mod WellFormed
+pub mod WellFormedEquations

@@ -7,14 +7,13 @@ use Rattle.hs_base.specs.Cut.{Cut, fits, cut_from, cut, refused_ending, ending_o
 use Rattle.hs_base.specs.declared.ends.Limits.{Limits}
 use Rattle.hs_base.specs.Runs as runs
 use Rattle.hs_base.specs.Runs.{led, moved, after}
-use Rattle.hs_base.proofs.Running.{moved_stays, one_end}
+use Rattle.hs_base.specs.RunsEquations.{moved_stays, one_end}
 use Rattle.core_tree.specs.declared.program.Core.{Core}
 use Rattle.core_tree.specs.Sound.{IsSound}
 use Rattle.object_meaning.specs.objects.Going.{Next}
 use Rattle.object_meaning.specs.objects.Meaning.{Run, first_call, begun, step, enough, meaning}
-use Rattle.meaning_laws.proofs.dangling.Falls.{ends}
-use Rattle.meaning_laws.proofs.dangling.Forward.{all_forward}
-use Rattle.meaning_laws.proofs.agreement.Testing.{tested_ends}
+use Rattle.meaning_laws.specs.counted.Laws.{TestedRunsEnd}
+use Rattle.meaning_laws.specs.objects.Laws.{RunsEnd}
 use Rattle.flat_codegen.specs.Lasting.{no_room, cut_next, cut_run}
 use Rattle.flat_codegen.specs.Laws.{IsCutRun}
 use Rattle.flat_codegen.proofs.FirstEvents.{NeedsNoRoom, NeedNoRoom, FirstNeeds, step_first, main_first}
@@ -118,7 +117,7 @@ module _ (room : Limits) (core : Core) where
   ended_too t r x h (Same w is) = (x, ap (λ (q : Run). q.ended) is ∙ h)
   ended_too t r x h (Less e is ended name) = (no_room e, ended)
 
-  module _ (sound : IsSound core) (input : List ℕ) (n : ℕ) where
+  module _ (ends : RunsEnd) (tested_ends : TestedRunsEnd) (sound : IsSound core) (input : List ℕ) (n : ℕ) where
     abbrev first : Run
     first = led [] (cut_next room.stack [] (first_call core input n))
 
@@ -126,7 +125,7 @@ module _ (room : Limits) (core : Core) where
     cut_is =
         let many = enough core (begun core input n).state in
         let there = after_cut first (begun core input n) (led_cut room.stack [] refl (first_call core input n) (main_first core input n)) many in
-        let end = ends core (all_forward core sound) input n room.heap in
+        let end = ends core sound input n room.heap in
         let stopped = ended_too (after cut_step first many) (meaning core input n room.heap) end.0 end.1 there in
         let ended = tested_ends core sound (fits room.stack) no_room room.heap first in
         let same = one_end cut_step first stopped.0 ended.0 many (enough core first.state) stopped.1 ended.1 in
@@ -144,7 +143,8 @@ module _ (room : Limits) (core : Core) where
       λ none. absurd (let no : Some e ≡ None = sym (ap (λ (c : Cut). c.refused) is) ∙ none in (cc)),
     )
 
-pub cut_runs_are_cut : (core : Core) → IsSound core → (input : List ℕ) (n : ℕ) (room : Limits) → IsCutRun core input n room
-cut_runs_are_cut core sound input n room =
-    let h = of_cut room core sound input n (cut_run core input n room) (meaning core input n room.heap) (cut_is room core sound input n) in
+-- the runs of sound cores end: the laws `run_ends` and `tested_runs_end` of `meaning_laws`
+pub cut_runs_are_cut : RunsEnd → TestedRunsEnd → (core : Core) → IsSound core → (input : List ℕ) (n : ℕ) (room : Limits) → IsCutRun core input n room
+cut_runs_are_cut ends tested_ends core sound input n room =
+    let h = of_cut room core ends tested_ends sound input n (cut_run core input n room) (meaning core input n room.heap) (cut_is room core ends tested_ends sound input n) in
     record { trace = h.0; ended = h.1; whole = h.2 }

@@ -12,7 +12,7 @@ use Rattle.std.specs.List.{AllZip}
 use Rattle.hs_base.specs.Trace.{Event, Ending}
 use Rattle.hs_base.specs.Cut.{fits}
 use Rattle.hs_base.specs.Runs.{Next, Goes, Stops, Ran, fresh, led, moved, after, tested}
-use Rattle.hs_base.proofs.Running.{after_zero, after_more, one_end}
+use Rattle.hs_base.specs.RunsEquations.{after_zero, after_more, one_end}
 use Rattle.core_tree.specs.declared.program.Core.{Core}
 use Rattle.core_tree.specs.Sound.{IsSound}
 use Rattle.flat_code.specs.declared.program.Code.{Code}

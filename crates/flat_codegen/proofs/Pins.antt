@@ -11,7 +11,6 @@ use Rattle.core_tree.specs.declared.statements.Stm.{Stm}
 use Rattle.object_meaning.specs.declared.pins.Pin.{Pin}
 use Rattle.object_meaning.specs.counted.Pinning.{pins_in, counts_at}
 use Rattle.count_insertion.specs.Inserted.{pin_of, pins_at, pins_below, func_pins}
-use Rattle.count_insertion.proofs.Exactness.{registers_are}
 
 abbrev is_of_point : ℕ → Pin → Bool
 is_of_point point pin = nat_eq pin.point point
@@ -74,14 +73,15 @@ module _ (func : Func) where
       counts : count ≡ length here
       counts = many ∙ ap (prefix_len (is_of_point n)) is ∙ counted
 
-      -- those of the point are taken
-      pub taken : map (λ (pin : Pin). pin.reg) (take count left) ≡ pins_in (func_pins func) n
-      taken =
+      -- those of the point are taken, where they are the registers that count there: the law `listed_pins_are_exact`
+      pub taken : pins_in (func_pins func) n ≡ filter (counts_at func n stm.kind) (range_with_len 0 (length func.regs)) →
+          map (λ (pin : Pin). pin.reg) (take count left) ≡ pins_in (func_pins func) n
+      taken counting =
           ap (λ k. map (λ (pin : Pin). pin.reg) (take k left)) counts
           ∙ ap (λ pins. map (λ (pin : Pin). pin.reg) (take (length here) pins)) (is ∙ split)
           ∙ ap (map (λ (pin : Pin). pin.reg)) (take-append_seam here (pins_from func (n + 1)))
           ∙ registers_of (filter (counts_at func n stm.kind) (range_with_len 0 (length func.regs)))
-          ∙ sym (registers_are func n stm at)
+          ∙ sym counting
 
       -- and those of the later points are left
       pub rest_left : drop count left ≡ pins_from func (n + 1)

@@ -7,7 +7,7 @@ use Rattle.std.proofs.Common.{⊎_elim, inl, inr}
 use Rattle.std.proofs.lemmas.List.{take_all, length-map}
 use Rattle.std.proofs.lemmas.List.Elements.{All-append}
 use Rattle.std.proofs.lemmas.Bool.{cases_lt}
-use Rattle.std.proofs.lemmas.Option.{slice_get_within, slice_get-map}
+use Rattle.std.proofs.lemmas.Option.{get_or_from_slice_get, slice_get_within, slice_get-map}
 use Rattle.c_types.specs.declared.layouts.Layout.{Layout}
 use Rattle.core_tree.specs.declared.program.Core.{Core}
 use Rattle.core_tree.specs.declared.program.Func.{Func}
@@ -18,7 +18,6 @@ use Rattle.flat_code.specs.declared.program.Code.{Code}
 use Rattle.flat_code.specs.declared.program.Entry.{Entry}
 use Rattle.object_meaning.specs.counted.Pinning.{Pins, pins_in, pins_of}
 use Rattle.count_insertion.specs.Inserted.{func_pins}
-use Rattle.count_insertion.proofs.Exactness.{at_map}
 use Rattle.object_meaning.specs.compiled.Places.{body_length, first_of, place_of}
 use Rattle.object_meaning.specs.compiled.Compiled.{IsStatement, IsEntry, IsLayoutIn, IsFormatIn}
 use Rattle.object_meaning.specs.compiled.Sites.{statement_sites, func_sites}
@@ -86,7 +85,7 @@ module _ (core : Core) (pins : Pins) (listed : pins ≡ map func_pins core.funcs
   -- the pins of a function are those that are listed for it
   own_pins : (f : ℕ) (func : Func) → slice_get core.funcs f ≡ Some func → (point : ℕ) → pins_of pins f point ≡ pins_in (func_pins func) point
   own_pins f func at point =
-      ap (λ ps. pins_of ps f point) listed ∙ ap (λ ps. pins_in ps point) (at_map core.funcs f func at)
+      ap (λ ps. pins_of ps f point) listed ∙ ap (λ ps. pins_in ps point) (get_or_from_slice_get (map func_pins core.funcs) f (func_pins func) [] (slice_get-map func_pins core.funcs f ∙ ap (option_map func_pins) at))
 
   -- the sites of one function more
   sites_more : (old : Code) (n : ℕ) (func : Func) (code new : Code) → slice_get core.funcs n ≡ Some func → FuncsSoFar old n code → new.sites ≡ code.sites ++ func_sites core pins (n, func) → new.sites ≡ old.sites ++ flat_map (func_sites core pins) (enumerate_from 0 (take (suc n) core.funcs))

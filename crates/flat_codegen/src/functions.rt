@@ -17,7 +17,7 @@ use crate::emitter::{Emitter, fit};
 use crate::places::Places;
 use c_types::Layout;
 use core_tree::{Func, Mem, Reg, Stm, StmKind};
-use count_insertion::FuncPins;
+use count_insertion::{FuncPins, listed_pins_are_exact};
 use flat_code::{Entry, Registers};
 use hs_base::{Items, NoMemory};
 use std::alloc::Global;
@@ -119,6 +119,7 @@ impl Emitter {
         requires listed { pins.now ≡ func_pins func.now }
         ensures { IfOk result (λ _. self.new.code ≡ fold (with_point (place_in places.now) func.now) self.old.code (enumerate_from 0 func.now.body)) }
     {
+        listed_pins_are_exact();
         let mut left = pins.left();
         for (point, stm) in func.body.as_slice().iter().enumerate() {
             let registers = left.take(self.alloc, fit(point)?)?;

@@ -22,7 +22,7 @@ use core_tree::{Core, Func};
 use count_insertion::{Counted, listed_pins_are_exact};
 use flat_code::{Code, Instr, Op};
 use hs_base::{Line, NoMemory};
-use meaning_laws::{code_means_core, codes_are_well_formed};
+use meaning_laws::{code_means_core, codes_are_few, codes_are_well_formed};
 use std::alloc::Global;
 
 /// Says whether a function is named main.
@@ -102,6 +102,7 @@ pub fn compile(alloc: Global, counted: &Counted) -> Result<Code, NoMemory>
     ensures tested { IfOk result (λ code. (fits : List Event → Event → Bool) (refused : Event → Ending) (input : List ℕ) (n heap : ℕ) → SameRun (tested_core counted.now.core counted.now.pins fits refused input n heap) (tested_code code fits refused input n heap)) }
 {
     codes_are_well_formed();
+    codes_are_few();
     code_means_core();
     listed_pins_are_exact();
     code_of(alloc, counted)

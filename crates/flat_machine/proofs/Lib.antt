@@ -11,6 +11,7 @@ pub mod Stales
 pub mod Stays
 pub mod Owned
 pub mod Ends
+pub mod Packing
 pub mod Pins
 pub mod Holders
 pub mod Plain

@@ -12,7 +12,7 @@ use Rattle.byte_memory.specs.Bytes.{word, part}
 use Rattle.hs_base.specs.Object as object
 use Rattle.hs_base.specs.Object.{Object, Sort, Standing, is_dead, no_object, object_at}
 use Rattle.hs_base.specs.Place.{Block, block_size}
-use Rattle.byte_memory.proofs.Words.{word_none, word_more}
+use Rattle.byte_memory.specs.BytesEquations.{word_none, word_more}
 use Rattle.c_types.specs.Layouts.{AreSlots, moved}
 use Rattle.adjusters.specs.ObjectSlots.{Element, object_slots}
 use Rattle.heap_blocks.specs.declared.headers.Header.{Header}

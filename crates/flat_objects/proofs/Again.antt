@@ -6,7 +6,7 @@ use Rattle.hs_base.specs.declared.values.Pointer.TheVariants as pointer
 use Rattle.hs_base.specs.Access.{little_endian}
 use Rattle.byte_memory.specs.Bytes.{part, word}
 use Rattle.hs_base.specs.Object.{Object, Standing}
-use Rattle.byte_memory.proofs.Words.{word_1}
+use Rattle.byte_memory.specs.BytesEquations.{word_1}
 use Rattle.adjusters.specs.ObjectSlots.{Element}
 use Rattle.heap_blocks.specs.Heads.{header_at}
 use Rattle.byte_marks.specs.Marks.{IsMarked, MarksModel}

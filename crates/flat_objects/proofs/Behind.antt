@@ -6,7 +6,7 @@ use Rattle.hs_base.specs.declared.values.Pointer.TheVariants as pointer
 use Rattle.hs_base.specs.Access.{Place, Refusal, and_then, access_integer, touches_slot}
 use Rattle.byte_memory.specs.Bytes.{word}
 use Rattle.hs_base.specs.Object.{Object, object_at}
-use Rattle.byte_memory.proofs.Words.{word_1}
+use Rattle.byte_memory.specs.BytesEquations.{word_1}
 use Rattle.adjusters.specs.ObjectSlots.{Element, object_slots}
 use Rattle.object_meaning.specs.objects.Strings.{behind, byte_behind, room_at}
 use Rattle.flat_objects.specs.declared.finding.Found.{Found}

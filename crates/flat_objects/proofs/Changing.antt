@@ -11,7 +11,7 @@ use Rattle.hs_base.specs.Access.{with_object, touches_slot, little_endian}
 use Rattle.byte_memory.specs.Bytes.{word}
 use Rattle.hs_base.specs.Object.{Object, Sort, Standing, is_dead, no_object, object_at}
 use Rattle.hs_base.specs.Place.{Block, block_size}
-use Rattle.byte_memory.proofs.Words.{word_1}
+use Rattle.byte_memory.specs.BytesEquations.{word_1}
 use Rattle.adjusters.specs.ObjectSlots.{Element, object_slots}
 use Rattle.heap_blocks.specs.declared.headers.Header.{Header}
 use Rattle.heap_blocks.specs.Bytes.{ChangesOnly}

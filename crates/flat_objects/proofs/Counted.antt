@@ -26,7 +26,8 @@ use Rattle.flat_objects.proofs.Blocks.{there_below}
 use Rattle.flat_objects.proofs.Changing.{SameShape, with_bytes}
 use Rattle.flat_objects.proofs.Owners.{own_inside}
 use Rattle.flat_objects.proofs.Reached.{are_slots}
-use Rattle.flat_objects.proofs.Tallies.{count_one, met_once, one_if, span_to, sum_enumerated, sum_flat, sum_less, sum_listed, sum_ones, sum_scaled, sum_to, sum_to_longer, sum_to_none, sum_to_ones, sum_to_same, sums_swapped}
+use Rattle.flat_objects.specs.SumEquations.{sum_flat}
+use Rattle.flat_objects.proofs.Tallies.{count_one, met_once, one_if, span_to, sum_enumerated, sum_less, sum_listed, sum_ones, sum_scaled, sum_to, sum_to_longer, sum_to_none, sum_to_ones, sum_to_same, sums_swapped}
 
 -- The pointers inside objects are no more than fit
 

@@ -21,13 +21,14 @@ use Rattle.flat_objects.proofs.Changing.{header_kept}
 use Rattle.flat_objects.proofs.Counted.{keeps_counting}
 use Rattle.flat_objects.proofs.EndingBlocks.{changes_frame, stands_ended}
 use Rattle.flat_objects.proofs.EndingCounts.{all_stay, end_same, first_named, none_named}
-use Rattle.flat_objects.proofs.EndingObjects.{at_ended, blocks_ended, dead_if, ended_sort, is_ending}
+use Rattle.flat_objects.proofs.EndingObjects.{blocks_ended}
 use Rattle.flat_objects.proofs.Frames.{frame_again}
 use Rattle.flat_objects.proofs.HeldBlocks.{all_blocks}
-use Rattle.flat_objects.proofs.Packing.{range_from}
 use Rattle.flat_objects.proofs.Queueing.{range_heap}
 use Rattle.flat_objects.proofs.Released.{all_left_of, all_right_of, filter_all, from_among}
 use Rattle.flat_objects.proofs.Tracked.{links_kept, queue_there}
+use Rattle.flat_objects.specs.EndingEquations.{at_ended, dead_if, ended_sort, is_ending}
+use Rattle.flat_objects.specs.MemoryEquations.{range_from}
 
 -- Objects that are no memory locals
 

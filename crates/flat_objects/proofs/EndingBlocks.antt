@@ -27,13 +27,14 @@ use Rattle.flat_objects.proofs.Apart.{ranges_apart}
 use Rattle.flat_objects.proofs.Blocks.{block_is_held, there_below}
 use Rattle.flat_objects.proofs.Changing.{IsOutside, header_kept, part_outside}
 use Rattle.flat_objects.proofs.Counted.{pointers_there}
-use Rattle.flat_objects.proofs.EndingObjects.{blocks_without, ended_more, ended_sort, is_ending, is_left, stays_there}
+use Rattle.flat_objects.proofs.EndingObjects.{blocks_without}
 use Rattle.flat_objects.proofs.HeldBlocks.{all_blocks, has_headers, own_births}
 use Rattle.flat_objects.proofs.Members.{related}
 use Rattle.flat_objects.proofs.Owners.{range_inside}
-use Rattle.flat_objects.proofs.Packing.{range_from}
 use Rattle.flat_objects.proofs.Reached.{are_slots}
 use Rattle.flat_objects.proofs.Released.{all_of_flat, among_from, filter_all}
+use Rattle.flat_objects.specs.EndingEquations.{ended_more, ended_sort, is_ending, is_left, stays_there}
+use Rattle.flat_objects.specs.MemoryEquations.{range_from}
 
 -- an address of a pointer to an object that is left still stands for it
 pub stands_ended : (places : ℕ → ℕ) (objects : List Object) (births : List ℕ) (p : Pointer) (a : ℕ) → IsAddressOf places objects p a → LeadsSomewhere (ended objects births) p → IsAddressOf places (ended objects births) p a

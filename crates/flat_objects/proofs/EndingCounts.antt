@@ -25,12 +25,13 @@ use Rattle.flat_objects.specs.Counting.{AreCounts, Frees, LeadsSomewhere, leads_
 use Rattle.flat_objects.specs.Freeing.{number_of}
 use Rattle.flat_objects.specs.EndingSteps.{AreCoveredAt, MayCheck, pointers_beside}
 use Rattle.flat_objects.proofs.Apart.{objects_apart}
-use Rattle.flat_objects.proofs.EndingObjects.{at_ended, dead_if, ended_size, is_ending, living_ended, stays_there}
 use Rattle.flat_objects.proofs.Numbers.{granules_number, none_past, whole, words_lead_all}
 use Rattle.flat_objects.proofs.Owners.{own_inside}
 use Rattle.flat_objects.proofs.Placed.{all_flat, inside_lead, living_lead}
 use Rattle.flat_objects.proofs.Released.{from_among, none_held, number_zero}
-use Rattle.flat_objects.proofs.Tallies.{count_one, met_in, one_if, sum_mapped, sum_ones, sum_ranged, sum_same, sum_to, sum_to_ones, sum_to_same, sums_swapped}
+use Rattle.flat_objects.specs.SumEquations.{sum_mapped, sum_same}
+use Rattle.flat_objects.proofs.Tallies.{count_one, met_in, one_if, sum_ones, sum_ranged, sum_to, sum_to_ones, sum_to_same, sums_swapped}
+use Rattle.flat_objects.specs.EndingEquations.{at_ended, dead_if, ended_size, is_ending, stays_there, living_ended}
 
 -- The first that passes a test
 

@@ -2,7 +2,7 @@
 use Rattle.std.proofs.Common.{◌≡◌, ◌∙◌, ◌+◌, ◌/◌, ◌%◌, ◌≤◌, ℕ, List, length, refl, sym, ap, subst, arith}
 use Rattle.std.specs.Prelude.{All, slice_index}
 use Rattle.byte_memory.specs.Bytes.{word}
-use Rattle.byte_memory.proofs.Words.{length-put_word}
+use Rattle.byte_memory.specs.BytesEquations.{length-put_word}
 use Rattle.byte_marks.specs.Marks.{MarksModel}
 use Rattle.heap_blocks.specs.Held.{HeapModel, HasBounds}
 use Rattle.flat_objects.specs.Memory.{Memory, Range, Statics, Locals, Heap, IsForm, IsMemory, SameFrame, heap_of}

@@ -13,7 +13,8 @@ use Rattle.heap_blocks.specs.Held.{HasHeader, HasHeaders, HaveOwnBirths}
 use Rattle.flat_objects.specs.Memory.{Memory, Range, heap_of, is_of, range_of}
 use Rattle.flat_objects.specs.Standing.{IsThere}
 use Rattle.flat_objects.specs.Keeping.{Keeps, block_of, blocks_of, stands_in}
-use Rattle.flat_objects.proofs.Packing.{all_kept, range_from}
+use Rattle.flat_objects.specs.KeptEquations.{all_kept}
+use Rattle.flat_objects.specs.MemoryEquations.{range_from}
 
 -- what holds of the block of each object of a range holds of all its blocks
 pub all_blocks : (Q : Block → Type 0) (memory : Memory) (places : ℕ → ℕ) (objects : List Object) (range : Range) → ((birth : ℕ) → IsThere objects birth → range_of (object_at objects birth).sort ≡ range → Q (block_of places (heap_of memory range).base (birth, object_at objects birth))) → All Q (blocks_of memory places objects range)

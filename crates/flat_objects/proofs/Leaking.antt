@@ -22,7 +22,7 @@ use Rattle.flat_objects.proofs.Least.{IsLeastAbove, least_beside, least_first, l
 use Rattle.flat_objects.proofs.Members.{contains_kept}
 use Rattle.flat_objects.proofs.Numbers.{whole}
 use Rattle.flat_objects.proofs.Owners.{own_inside, own_is_block}
-use Rattle.flat_objects.proofs.Packing.{all_kept}
+use Rattle.flat_objects.specs.KeptEquations.{all_kept}
 use Rattle.flat_objects.proofs.Queueing.{range_heap}
 use Rattle.flat_objects.proofs.Sought.{same_place}
 use Rattle.flat_objects.proofs.Tallies.{met_value, sum_ones, sum_placed, sum_to, sum_to_both, sum_to_none, sum_to_same}

@@ -34,7 +34,6 @@ mod Storages
 mod HeapStarts
 mod Least
 mod Leaking
-pub mod Packing
 pub mod Tallies
 mod Counted
 mod Tracked

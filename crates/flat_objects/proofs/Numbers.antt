@@ -30,7 +30,8 @@ use Rattle.flat_objects.proofs.Counted.{lands, lands_as}
 use Rattle.flat_objects.proofs.HeldBlocks.{has_headers, own_births}
 use Rattle.flat_objects.proofs.Owners.{own_inside, own_is_block, range_inside}
 use Rattle.flat_objects.proofs.Placed.{all_flat, inside_lead, living_lead}
-use Rattle.flat_objects.proofs.Tallies.{met_in, met_out, met_value, one_if, picked, sum_flat, sum_mapped, sum_placed, sum_ranged, sum_same, sum_to, sum_to_none, sum_to_same, sum_zipped, sums_swapped}
+use Rattle.flat_objects.specs.SumEquations.{sum_flat, sum_mapped, sum_same}
+use Rattle.flat_objects.proofs.Tallies.{met_in, met_out, met_value, one_if, picked, sum_placed, sum_ranged, sum_to, sum_to_none, sum_to_same, sum_zipped, sums_swapped}
 use Rattle.flat_objects.proofs.Tracked.{queue_there}
 
 -- The pointers inside queued objects, and those inside the others

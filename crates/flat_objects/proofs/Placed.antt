@@ -29,7 +29,8 @@ use Rattle.flat_objects.proofs.Added.{IsBlank, IsPlacement, added, at_new, at_ol
 use Rattle.flat_objects.proofs.Blocks.{there_below}
 use Rattle.flat_objects.proofs.Changing.{header_kept, part_outside}
 use Rattle.flat_objects.proofs.Counted.{leads_somewhere, pointers_there}
-use Rattle.flat_objects.proofs.Tallies.{one_if, sum_same}
+use Rattle.flat_objects.specs.SumEquations.{sum_same}
+use Rattle.flat_objects.proofs.Tallies.{one_if}
 use Rattle.flat_objects.proofs.Tracked.{links_kept, queue_there}
 
 -- The pointers inside objects lead somewhere

@@ -5,7 +5,8 @@ use Rattle.std.proofs.lemmas.Slice.{drop-append-drop}
 use Rattle.hs_base.specs.Access.{overlaid}
 use Rattle.byte_memory.specs.Bytes.{part}
 use Rattle.heap_blocks.specs.Bytes.{ChangesOnly}
-use Rattle.typed_copies.proofs.Overlaid.{at_before, at_behind, at_inside, overlaid_len, part_before}
+use Rattle.hs_base.specs.AccessEquations.{at_before, at_behind, at_inside, overlaid_len}
+use Rattle.byte_memory.specs.BytesEquations.{part_before_new}
 
 -- a byte of a part
 pub part_byte : (bytes : List ℕ) (addr n k : ℕ) → k < n → get_or (part bytes addr n) k 0 ≡ get_or bytes (addr + k) 0
@@ -22,7 +23,7 @@ module _ (bytes : List ℕ) (at : ℕ) (new : List ℕ) (inside : at + length ne
   pub changes_over : (start long : ℕ) → start ≤ at → at + length new ≤ start + long → ChangesOnly bytes (overlaid bytes at new) start long
   changes_over start long low high = record {
     long = overlaid_len bytes at new inside;
-    below = λ from k less. part_before bytes at new inside from k (omega arith);
+    below = λ from k less. part_before_new bytes at new inside from k (omega arith);
     above = λ from k past. past_same from k (omega arith);
   }
 

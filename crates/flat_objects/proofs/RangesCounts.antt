@@ -20,7 +20,8 @@ use Rattle.flat_objects.proofs.Changing.{SameShape}
 use Rattle.flat_objects.proofs.Counted.{count_is, counts_few, granule_inside, lands_as, leads, leads_as, living_few, pointers_there}
 use Rattle.flat_objects.proofs.Owners.{own_inside}
 use Rattle.flat_objects.proofs.RangesWords.{Stand, stand_at, stand_long, words_stand}
-use Rattle.flat_objects.proofs.Tallies.{one_if, sum_flat}
+use Rattle.flat_objects.specs.SumEquations.{sum_flat}
+use Rattle.flat_objects.proofs.Tallies.{one_if}
 
 -- Sums over pointers
 

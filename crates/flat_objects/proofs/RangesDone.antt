@@ -11,7 +11,7 @@ use Rattle.count_table.specs.Table.{Table}
 use Rattle.typed_copies.specs.declared.Ranged.{Ranged}
 use Rattle.typed_copies.specs.Copying.{Answers, HasRoom, IsCleared, IsCopied, IsRangeIn, bytes_after, slots_of, words_of}
 use Rattle.typed_copies.specs.Pointers.{ArePointers, Cover, HaveRoom, words_at}
-use Rattle.typed_copies.proofs.Allowed.{after_copy, after_set}
+use Rattle.typed_copies.specs.CopyingEquations.{after_copy, after_set}
 use Rattle.flat_objects.specs.Memory.{Memory, IsMemory}
 use Rattle.flat_objects.specs.Standing.{IsAddressOf}
 use Rattle.flat_objects.specs.Keeping.{Keeps, KeepsAt}

@@ -12,8 +12,7 @@ use Rattle.heap_blocks.specs.Bytes.{ChangesOnly}
 use Rattle.typed_copies.specs.declared.Ranged.{Ranged}
 use Rattle.typed_copies.specs.Copying.{IsCleared, IsCopied}
 use Rattle.typed_copies.specs.Pointers.{Follow, words_at}
-use Rattle.typed_copies.proofs.Overlaid.{overlaid_len, part_len}
-use Rattle.typed_copies.proofs.Worded.{word_at, words_len}
+use Rattle.typed_copies.specs.PointersEquations.{word_at, words_len}
 use Rattle.flat_objects.specs.Memory.{Memory, IsMemory}
 use Rattle.flat_objects.specs.Standing.{IsThere, IsAddressOf}
 use Rattle.flat_objects.specs.Keeping.{Keeps}
@@ -26,6 +25,8 @@ use Rattle.flat_objects.proofs.RangesBytes.{changes_over, part_byte, written_ove
 use Rattle.flat_objects.proofs.RangesCounts.{counts_follow}
 use Rattle.flat_objects.proofs.RangesWords.{Stand, stand_at, stand_drop, stand_long, stand_nulls, stand_overlaid, stand_take, words_stand}
 use Rattle.flat_objects.proofs.Tracked.{changed_counting, tracks_counted}
+use Rattle.hs_base.specs.AccessEquations.{overlaid_len}
+use Rattle.byte_memory.specs.BytesEquations.{part_len}
 
 -- Bytes are written to memory, as many to the bytes of an object, and it has other pointers
 

@@ -17,8 +17,7 @@ use Rattle.typed_copies.specs.declared.Ranged.{Ranged}
 use Rattle.typed_copies.specs.Copying.{IsRangeIn, slots_of}
 use Rattle.typed_copies.specs.Pointers.{words_at}
 use Rattle.typed_copies.specs.Slots.{slots_agree, slots_allow}
-use Rattle.typed_copies.proofs.Allowed.{after_copy, after_set, copy_inside, copy_of_none, set_inside}
-use Rattle.typed_copies.proofs.Overlaid.{overlaid_none}
+use Rattle.typed_copies.specs.CopyingEquations.{after_copy, after_set, copy_inside, copy_of_none, set_inside}
 use Rattle.flat_objects.specs.Memory.{Memory}
 use Rattle.flat_objects.specs.Standing.{IsAddressOf}
 use Rattle.flat_objects.specs.Keeping.{Keeps}
@@ -26,6 +25,7 @@ use Rattle.flat_objects.specs.Answering.{IsChanged}
 use Rattle.flat_objects.specs.Counting.{StaysTracked}
 use Rattle.flat_objects.proofs.RangesWords.{Stand, stand_drop, stand_take, words_stand}
 use Rattle.flat_objects.proofs.Stored.{same_after}
+use Rattle.hs_base.specs.AccessEquations.{overlaid_none}
 
 -- No pointer that is copied is stale
 

@@ -5,7 +5,7 @@ use Rattle.hs_base.specs.declared.values.Pointer.TheVariants as pointer
 use Rattle.hs_base.specs.Access.{overlaid}
 use Rattle.hs_base.specs.Object.{Object, object_at}
 use Rattle.typed_copies.specs.Pointers.{words_at}
-use Rattle.typed_copies.proofs.Worded.{word_at, words_len}
+use Rattle.typed_copies.specs.PointersEquations.{word_at, words_len}
 use Rattle.flat_objects.specs.Memory.{Memory}
 use Rattle.flat_objects.specs.Standing.{IsThere, IsAddressOf}
 use Rattle.flat_objects.specs.Keeping.{Keeps}

@@ -9,7 +9,7 @@ use Rattle.hs_base.specs.declared.values.Pointer.TheVariants as pointer
 use Rattle.hs_base.specs.Access.{overlaid, with_object}
 use Rattle.byte_memory.specs.Bytes.{word, put_word}
 use Rattle.hs_base.specs.Object.{Object, object_at}
-use Rattle.byte_memory.proofs.Words.{word_1, word_same, word_more, length-put_word}
+use Rattle.byte_memory.specs.BytesEquations.{word_1, word_same, word_more, length-put_word}
 use Rattle.heap_blocks.specs.Bytes.{ChangesOnly}
 use Rattle.flat_objects.specs.Memory.{Memory, IsMemory}
 use Rattle.flat_objects.specs.Standing.{IsAddressOf}

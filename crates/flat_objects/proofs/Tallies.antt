@@ -1,24 +1,16 @@
 -- Sums over lists, and over the numbers below one.
 use Rattle.std.proofs.Common.{◌≡◌, ◌<◌, ◌≤◌, ◌+◌, ◌*◌, ◌-◌, ◌⊎◌, inl, inr, ℕ, zero, suc, Bool, true, false, cond, List, [], ◌∷◌, length, get_or, take, refl, sym, ap, ◌∙◌, arith}
-use Rattle.std.specs.Prelude.{AllPairs, Contains, IsTrue, map, nat_eq, sum, ◌≢◌, ◌↔◌}
-use Rattle.std.specs.List.{sum_by, count_by, flat_map, enumerate_from, range_with_len}
+use Rattle.std.specs.Prelude.{AllPairs, Contains, IsTrue, nat_eq, sum, ◌≢◌, ◌↔◌}
+use Rattle.std.specs.List.{sum_by, count_by, enumerate_from, range_with_len}
 use Rattle.std.proofs.lemmas.Bool.{cases_Bool, cases_eq, cases_lt, cond-true, cond-false, ne_eqb, eq-eqb}
 use Rattle.std.proofs.Math.Seq.{take-length}
-use Rattle.std.proofs.lemmas.List.Sums.{sum_by-cons, sum_by-append, sum_by_more}
+use Rattle.std.proofs.lemmas.List.Sums.{sum_by-cons, sum_by_more}
 
 -- 1 or 0
 abbrev pub one_if : Bool → ℕ
 one_if b = cond b 1 0
 
 -- Sums over lists
-
-pub sum_flat : {X Y : Type 0} (w : Y → ℕ) (f : X → List Y) (xs : List X) → sum_by w (flat_map f xs) ≡ sum_by (λ x. sum_by w (f x)) xs
-sum_flat w f [] = refl
-sum_flat w f (x ∷ xs) =
-    let one = sum_by-append w (f x) (flat_map f xs) in
-    let two = sum_by-cons (λ x. sum_by w (f x)) x xs in
-    let rest = sum_flat w f xs in
-    omega arith
 
 -- four times one sum is no more than another
 pub sum_scaled : {X : Type 0} (f g : X → ℕ) (xs : List X) → ((k : ℕ) (d : X) → k < length xs → 4 * f (get_or xs k d) ≤ g (get_or xs k d)) → 4 * sum_by f xs ≤ sum_by g xs
@@ -50,16 +42,6 @@ sum_less f g [] each = omega arith
 sum_less f g (x ∷ xs) each =
     let first = each x in
     let rest = sum_less f g xs each in
-    let one = sum_by-cons f x xs in
-    let two = sum_by-cons g x xs in
-    omega arith
-
--- two sums with the same of each item
-pub sum_same : {X : Type 0} (f g : X → ℕ) (xs : List X) → ((k : ℕ) (d : X) → k < length xs → f (get_or xs k d) ≡ g (get_or xs k d)) → sum_by f xs ≡ sum_by g xs
-sum_same f g [] each = refl
-sum_same f g (x ∷ xs) each =
-    let first : f x ≡ g x = each 0 x (omega arith) in
-    let rest = sum_same f g xs (λ k d less. each (suc k) d (omega arith)) in
     let one = sum_by-cons f x xs in
     let two = sum_by-cons g x xs in
     omega arith
@@ -188,14 +170,6 @@ met_once a n =
           ]
 
 -- Sums over lists that go together
-
-pub sum_mapped : {X Y : Type 0} (w : Y → ℕ) (f : X → Y) (xs : List X) → sum_by w (map f xs) ≡ sum_by (λ x. w (f x)) xs
-sum_mapped w f [] = refl
-sum_mapped w f (x ∷ xs) =
-    let one = sum_by-cons w (f x) (map f xs) in
-    let two = sum_by-cons (λ x. w (f x)) x xs in
-    let rest = sum_mapped w f xs in
-    omega arith
 
 pub sum_zipped : {X Y : Type 0} (f : X → ℕ) (g : Y → ℕ) (xs : List X) (ys : List Y) (d : X) (e : Y) → length xs ≡ length ys → ((k : ℕ) → k < length xs → f (get_or xs k d) ≡ g (get_or ys k e)) → sum_by f xs ≡ sum_by g ys
 sum_zipped f g [] [] d e long each = refl

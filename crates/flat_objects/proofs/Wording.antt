@@ -1,7 +1,7 @@
 -- Words that are equal byte by byte.
 use Rattle.std.proofs.Common.{◌≡◌, ◌<◌, ◌≤◌, ◌+◌, ◌*◌, ℕ, zero, suc, List, length, get_or, refl, sym, ap, ◌∙◌, arith}
 use Rattle.byte_memory.specs.Bytes.{word}
-use Rattle.byte_memory.proofs.Words.{word_none, word_more}
+use Rattle.byte_memory.specs.BytesEquations.{word_none, word_more}
 
 pub word_same_bytes : (a b : List ℕ) (x y n : ℕ) → x + n ≤ length a → y + n ≤ length b → ((i : ℕ) → i < n → get_or a (x + i) 0 ≡ get_or b (y + i) 0) → word a x n ≡ word b y n
 word_same_bytes a b x y zero in_a in_b same = word_none a x ∙ sym (word_none b y)

@@ -14,7 +14,7 @@ use Rattle.flat_objects.specs.Keeping.{Keeps}
 use Rattle.flat_objects.specs.Counting.{AreQueued}
 use Rattle.flat_objects.specs.Freeing.{work_of}
 use Rattle.flat_objects.proofs.Numbers.{slots_as}
-use Rattle.flat_objects.proofs.Tallies.{sum_mapped, sum_same}
+use Rattle.flat_objects.specs.SumEquations.{sum_mapped, sum_same}
 use Rattle.flat_objects.proofs.Tracked.{queue_there}
 
 module _ (memory : Memory) (places : ℕ → ℕ) (objects : List Object) (keeps : Keeps memory places objects) where

@@ -1,9 +1,12 @@
 pub mod Memory
+pub mod MemoryEquations
 pub mod Standing
 pub mod Keeping
+pub mod KeptEquations
 pub mod Reaching
 pub mod Answering
 pub mod Counting
+pub mod SumEquations
 pub mod Freeing
 pub mod Holders
 pub mod Searching
@@ -15,4 +18,5 @@ pub mod Ranges
 pub mod Tries
 pub mod Leaks
 pub mod Ending
+pub mod EndingEquations
 pub mod EndingSteps

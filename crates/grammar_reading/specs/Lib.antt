@@ -1,6 +1,7 @@
 pub mod Known
 pub mod State
 pub mod Reading
+pub mod ReadingEquations
 pub mod Expressions
 pub mod Declarators
 pub mod Statements

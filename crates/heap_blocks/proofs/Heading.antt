@@ -1,7 +1,7 @@
 -- The header that seven writes leave.
 use Rattle.std.proofs.Common.{◌≡◌, ◌≤◌, ◌<◌, ◌+◌, ◌-◌, ◌^◌, ◌⊎◌, inl, inr, ℕ, List, length, sym, ap, ◌∙◌, subst, arith}
 use Rattle.byte_memory.specs.Bytes.{part, word, put_word}
-use Rattle.byte_memory.proofs.Words.{word_same, length-put_word}
+use Rattle.byte_memory.specs.BytesEquations.{word_same, length-put_word}
 use Rattle.heap_blocks.specs.declared.headers.Header.{Header}
 use Rattle.heap_blocks.specs.Bytes.{ChangesOnly}
 use Rattle.heap_blocks.specs.Heads.{header_at}

@@ -8,7 +8,7 @@ use Rattle.std.proofs.lemmas.Option.{slice_get-map, slice_get_within}
 use Rattle.byte_memory.specs.Bytes.{word}
 use Rattle.hs_base.specs.Place.{Block, block_size}
 use Rattle.hole_tree.specs.Granules.{IsRun, IsFirstHole, HasNoHole, IsSet}
-use Rattle.hole_tree.proofs.Pieces.{same_rows}
+use Rattle.hole_tree.specs.RowEquations.{same_rows}
 use Rattle.heap_blocks.specs.declared.marks.Mark.{Mark}
 use Rattle.heap_blocks.specs.declared.marks.Mark.TheVariants.{Free, Of}
 use Rattle.heap_blocks.specs.Runs.{IsFreeRun, IsFirstRun, HasNoRun, Filled}

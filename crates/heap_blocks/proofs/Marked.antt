@@ -3,7 +3,7 @@ use Rattle.std.proofs.Common.{◌≡◌, ◌<◌, ◌≤◌, ◌+◌, ◌-◌, �
 use Rattle.std.specs.Prelude.{slice_get}
 use Rattle.std.proofs.lemmas.Bool.{cases_lt}
 use Rattle.byte_memory.specs.Filled.{filled_up}
-use Rattle.byte_memory.proofs.Filling.{length-filled_up}
+use Rattle.byte_memory.specs.FilledEquations.{length-filled_up}
 use Rattle.heap_blocks.specs.declared.marks.Mark.{Mark}
 use Rattle.heap_blocks.specs.declared.marks.Mark.TheVariants.{Free, Of}
 use Rattle.heap_blocks.specs.Runs.{Filled}

@@ -4,7 +4,7 @@ use Rattle.std.proofs.lemmas.List.{drop-drop, take-take, take-replicate, replica
 use Rattle.std.proofs.Math.Seq.{take-add}
 use Rattle.hs_base.specs.Access.{little_endian}
 use Rattle.byte_memory.specs.Bytes.{part, word, put_word}
-use Rattle.byte_memory.proofs.Words.{length-put_word, part_same, part_before, part_past}
+use Rattle.byte_memory.specs.BytesEquations.{length-put_word, part_same, part_before, part_past}
 use Rattle.heap_blocks.specs.Bytes.{ChangesOnly}
 
 -- a word is the number of its part

@@ -24,7 +24,7 @@ use c_elab::elab;
 use c_lexer::{LexError, Token, lex};
 use c_parser::{ParseError, parse};
 use c_tree::Unit;
-use core_soundness::tokens_are_within;
+use core_soundness::{texts_are_made_of_themselves, tokens_are_within};
 use core_tree::Core;
 use generated_text::{Summary, generate, put_summary};
 use hs_base::{End, Items, Limits, MemSink, NoMemory, Sink, Source, SureSource};
@@ -76,6 +76,7 @@ fn prepare_tokens(alloc: Global, tokens: &[Token]) -> Result<Prepared, NoMemory>
     requires short { AreWithin most_bytes tokens.now }
     ensures { IfOk result (IsPreparedTokens tokens.now) }
 {
+    texts_are_made_of_themselves();
     match parse(alloc, tokens) {
         Ok(unit) => prepare_unit(alloc, &unit),
         Err(ParseError::Syntax { .. }) => Ok(Prepared::Refused(BAD_TREE)),

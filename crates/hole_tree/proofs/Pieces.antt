@@ -1,5 +1,5 @@
 -- Elements of parts of lists.
-use Rattle.std.proofs.Common.{◌≡◌, ◌≤◌, ◌<◌, ◌+◌, ℕ, zero, suc, List, [], ◌∷◌, take, drop, Some, None, refl, ap, ◌∙◌, arith}
+use Rattle.std.proofs.Common.{◌≡◌, ◌≤◌, ◌<◌, ◌+◌, ℕ, zero, suc, List, [], ◌∷◌, take, drop, None, refl, ap, ◌∙◌, arith}
 use Rattle.std.specs.Prelude.{slice_get}
 
 pub slice_get-drop : {A : Type 0} (n : ℕ) (xs : List A) (k : ℕ) → slice_get (drop n xs) k ≡ slice_get xs (n + k)
@@ -20,13 +20,3 @@ slice_get-take_past zero xs k high = refl
 slice_get-take_past (suc n) [] k high = refl
 slice_get-take_past (suc n) (x ∷ xs) zero high = absurd (omega arith)
 slice_get-take_past (suc n) (x ∷ xs) (suc k) high = slice_get-take_past n xs k (omega arith)
-
--- lists with the same element at each place
-pub same_rows : {A : Type 0} (xs ys : List A) → ((k : ℕ) → slice_get xs k ≡ slice_get ys k) → xs ≡ ys
-same_rows [] [] same = refl
-same_rows [] (y ∷ ys) same = let h = same 0 in cc
-same_rows (x ∷ xs) [] same = let h = same 0 in cc
-same_rows (x ∷ xs) (y ∷ ys) same =
-    let h : Some x ≡ Some y = same 0 in
-    let rest : xs ≡ ys = same_rows xs ys (λ k. same (suc k)) in
-    cc

@@ -9,7 +9,8 @@ use Rattle.hole_tree.specs.declared.node.Node.{Node}
 use Rattle.hole_tree.specs.Runs.{summary}
 use Rattle.hole_tree.specs.Granules.{IsSameOutside}
 use Rattle.hole_tree.specs.Tree.{IsTree, node_count}
-use Rattle.hole_tree.proofs.Pieces.{slice_get-take, slice_get-take_past, slice_get-drop, same_rows}
+use Rattle.hole_tree.specs.RowEquations.{same_rows}
+use Rattle.hole_tree.proofs.Pieces.{slice_get-take, slice_get-take_past, slice_get-drop}
 
 -- what a tree that is higher than 0 is made of
 pub record IsJoined (below : ℕ) (row : List Bool) (nodes : List Node) : Type 0 where

@@ -1,3 +1,4 @@
 pub mod Granules
 pub mod Runs
+pub mod RowEquations
 pub mod Tree

@@ -8,7 +8,8 @@ use Rattle.hs_base.specs.declared.ends.IntKind.{IntKind}
 use Rattle.hs_base.specs.declared.ends.IntKind.TheVariants.{I8, U8, I16, U16, I32, U32, I64, U64}
 use Rattle.hs_base.specs.Numbers.{wrapped}
 use Rattle.hs_base.specs.Arithmetic.{for_divisor, quotient_of, remainder_of, product_of, sum_of, width_in_bits}
-use Rattle.hs_base.proofs.Wrapping.{low_bits_lt, IsCongruent, congruent_refl, congruent_trans, congruent_sum, congruent_product, congruent_wrapped, wrapped_same, wrapped_again}
+use Rattle.hs_base.specs.NumbersEquations.{low_bits_lt}
+use Rattle.hs_base.proofs.Wrapping.{IsCongruent, congruent_refl, congruent_trans, congruent_sum, congruent_product, congruent_wrapped, wrapped_same, wrapped_again}
 
 -- a divisor other than 0 has a result
 pub for_other : (k : IntKind) (b d : ℤ) → d ≡ wrapped k b → (cast_unsigned w128 d ≡ 0 → ⊥) → (n : ℤ) → Some n ≡ for_divisor (wrapped k b) n

@@ -12,6 +12,7 @@ use mir.Val.{bits, hbits}
 use Rattle.hs_base.specs.declared.ends.IntKind.{IntKind}
 use Rattle.hs_base.specs.declared.ends.IntKind.TheVariants.{I8, U8, I16, U16, I32, U32, I64, U64}
 use Rattle.hs_base.specs.Numbers.{low_bits, wrapped}
+use Rattle.hs_base.specs.NumbersEquations.{low_bits_lt}
 use Rattle.hs_base.specs.Arithmetic.{width_in_bits, bits_of, complement_of, IsInRange}
 
 -- a and b differ by a multiple of m
@@ -86,10 +87,6 @@ low_bits_same n a b p = ap unsigned_abs (rem_same (2 ^ n) (pow_pos n) a b p)
 
 pub congruent_low_bits : (n : ℕ) (a : ℤ) → IsCongruent (2 ^ n) (pos (low_bits n a)) a
 congruent_low_bits n a = congruent_rem (2 ^ n) (pow_pos n) a
-
-pub low_bits_lt : (n : ℕ) (a : ℤ) → low_bits n a < 2 ^ n
-low_bits_lt n (pos a) = mod-lt a (pow_pos n)
-low_bits_lt n (negsuc a) = let some = pow_pos n in omega arith
 
 fits_twice : (w : Width) (n : ℕ) → n < 2 ^ hbits w → n < 2 ^ bits w
 fits_twice w8 n h = omega arith

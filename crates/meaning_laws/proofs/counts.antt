@@ -2,7 +2,6 @@ pub mod Weighing
 pub mod Objects
 pub mod Pins
 pub mod Sorting
-pub mod Touched
 pub mod Agreeing
 pub mod Checks
 pub mod Listed

@@ -10,7 +10,6 @@ pub mod Made
 pub mod Queues
 pub mod Dropping
 pub mod Pinned
-pub mod Ready
 pub mod Frames
 pub mod Counted
 pub mod Standing

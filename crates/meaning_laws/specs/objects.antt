@@ -1,3 +1,4 @@
 pub mod Dangling
 pub mod Good
+pub mod GoodEquations
 pub mod Laws

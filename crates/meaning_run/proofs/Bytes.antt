@@ -2,7 +2,7 @@
 use Rattle.std.proofs.Common.{◌≡◌, ℕ, List, [], ◌∷◌, ◌++◌, map, Option, Some, Result, Ok, Err, refl, sym, ap, ◌∙◌}
 use Rattle.std.proofs.lemmas.List.{append-nil, map-append}
 use Rattle.hs_base.specs.State.{State}
-use Rattle.hs_base.specs.Trace.{Out, bytes_out, bytes_in}
+use Rattle.hs_base.specs.Trace.{Out}
 use Rattle.hs_base.specs.Runs as runs
 use Rattle.object_meaning.specs.objects.Going.{Next}
 use Rattle.object_meaning.specs.objects.Builtins.{get_byte}
@@ -15,14 +15,7 @@ use Rattle.meaning_state.specs.declared.refusal.Refusal.TheVariants as refusal
 use Rattle.meaning_state.specs.Printing.{IsRefused}
 use Rattle.meaning_run.specs.Ending.{halt_of}
 use Rattle.meaning_run.specs.Leading.{Counted, with_input, AsksByte, events_of, PutsPart, StopsAlone, Alone, StopsSo, Moves, SeenEnd, Seen}
-
-pub out_bytes : (bytes : List ℕ) → bytes_out (map Out bytes) ≡ bytes
-out_bytes [] = refl
-out_bytes (byte ∷ bytes) = ap (λ bs. byte ∷ bs) (out_bytes bytes)
-
-pub in_bytes : (bytes : List ℕ) → bytes_in (map Out bytes) ≡ []
-in_bytes [] = refl
-in_bytes (byte ∷ bytes) = in_bytes bytes
+use Rattle.hs_base.specs.TraceEquations.{out_bytes, in_bytes}
 
 -- a first part of the bytes was taken
 pub part : (next : Next) (taken put rest bytes : List ℕ) (taken' : Option (List ℕ)) → events_of next ≡ map Out bytes → put ++ rest ≡ bytes → taken' ≡ Some (taken ++ put) → PutsPart next taken taken'

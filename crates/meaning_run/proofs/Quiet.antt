@@ -1,6 +1,6 @@
 -- The blocks that are held behind a statement.
 use Rattle.std.proofs.Common.{◌≡◌, ℕ, zero, suc, Bool, true, false, List, [], ◌∷◌, ◌++◌, map, Option, Some, None, Result, Ok, Err, refl, sym, ap}
-use Rattle.hs_base.proofs.Placing.{blocks_append}
+use Rattle.hs_base.specs.PlaceEquations.{blocks_append}
 use Rattle.hs_base.specs.declared.values.Pointer.{Pointer}
 use Rattle.hs_base.specs.declared.values.Value.{Value}
 use Rattle.hs_base.specs.Access.{Refusal}

@@ -8,7 +8,7 @@ use Rattle.hs_base.specs.State.{State}
 use Rattle.hs_base.specs.Trace.{Event, Out, In, New, Gone, Enter, Leave, Ending, bytes_out, bytes_in, end_of}
 use Rattle.hs_base.specs.Trace as meant
 use Rattle.hs_base.specs.Runs as runs
-use Rattle.hs_base.proofs.Running.{after_zero, after_more, after_stays, one_end}
+use Rattle.hs_base.specs.RunsEquations.{after_zero, after_more, after_stays, one_end}
 use Rattle.core_tree.specs.declared.program.Core.{Core}
 use Rattle.core_tree.specs.Sound.{IsSound}
 use Rattle.object_meaning.specs.objects.Going.{Next}
@@ -20,25 +20,7 @@ use Rattle.meaning_run.specs.declared.halt.Halt.TheVariants as halt
 use Rattle.meaning_run.specs.Leading.{with_input, AsksByte, events_of, PutsPart, SeenEnd, Seen}
 use Rattle.meaning_run.proofs.Quiet.{held_append}
 use Rattle.meaning_run.specs.Meant.{end_in, StopsAtIn, Stopped, Whole, MeanAnswers, Begins, answer_of}
-
-pub out_append : (a b : List Event) → bytes_out (a ++ b) ≡ bytes_out a ++ bytes_out b
-out_append [] b = refl
-out_append (Out byte ∷ a) b = ap (λ bs. byte ∷ bs) (out_append a b)
-out_append (In byte ∷ a) b = out_append a b
-out_append (New birth size line ∷ a) b = out_append a b
-out_append (Gone birth ∷ a) b = out_append a b
-out_append (Enter cost line ∷ a) b = out_append a b
-out_append (Leave ∷ a) b = out_append a b
-
-pub in_append : (a b : List Event) → bytes_in (a ++ b) ≡ bytes_in a ++ bytes_in b
-in_append [] b = refl
-in_append (Out byte ∷ a) b = in_append a b
-in_append (In (Some byte) ∷ a) b = ap (λ bs. byte ∷ bs) (in_append a b)
-in_append (In None ∷ a) b = in_append a b
-in_append (New birth size line ∷ a) b = in_append a b
-in_append (Gone birth ∷ a) b = in_append a b
-in_append (Enter cost line ∷ a) b = in_append a b
-in_append (Leave ∷ a) b = in_append a b
+use Rattle.hs_base.specs.TraceEquations.{out_append, in_append}
 
 -- A trace is only added to
 

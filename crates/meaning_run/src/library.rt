@@ -228,7 +228,7 @@ impl Machine {
     }
 
     /// Writes bytes, and a register takes a value.
-    #[tactic(auto, using(crate::proofs::Bytes::out_bytes, crate::proofs::Bytes::in_bytes))]
+    #[tactic(auto, using(hs_base::specs::TraceEquations::out_bytes, hs_base::specs::TraceEquations::in_bytes))]
     pub(crate) fn put_bytes<O: Sink>(
         &mut self,
         out: &mut O,

@@ -8,6 +8,7 @@ pub mod Scoping
 pub mod Heap
 pub mod Strings
 pub mod Printing
+pub mod PrintingEquations
 pub mod Builtins
 pub mod Calls
 pub mod Meaning

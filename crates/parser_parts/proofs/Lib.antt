@@ -1,4 +1,3 @@
 pub mod Logs
-pub mod TokenWords
 pub mod Parts
 pub mod Consts

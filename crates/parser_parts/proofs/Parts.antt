@@ -1,5 +1,5 @@
 -- Parts behind parts: their trees and how deep they are.
-use Rattle.std.proofs.Common.{◌≡◌, ℕ, ◌+◌, List, [], ◌∷◌, ◌++◌, max, refl, ap, sym, ◌∙◌, arith}
+use Rattle.std.proofs.Common.{◌≡◌, ℕ, ◌+◌, List, [], ◌∷◌, max, refl, sym, ◌∙◌, arith}
 use Rattle.c_tree.specs.Tree.{Tree, Trees, Leaf, none, ◌▹◌}
 use Rattle.c_tree.specs.Depth.{depth, layers, layers_all, below, greatest_depth, greatest_below}
 use Rattle.c_tree.specs.Forms as f
@@ -8,16 +8,7 @@ use Rattle.std.specs.Prelude.{is_some}
 use Rattle.c_tree.specs.Tree.{At, Node}
 use Rattle.c_tree.specs.StatementView.{trees}
 use Rattle.c_tree.specs.View.{literal_leaves}
-use Rattle.c_tree.specs.Words as w
 use Rattle.grammar_reading.specs.Reading.{snoc}
-
-pub trees_behind : {A : Type 0} (view : A → Tree) (list : List A) (last : A) → trees view (list ++ last ∷ []) ≡ snoc (trees view list) (view last)
-trees_behind view [] last = refl
-trees_behind view (first ∷ list) last = ap (λ parts. view first ▹ parts) (trees_behind view list last)
-
-pub leaves_behind : (list : List (List ℕ)) (last : List ℕ) → literal_leaves (list ++ last ∷ []) ≡ snoc (literal_leaves list) (Leaf (w.Str last))
-leaves_behind [] last = refl
-leaves_behind (first ∷ list) last = ap (λ parts. Leaf (w.Str first) ▹ parts) (leaves_behind list last)
 
 pub depth_behind : (parts : Trees) (last : Tree) → greatest_depth (snoc parts last) ≡ max (greatest_depth parts) (depth last)
 unfolding greatest_depth

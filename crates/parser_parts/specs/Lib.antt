@@ -5,3 +5,5 @@ pub mod Signs
 pub mod Held
 pub mod Tallies
 pub mod Trees
+pub mod TreesEquations
+pub mod WordEquations

@@ -87,7 +87,7 @@ impl DeepSuffixes {
     }
 
     /// With one suffix more.
-    #[tactic(auto, using(crate::proofs::Parts::trees_behind, crate::proofs::Parts::layers_behind, crate::proofs::Parts::below_behind, crate::proofs::Parts::behind_some, crate::proofs::Parts::behind_none), unfolding(c_tree::specs::Depth::below, c_tree::specs::Depth::layers, c_tree::specs::Depth::layers_all, c_tree::specs::Depth::greatest_depth, c_tree::specs::Depth::greatest_below, c_tree::specs::Depth::is_of_declarator, c_tree::specs::Depth::layer, c_tree::specs::Scopes::name_of, c_tree::specs::Scopes::name_among, c_tree::specs::Scopes::leads_to_name, c_tree::specs::Scopes::params_of, c_tree::specs::Scopes::params_among))]
+    #[tactic(auto, using(crate::specs::TreesEquations::trees_behind, crate::proofs::Parts::layers_behind, crate::proofs::Parts::below_behind, crate::proofs::Parts::behind_some, crate::proofs::Parts::behind_none), unfolding(c_tree::specs::Depth::below, c_tree::specs::Depth::layers, c_tree::specs::Depth::layers_all, c_tree::specs::Depth::greatest_depth, c_tree::specs::Depth::greatest_below, c_tree::specs::Depth::is_of_declarator, c_tree::specs::Depth::layer, c_tree::specs::Scopes::name_of, c_tree::specs::Scopes::name_among, c_tree::specs::Scopes::leads_to_name, c_tree::specs::Scopes::params_of, c_tree::specs::Scopes::params_among))]
     pub fn with(self, suffix: DeepSuffix) -> Result<DeepSuffixes, NoMemory>
         requires { self.layers + 1 < 2 ^ 64 }
         ensures list { Adds suffixes_of result self (suffix_view suffix.tree) }
@@ -129,7 +129,7 @@ impl DeepDeclarators {
     }
 
     /// With one declarator more.
-    #[tactic(auto, using(crate::proofs::Parts::trees_behind, crate::proofs::Parts::depth_behind))]
+    #[tactic(auto, using(crate::specs::TreesEquations::trees_behind, crate::proofs::Parts::depth_behind))]
     pub fn with(self, next: DeepDeclarator) -> Result<DeepDeclarators, NoMemory>
         requires { next.layers + next.inside < 2 ^ 64 }
         ensures list { Adds declarators_of result self (declarator_tree next.entry.tree) }

@@ -26,7 +26,7 @@ impl DeepExprs {
     }
 
     /// With one more.
-    #[tactic(auto, using(crate::proofs::Parts::trees_behind, crate::proofs::Parts::depth_behind))]
+    #[tactic(auto, using(crate::specs::TreesEquations::trees_behind, crate::proofs::Parts::depth_behind))]
     pub fn with(self, next: DeepExpr) -> Result<DeepExprs, NoMemory>
         ensures list { Adds arguments_of result self (expr_view next.tree) }
         ensures depth { IfOk result (λ x. x.depth ≡ max self.depth next.depth) }
@@ -52,7 +52,7 @@ impl DeepMembers {
     }
 
     /// With one more.
-    #[tactic(auto, using(crate::proofs::Parts::trees_behind, crate::proofs::Parts::depth_behind))]
+    #[tactic(auto, using(crate::specs::TreesEquations::trees_behind, crate::proofs::Parts::depth_behind))]
     pub fn with(self, next: DeepMember) -> Result<DeepMembers, NoMemory>
         ensures list { Adds members_of result self (member_view next.tree) }
         ensures depth { IfOk result (λ x. x.depth ≡ max self.depth next.depth) }
@@ -78,7 +78,7 @@ impl DeepEnumerators {
     }
 
     /// With one more.
-    #[tactic(auto, using(crate::proofs::Parts::trees_behind, crate::proofs::Parts::depth_behind))]
+    #[tactic(auto, using(crate::specs::TreesEquations::trees_behind, crate::proofs::Parts::depth_behind))]
     pub fn with(self, next: DeepEnumerator) -> Result<DeepEnumerators, NoMemory>
         ensures list { Adds enumerators_of result self (enumerator_tree next.tree) }
         ensures depth { IfOk result (λ x. x.depth ≡ max self.depth next.depth) }
@@ -104,7 +104,7 @@ impl DeepParams {
     }
 
     /// With one more.
-    #[tactic(auto, using(crate::proofs::Parts::trees_behind, crate::proofs::Parts::depth_behind))]
+    #[tactic(auto, using(crate::specs::TreesEquations::trees_behind, crate::proofs::Parts::depth_behind))]
     pub fn with(self, next: DeepParam) -> Result<DeepParams, NoMemory>
         ensures list { Adds parameters_of result self (param_view next.tree) }
         ensures depth { IfOk result (λ x. x.depth ≡ max self.depth next.depth) }

@@ -290,7 +290,7 @@ impl<'a> Reader<'a> {
     }
 
     /// A name.
-    #[tactic(auto, using(crate::proofs::TokenWords::name_words))]
+    #[tactic(auto, using(crate::specs::WordEquations::name_words))]
     pub fn name(&mut self, alloc: Global) -> Result<Items<u8>, ReadError>
         ensures value { Reads name_leaf result self.new (spec.name_at self.old) }
         ensures spelling { IfOk result (λ name. name ≡ state.bytes_at self.old) }

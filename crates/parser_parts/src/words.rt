@@ -29,7 +29,7 @@ impl DeepWords {
     }
 
     /// With a keyword or a typedef name, which have no depth.
-    #[tactic(auto, using(crate::proofs::Parts::trees_behind, crate::proofs::Parts::depth_behind))]
+    #[tactic(auto, using(crate::specs::TreesEquations::trees_behind, crate::proofs::Parts::depth_behind))]
     fn with_flat(self, word: Spec) -> Result<DeepWords, NoMemory>
         requires { depth_of (spec_tree word) ≡ 0 }
         ensures list { Adds spec_words_of result self (spec_tree word) }
@@ -42,7 +42,7 @@ impl DeepWords {
     }
 
     /// With a tag.
-    #[tactic(auto, using(crate::proofs::Parts::trees_behind, crate::proofs::Parts::depth_behind))]
+    #[tactic(auto, using(crate::specs::TreesEquations::trees_behind, crate::proofs::Parts::depth_behind))]
     pub fn with_tag(self, tag: DeepTag) -> Result<DeepWords, NoMemory>
         ensures list { Adds spec_words_of result self (tag_view tag.tree) }
         ensures depth { IfOk result (λ x. x.depth ≡ max self.depth tag.depth) }

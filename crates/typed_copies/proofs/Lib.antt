@@ -5,6 +5,5 @@ pub mod Worded
 pub mod Following
 pub mod Overlaid
 pub mod Replaced
-pub mod Allowed
 mod Touched
 mod Outcomes

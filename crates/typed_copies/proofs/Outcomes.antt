@@ -12,11 +12,14 @@ use Rattle.typed_copies.specs.declared.slots.Within.{Within}
 use Rattle.typed_copies.specs.Slots.{AreWithin, Correspond}
 use Rattle.typed_copies.specs.Pointers.{ArePointers, Follow, HaveRoom, words_at, words_in}
 use Rattle.typed_copies.specs.Copying.{IsCleared, IsCopied}
-use Rattle.typed_copies.proofs.Overlaid.{moved_none, overlaid_none, part_len, word_moved, word_null}
+use Rattle.typed_copies.proofs.Overlaid.{moved_none, word_moved, word_null}
 use Rattle.typed_copies.proofs.Replaced.{follow_nulls, follow_replaced, replaced_now, room_replaced, words_replaced}
 use Rattle.typed_copies.proofs.Selecting.{first_is, many_within}
 use Rattle.typed_copies.proofs.Touched.{touches_alike}
-use Rattle.typed_copies.proofs.Worded.{word_in_at, words_in_len, words_len}
+use Rattle.typed_copies.specs.PointersEquations.{words_len}
+use Rattle.typed_copies.proofs.Worded.{word_in_at, words_in_len}
+use Rattle.hs_base.specs.AccessEquations.{overlaid_none}
+use Rattle.byte_memory.specs.BytesEquations.{part_len}
 
 -- Copies
 

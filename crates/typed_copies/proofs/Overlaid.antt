@@ -1,9 +1,10 @@
 -- A list with another in place of as many items.
 use Rattle.std.proofs.Common.{◌≡◌, ◌<◌, ◌≤◌, ◌+◌, ◌-◌, ℕ, suc, List, [], ◌∷◌, ◌++◌, length, length-append, length-take, length-drop, append_assoc, get_or, get_or-take, get_or-drop, take, drop, set, replicate, refl, sym, ap, ◌∙◌, arith}
-use Rattle.std.proofs.lemmas.List.{append-nil, drop_more, ext_get_or, get_or_append_left, get_or-append-add, get_or-replicate, length-replicate, length_push, replicate_more, set_at, take_more, take-append-drop}
+use Rattle.std.proofs.lemmas.List.{drop_more, ext_get_or, get_or-replicate, length-replicate, length_push, replicate_more, set_at, take_more}
 use Rattle.hs_base.specs.Access.{little_endian, overlaid}
 use Rattle.byte_memory.specs.Bytes.{part, put_word, word}
-use Rattle.byte_memory.proofs.Words.{stored_byte}
+use Rattle.byte_memory.specs.BytesEquations.{stored_byte, part_len, part_before_new}
+use Rattle.hs_base.specs.AccessEquations.{overlaid_len, at_before, at_inside, at_behind, overlaid_none}
 
 -- Parts
 
@@ -11,11 +12,6 @@ use Rattle.byte_memory.proofs.Words.{stored_byte}
 zeros : part (replicate 4 0) 0 4 ≡ replicate 4 0
 unfolding part
 zeros = refl
-
--- the length of a part
-pub part_len : (bytes : List ℕ) (addr n : ℕ) → addr + n ≤ length bytes → length (part bytes addr n) ≡ n
-unfolding part
-part_len bytes addr n inside = length-take n (drop addr bytes) ∙ omega (arith, length-drop addr bytes)
 
 -- a part of no bytes
 part_none : (bytes : List ℕ) (addr : ℕ) → part bytes addr 0 ≡ []
@@ -33,41 +29,6 @@ part_from : (bytes : List ℕ) (addr n : ℕ) → addr < length bytes → part b
 unfolding part
 part_from bytes addr n inside = ap (take (suc n)) (drop_more bytes addr 0 inside)
 
--- What stands in the list
-
-module _ {A : Type 0} (items : List A) (place : ℕ) (new : List A) (inside : place + length new ≤ length items) where
-  -- the length of what stands up to the end of the new items
-  front_len : length (take place items ++ new) ≡ place + length new
-  front_len = length-append (take place items) new ∙ omega (arith, length-take place items)
-
-  -- as many items as before
-  pub overlaid_len : length (overlaid items place new) ≡ length items
-  overlaid_len = length-append (take place items ++ new) (drop (place + length new) items) ∙ omega (arith, front_len, length-drop (place + length new) items)
-
-  -- an item before the new ones
-  pub at_before : (k : ℕ) (d : A) → k < place → get_or (overlaid items place new) k d ≡ get_or items k d
-  at_before k d less =
-      get_or_append_left (take place items ++ new) (drop (place + length new) items) d k (omega (arith, front_len))
-      ∙ get_or_append_left (take place items) new d k (omega (arith, length-take place items))
-      ∙ get_or-take place items k d less
-
-  -- one of the new ones
-  pub at_inside : (k : ℕ) (d : A) → k < length new → get_or (overlaid items place new) (place + k) d ≡ get_or new k d
-  at_inside k d less =
-      let at : place + k ≡ length (take place items) + k = omega (arith, length-take place items) in
-      get_or_append_left (take place items ++ new) (drop (place + length new) items) d (place + k) (omega (arith, front_len))
-      ∙ ap (λ i. get_or (take place items ++ new) i d) at ∙ get_or-append-add (take place items) new k d
-
-  -- an item behind them
-  pub at_behind : (k : ℕ) (d : A) → place + length new ≤ k → get_or (overlaid items place new) k d ≡ get_or items k d
-  at_behind k d more =
-      let at : k ≡ length (take place items ++ new) + (k - (place + length new)) = omega (arith, front_len) in
-      let back : place + length new + (k - (place + length new)) ≡ k = omega arith in
-      ap (λ i. get_or (overlaid items place new) i d) at ∙ get_or-append-add (take place items ++ new) (drop (place + length new) items) (k - (place + length new)) d
-      ∙ get_or-drop (place + length new) items (k - (place + length new)) d ∙ ap (λ i. get_or items i d) back
-
--- Parts and words of the bytes
-
 -- a byte of a part
 part_at : (bytes : List ℕ) (addr n k d : ℕ) → k < n → get_or (part bytes addr n) k d ≡ get_or bytes (addr + k) d
 unfolding part
@@ -82,11 +43,6 @@ same_part xs ys a b n inside inside' same =
     part_at xs a n k 0 less' ∙ same k less' ∙ sym (part_at ys b n k 0 less'))
 
 module _ (bytes : List ℕ) (place : ℕ) (new : List ℕ) (inside : place + length new ≤ length bytes) where
-  -- a part before the new bytes
-  pub part_before : (at n : ℕ) → at + n ≤ place → part (overlaid bytes place new) at n ≡ part bytes at n
-  part_before at n before =
-      same_part (overlaid bytes place new) bytes at at n (omega (arith, overlaid_len bytes place new inside)) (omega arith) (λ k less. at_before bytes place new inside (at + k) 0 (omega arith))
-
   -- a part behind them
   pub part_behind : (at n : ℕ) → place + length new ≤ at → at + n ≤ length bytes → part (overlaid bytes place new) at n ≡ part bytes at n
   part_behind at n behind ends =
@@ -102,7 +58,7 @@ module _ (bytes : List ℕ) (place : ℕ) (new : List ℕ) (inside : place + len
   -- a word before the new bytes
   pub word_before : (at n : ℕ) → at + n ≤ place → word (overlaid bytes place new) at n ≡ word bytes at n
   unfolding word
-  word_before at n before = ap little_endian (part_before at n before)
+  word_before at n before = ap little_endian (part_before_new bytes place new inside at n before)
 
   -- a word behind them
   pub word_behind : (at n : ℕ) → place + length new ≤ at → at + n ≤ length bytes → word (overlaid bytes place new) at n ≡ word bytes at n
@@ -141,12 +97,6 @@ word_null bytes to n j into ends =
     word_inside bytes to (replicate n 0) (omega arith) j 4 (omega arith) ∙ zero_word n j ends
 
 -- Another item
-
--- no new items
-pub overlaid_none : {A : Type 0} (items : List A) (place : ℕ) → overlaid items place [] ≡ items
-overlaid_none items place =
-    let at : place + 0 ≡ place = omega arith in
-    ap (λ l. l ++ drop (place + 0) items) (append-nil (take place items)) ∙ ap (λ i. take place items ++ drop i items) at ∙ take-append-drop place items
 
 -- one more behind the new ones
 overlaid_more : (items : List ℕ) (place : ℕ) (new : List ℕ) (x : ℕ) → place + length new < length items → set (overlaid items place new) (place + length new) x ≡ overlaid items place (new ++ x ∷ [])

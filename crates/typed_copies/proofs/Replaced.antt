@@ -12,8 +12,9 @@ use Rattle.typed_copies.specs.declared.slots.Within.{Within}
 use Rattle.typed_copies.specs.Slots.{AreWithin}
 use Rattle.typed_copies.specs.Pointers.{Cover, Follow, HaveRoom, words_at}
 use Rattle.typed_copies.proofs.Following.{is_address, one_if, points_into}
-use Rattle.typed_copies.proofs.Overlaid.{at_before, at_behind, at_inside, overlaid_len, word_before, word_behind}
-use Rattle.typed_copies.proofs.Worded.{word_at, words_len}
+use Rattle.typed_copies.proofs.Overlaid.{word_before, word_behind}
+use Rattle.typed_copies.specs.PointersEquations.{word_at, words_len}
+use Rattle.hs_base.specs.AccessEquations.{at_before, at_behind, at_inside, overlaid_len}
 
 -- Words
 

@@ -60,7 +60,7 @@ expression::operation-returns-in_err-whole-2-clause-value t c =
 
 pub declarator::function-returns : goal.declarator::function-returns
 declarator::function-returns t c =
-    function_ends c.args.room c.args.reader.now c.open_function.new.reader c.leave_params.new.self (suffix_view c.in_ok-suffix.suffix.tree) c.enter-outer.result.count c.enter-outer.result.typedef
+    function_ends c.trees_are_read.ensures c.args.room c.args.reader.now c.open_function.new.reader c.leave_params.new.self (suffix_view c.in_ok-suffix.suffix.tree) c.enter-outer.result.count c.enter-outer.result.typedef
     c.enter-outer.ensures.count c.enter-outer.ensures.typedef c.in_ok-suffix.ensures c.in_ok-leave_params.ensures
 
 pub specifiers::specs_by-words-init : goal.specifiers::specs_by-words-init

@@ -24,7 +24,7 @@ use Rattle.grammar_reading.specs.State.{State, kind_at, line_at, left_at, skip, 
 use Rattle.grammar_reading.specs.Reading.{◌>>=◌, Reader, fixed, snoc, joined}
 use Rattle.grammar_reading.specs.Declarators as d
 use Rattle.grammar_reading.proofs.sound.Words.{Has, word_of_is, at_key_first, at_mark_first}
-use Rattle.grammar_reading.proofs.sound.Options.{some_same}
+use Rattle.grammar_reading.specs.ReadingEquations.{some_same}
 use Rattle.grammar_reading.proofs.sound.Took.{Sound, all_sound}
 use Rattle.grammar_reading.proofs.sound.Declarators.{array_took, function_took}
 use Rattle.grammar_reading.proofs.complete.Reads.{Follow, AllAgain, all_complete, Reads, fixed_again, said_kind, said_first, is_line, after_declarator}

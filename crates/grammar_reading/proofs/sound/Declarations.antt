@@ -17,7 +17,8 @@ use Rattle.grammar_reading.specs.State.{State, left_at, at_name, at_mark, skip, 
 use Rattle.grammar_reading.specs.Reading.{Reader, fixed, optional_part, parts_of, in_front, guarded, goes_on, goes_on_inside, commas_from, list_from}
 use Rattle.grammar_reading.specs.Expressions as e
 use Rattle.grammar_reading.specs.Declarators as d
-use Rattle.grammar_reading.proofs.sound.Options.{none_some, some_same, bind_some, either}
+use Rattle.grammar_reading.specs.ReadingEquations.{none_some, some_same, bind_some}
+use Rattle.grammar_reading.proofs.sound.Options.{either}
 use Rattle.grammar_reading.proofs.sound.Took.{Took, PartsTook, Sound, AllSound, all_sound, parts_took, Opens, Also, KeepsParams, has_specs, has_words, heres, took_both, took_one, took_none}
 use Rattle.grammar_reading.proofs.sound.Nodes.{is_plain, took_node, node_some, depth_flat, made, behind_after}
 use Rattle.grammar_reading.proofs.sound.Lists.{CommasTook, commas_took, list_took, light_commas, took_light, rows_specs}

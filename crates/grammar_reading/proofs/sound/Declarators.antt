@@ -24,7 +24,8 @@ use Rattle.grammar_reading.specs.Known.{word_of}
 use Rattle.grammar_reading.specs.State.{State, keyword_number, sign_number, first_kind, kind_is_key, kind_is_mark, kind_of_word, behind_first, kind_at, line_at, word_at, bytes_at, left_at, at_mark, at_key, past, skip, with_new_params, with_params_of, new_names}
 use Rattle.grammar_reading.specs.Reading.{◌>>=◌, Reader, fixed, snoc, parts_of, leaf, in_front}
 use Rattle.grammar_reading.specs.Declarators as d
-use Rattle.grammar_reading.proofs.sound.Options.{none_some, some_same, bind_some, either, if_some}
+use Rattle.grammar_reading.specs.ReadingEquations.{none_some, some_same, bind_some}
+use Rattle.grammar_reading.proofs.sound.Options.{either, if_some}
 use Rattle.grammar_reading.proofs.sound.Words.{past_some}
 use Rattle.grammar_reading.proofs.sound.Kinds.{tells}
 use Rattle.grammar_reading.proofs.sound.Back.{word_back, SpellsWords, spells_words, words_both}

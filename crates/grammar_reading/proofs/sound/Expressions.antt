@@ -24,7 +24,8 @@ use Rattle.grammar_reading.specs.declared.kind.Kind.TheVariants as kinds
 use Rattle.grammar_reading.specs.State.{State, kind_at, line_at, word_at, bytes_at, left_at, at_mark, at_key, skip, opens_type}
 use Rattle.grammar_reading.specs.Reading.{Reader, guarded, fixed, snoc, parts_of, grown}
 use Rattle.grammar_reading.specs.Expressions as e
-use Rattle.grammar_reading.proofs.sound.Options.{none_some, some_same, bind_some, either, if_some}
+use Rattle.grammar_reading.specs.ReadingEquations.{none_some, some_same, bind_some}
+use Rattle.grammar_reading.proofs.sound.Options.{either, if_some}
 use Rattle.grammar_reading.proofs.sound.Words.{Has}
 use Rattle.grammar_reading.proofs.sound.Kinds.{tells}
 use Rattle.grammar_reading.proofs.sound.Took.{Took, PartsTook, Sound, all_sound, Also, took_both, took_one, took_line, took_none}

@@ -20,7 +20,8 @@ use Rattle.grammar_reading.specs.State.{State, line_at, left_at, at_mark, past, 
 use Rattle.grammar_reading.specs.Reading.{◌>>=◌, Reader, fixed, parts_of, goes_on, commas_by, commas_from}
 use Rattle.grammar_reading.specs.Declarators as d
 use Rattle.grammar_reading.specs.Statements as t
-use Rattle.grammar_reading.proofs.sound.Options.{some_same, bind_some, either}
+use Rattle.grammar_reading.specs.ReadingEquations.{some_same, bind_some}
+use Rattle.grammar_reading.proofs.sound.Options.{either}
 use Rattle.grammar_reading.proofs.sound.Took.{Took, Sound, all_sound, parts_took, Also, AreParams, KeepsParams, took_both, took_one, took_line, took_word, filled_both}
 use Rattle.grammar_reading.proofs.sound.Nodes.{node_some, depth_flat, made}
 use Rattle.grammar_reading.proofs.sound.Lists.{commas_by_took}

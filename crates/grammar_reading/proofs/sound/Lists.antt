@@ -12,7 +12,7 @@ use Rattle.c_tree.specs.Tree.{Tree, Trees, Node, none, ◌▹◌, count}
 use Rattle.c_tree.specs.Grammar.{Item, Part, mark, rows, behind_commas, commas, shape}
 use Rattle.grammar_reading.specs.State.{State, past, skip, at_mark}
 use Rattle.grammar_reading.specs.Reading.{Reader, joined, snoc, commas_by, commas_from, list_by, list_from}
-use Rattle.grammar_reading.proofs.sound.Options.{none_some, some_same, bind_some}
+use Rattle.grammar_reading.specs.ReadingEquations.{none_some, some_same, bind_some}
 use Rattle.grammar_reading.proofs.sound.Took.{Took, PartsTook, Sound, Opens, Also, has_words, has_specs, is_specs, took_both, took_one, took_word}
 use Rattle.grammar_reading.proofs.sound.Nodes.{is_plain, took_node}
 

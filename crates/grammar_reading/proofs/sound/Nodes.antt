@@ -14,7 +14,8 @@ use Rattle.c_tree.specs.Depth.{depth, greatest_depth, layers, layers_all, layer,
 use Rattle.grammar_reading.specs.State.{State, word_at, line_at, skip, back_to}
 use Rattle.grammar_reading.specs.Reading.{Reader, parts_of, node, fixed, in_front, grown}
 use Rattle.grammar_reading.specs.Laws.{behind}
-use Rattle.grammar_reading.proofs.sound.Options.{none_some, some_same, if_some}
+use Rattle.grammar_reading.specs.ReadingEquations.{none_some, some_same}
+use Rattle.grammar_reading.proofs.sound.Options.{if_some}
 use Rattle.grammar_reading.proofs.sound.Words.{Has, takes_first}
 use Rattle.grammar_reading.proofs.sound.Took.{Took, PartsTook, Sound, AllSound, Opens, Also, has_specs, has_words, opens, heres, open_has, parts_took, took_both, took_one, took_line}
 

@@ -5,7 +5,7 @@ use Rattle.c_tree.specs.Places as p
 use Rattle.grammar_reading.specs.Reading.{Reader}
 use Rattle.grammar_reading.specs.Rooms.{read_at, less}
 use Rattle.grammar_reading.specs.Laws.{TreesAreRead}
-use Rattle.grammar_reading.proofs.sound.Options.{none_some}
+use Rattle.grammar_reading.specs.ReadingEquations.{none_some}
 use Rattle.grammar_reading.proofs.sound.Took.{Sound}
 use Rattle.grammar_reading.proofs.sound.Expressions.{name_took}
 use Rattle.grammar_reading.proofs.sound.Specs.{specs_took}

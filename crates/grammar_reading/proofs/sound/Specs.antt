@@ -23,7 +23,8 @@ use Rattle.grammar_reading.specs.declared.kind.SpecStart.TheVariants as starts
 use Rattle.grammar_reading.specs.State.{State, kind_at, line_at, word_at, bytes_at, left_at, at_mark, skip, with_flag}
 use Rattle.grammar_reading.specs.Reading.{Reader, fixed, joined, snoc, parts_of, nothing_read, ending_by, ending}
 use Rattle.grammar_reading.specs.Declarators as d
-use Rattle.grammar_reading.proofs.sound.Options.{none_some, some_same, bind_some, either, if_some}
+use Rattle.grammar_reading.specs.ReadingEquations.{none_some, some_same, bind_some}
+use Rattle.grammar_reading.proofs.sound.Options.{either, if_some}
 use Rattle.grammar_reading.proofs.sound.Words.{Has}
 use Rattle.grammar_reading.proofs.sound.Kinds.{tells}
 use Rattle.grammar_reading.proofs.sound.Took.{Took, PartsTook, Sound, all_sound, parts_took, Also, has_specs, took_both, took_one, took_line}

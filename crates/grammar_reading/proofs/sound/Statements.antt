@@ -20,7 +20,8 @@ use Rattle.grammar_reading.specs.declared.kind.Kind.TheVariants as kinds
 use Rattle.grammar_reading.specs.State.{State, line_at, kind_at, left_at, at_mark, at_key, past, starts_type, back_to, with_flag}
 use Rattle.grammar_reading.specs.Reading.{Reader, fixed, parts_of, in_front, joined, guarded, scoped, unflagged}
 use Rattle.grammar_reading.specs.Statements as t
-use Rattle.grammar_reading.proofs.sound.Options.{none_some, some_same, bind_some, either}
+use Rattle.grammar_reading.specs.ReadingEquations.{none_some, some_same, bind_some}
+use Rattle.grammar_reading.proofs.sound.Options.{either}
 use Rattle.grammar_reading.proofs.sound.Took.{Took, PartsTook, Sound, all_sound, parts_took, Also, has_specs, has_words, heres, took_both, took_none}
 use Rattle.grammar_reading.proofs.sound.Nodes.{is_plain, is_closed, plain, took_node, took_closed, node_some, front_some, depth_flat, made, behind_after}
 use Rattle.grammar_reading.proofs.sound.Lists.{list_took, took_light, rows_specs}

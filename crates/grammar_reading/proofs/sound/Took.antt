@@ -18,7 +18,7 @@ use Rattle.grammar_reading.proofs.Spelled.{spells_both}
 use Rattle.grammar_reading.specs.State.{State, past, line_at, word_at, skip, at_key, at_mark}
 use Rattle.grammar_reading.specs.Reading.{Reader, parts_of, in_front, joined}
 use Rattle.grammar_reading.specs.Laws.{behind}
-use Rattle.grammar_reading.proofs.sound.Options.{none_some, some_same, bind_some}
+use Rattle.grammar_reading.specs.ReadingEquations.{none_some, some_same, bind_some}
 use Rattle.grammar_reading.proofs.sound.Words.{Has, takes_first, takes_line, past_some}
 
 -- specs alone say whether names are typedef names

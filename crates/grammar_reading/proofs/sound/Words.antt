@@ -14,7 +14,8 @@ use Rattle.c_tree.specs.Words.{Word, Key, Mark, Name, Int, Char, Str, Other, wor
 use Rattle.c_tree.specs.Spelling.{IsWord, Said, Line, Spells}
 use Rattle.grammar_reading.specs.Known.{keywords, signs, keyword_among, sign_among, word_by, word_of}
 use Rattle.grammar_reading.specs.State.{State, first_word, first_kind, first_line, behind_first, kind_of_word, keyword_number, sign_number, kind_is_key, kind_is_mark, at_word, past, word_at, skip}
-use Rattle.grammar_reading.proofs.sound.Options.{some_same, if_some}
+use Rattle.grammar_reading.specs.ReadingEquations.{some_same}
+use Rattle.grammar_reading.proofs.sound.Options.{if_some}
 
 -- a word is one of a kind with a spelling
 abbrev Is : TokenKind → List ℕ → Word → Type 0

@@ -7,7 +7,7 @@ use Rattle.hs_base.specs.State.{Frame, State}
 use Rattle.hs_base.specs.Trace.{Event, Ending, Enter}
 use Rattle.hs_base.specs.Runs as runs
 use Rattle.hs_base.specs.Place.{has_place}
-use Rattle.hs_base.proofs.Running.{after_zero, after_stays}
+use Rattle.hs_base.specs.RunsEquations.{after_zero, after_stays}
 use Rattle.core_tree.specs.declared.program.Core.{Core}
 use Rattle.core_tree.specs.Sound.{IsSound, main_of}
 use Rattle.flat_code.specs.declared.program.Code.{Code}

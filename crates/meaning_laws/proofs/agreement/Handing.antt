@@ -10,7 +10,7 @@ use Rattle.hs_base.specs.State.{Frame, State}
 use Rattle.hs_base.specs.Trace.{Event, Ending}
 use Rattle.hs_base.specs.Runs as runs
 use Rattle.hs_base.specs.Place.{has_place}
-use Rattle.hs_base.proofs.Running.{after_zero}
+use Rattle.hs_base.specs.RunsEquations.{after_zero}
 use Rattle.core_tree.specs.declared.statements.Atom.{Atom}
 use Rattle.core_tree.specs.declared.statements.Atom.TheVariants as atom
 use Rattle.core_tree.specs.Sound.{IsNumber}

@@ -9,7 +9,7 @@ use Rattle.hs_base.specs.State.{State, Frame}
 use Rattle.hs_base.specs.Trace.{Event, Ending}
 use Rattle.hs_base.specs.Runs as runs
 use Rattle.hs_base.specs.Place.{has_place}
-use Rattle.hs_base.proofs.Running.{after_more}
+use Rattle.hs_base.specs.RunsEquations.{after_more}
 use Rattle.core_tree.specs.declared.program.Core.{Core}
 use Rattle.core_tree.specs.declared.program.Func.{Func}
 use Rattle.core_tree.specs.declared.statements.Atom.{Atom}

@@ -3,7 +3,7 @@ use Rattle.std.proofs.Common.{◌≡◌, ℕ, zero, suc, ◌+◌, ◌<◌, ◌�
 use Rattle.hs_base.specs.State.{State}
 use Rattle.hs_base.specs.Trace.{Event, Ending}
 use Rattle.hs_base.specs.Runs.{Next, Goes, Stops, Ran, led, moved, after, tested}
-use Rattle.hs_base.proofs.Running.{after_zero, after_stays}
+use Rattle.hs_base.specs.RunsEquations.{after_zero, after_stays}
 use Rattle.core_tree.specs.declared.program.Core.{Core}
 use Rattle.core_tree.specs.Sound.{IsSound}
 use Rattle.object_meaning.specs.objects.Going as going

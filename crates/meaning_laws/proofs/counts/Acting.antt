@@ -43,7 +43,7 @@ use Rattle.object_meaning.specs.counted.CountedMeaning.{behind_lib}
 use Rattle.meaning_laws.specs.counted.Counts.{AreCounts}
 use Rattle.meaning_laws.proofs.counts.Pins.{HasSorts}
 use Rattle.meaning_laws.proofs.counts.Sorting.{FitsIn, InOrder, gives_pointer, gives_pointer_result, plain_fits, value_fits}
-use Rattle.meaning_laws.proofs.counts.Touched.{OnDone, any_done, then_done, IsPlain, Any, any_said, truth_plain, on_two_plain, difference_plain, compared_plain, loaded_plain, stored_same, Changes, stored_pointer_changes, copied_changes, set_changes}
+use Rattle.meaning_laws.specs.counted.TouchedEquations.{OnDone, any_done, then_done, IsPlain, Any, any_said, truth_plain, on_two_plain, difference_plain, compared_plain, loaded_plain, stored_same, Changes, stored_pointer_changes, copied_changes, set_changes}
 use Rattle.meaning_laws.proofs.counts.Agreeing.{Agrees, Alters, alters_agree, Plain, write_order, on_order, write_plain, answers_plain, changes_plain, renumbered_counts, changes_alter, step_plain, branch_plain, made_plain}
 use Rattle.meaning_laws.proofs.counts.Freed.{leave_agrees, free_agrees, grow_agrees}
 use Rattle.meaning_laws.proofs.counts.Calling.{call_agrees, return_agrees}

@@ -21,9 +21,9 @@ use Rattle.object_meaning.specs.counted.Pinning.{Pins}
 use Rattle.object_meaning.specs.counted.CountedState.{CountedState, Next, kept, numbered}
 use Rattle.object_meaning.specs.counted.Counting.{renumbered}
 use Rattle.meaning_laws.specs.counted.Counts.{living, inside_living, AreCounts}
-use Rattle.meaning_laws.proofs.counts.Objects.{Renumbers, append_living, no_pointers}
+use Rattle.meaning_laws.specs.counted.CountsEquations.{Renumbers, append_living, no_pointers}
 use Rattle.meaning_laws.proofs.counts.Sorting.{FitsIn, InOrder, at_order, with_order}
-use Rattle.meaning_laws.proofs.counts.Touched.{OnDone, SamePointers, Changes}
+use Rattle.meaning_laws.specs.counted.TouchedEquations.{OnDone, SamePointers, Changes}
 
 -- a state with numbers is that state, and its numbers count
 pub record Counted (pins : Pins) (s : State) (c : CountedState) : Type 0 where

@@ -37,7 +37,7 @@ use Rattle.meaning_laws.specs.counted.Counts.{AreCounts}
 use Rattle.meaning_laws.proofs.counts.Weighing.{Once}
 use Rattle.meaning_laws.proofs.counts.Objects.{queued_same}
 use Rattle.meaning_laws.proofs.counts.Sorting.{FitsIn, InOrder, at_order, with_order}
-use Rattle.meaning_laws.proofs.counts.Touched.{OnDone, Changes, copied_changes}
+use Rattle.meaning_laws.specs.counted.TouchedEquations.{OnDone, Changes, copied_changes}
 use Rattle.meaning_laws.proofs.counts.Agreeing.{Agrees, alters_agree, on_order, renumbered_counts, new_living, none_plain, made_plain}
 use Rattle.meaning_laws.proofs.counts.Checks.{checked_agrees}
 

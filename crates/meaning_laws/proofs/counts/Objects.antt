@@ -1,13 +1,12 @@
 -- Pointers inside objects: how many there are once some objects change or die, and how many holders that is.
-use Rattle.std.proofs.Common.{◌≡◌, ℕ, zero, suc, ◌+◌, Bool, true, false, cond, ◌||◌, nat_eq, List, [], ◌∷◌, ◌++◌, length, map, get_or, refl, sym, ap, ◌∙◌, subst, arith}
-use Rattle.std.specs.Prelude.{filter, replicate}
+use Rattle.std.proofs.Common.{◌≡◌, ℕ, ◌+◌, Bool, true, false, cond, ◌||◌, nat_eq, List, [], ◌∷◌, ◌++◌, length, map, get_or, refl, sym, ap, ◌∙◌, subst, arith}
+use Rattle.std.specs.Prelude.{filter}
 use Rattle.std.specs.List.{sum_by, enumerate_from}
 use Rattle.std.proofs.lemmas.Bool.{eq-eqb, true≢false, or_left, or_right}
-use Rattle.std.proofs.lemmas.List.{get_or-set_same, get_or-set_other, length-map}
-use Rattle.std.proofs.lemmas.List.Sums.{sum_by-cons, sum_by-set, sum_by-append}
+use Rattle.std.proofs.lemmas.List.{get_or-set_other, length-map}
+use Rattle.std.proofs.lemmas.List.Sums.{sum_by-cons}
 use Rattle.hs_base.specs.declared.ends.Holder.{Holder}
 use Rattle.hs_base.specs.declared.values.Pointer.{Pointer}
-use Rattle.hs_base.specs.declared.values.Pointer.TheVariants as pointer
 use Rattle.hs_base.specs.Access.{with_object}
 use Rattle.hs_base.specs.Freeing.{is_pointer_to, pointers_to, pointers_inside, objects_of, queued, buried, buried_standing, ended}
 use Rattle.hs_base.specs.Object.{Object, Standing, Live, Queued, Dead, is_dead, is_queued, no_object, object_at}
@@ -15,54 +14,19 @@ use Rattle.core_tree.specs.declared.program.Mem.{Mem}
 use Rattle.object_meaning.specs.objects.Making.{local_object, local_objects}
 use Rattle.object_meaning.specs.objects.Holding.{is_among, inside_one, counted_inside, inside_objects}
 use Rattle.meaning_laws.specs.objects.Good.{Alive, Sane}
-use Rattle.meaning_laws.proofs.dangling.Alive.{is_within}
 use Rattle.meaning_laws.specs.counted.Counts.{living, inside_living}
 use Rattle.meaning_laws.proofs.counts.Weighing.{Once, weigh, weigh_same, weigh_both, sum_weigh, filter_weigh, flat_weigh, sum_among}
+use Rattle.meaning_laws.specs.counted.CountsEquations.{set_living, set_same, no_pointers, append_living}
 
 -- One object changes
 
-living_is : (x : ℕ) (o : Object) → is_dead o.standing ≡ false → living x o ≡ pointers_to x o.pointers
-living_is x o alive = ap (λ b. cond b 0 (pointers_to x o.pointers)) alive
-
 dead_is : (x : ℕ) (o : Object) → is_dead o.standing ≡ true → living x o ≡ 0
 dead_is x o dead = ap (λ b. cond b 0 (pointers_to x o.pointers)) dead
-
-module _ (objects : List Object) (b : ℕ) (o : Object) (alive : Alive objects b) where
-  set_living : (x : ℕ) → inside_living x (with_object objects b o) + pointers_to x (object_at objects b).pointers ≡ inside_living x objects + living x o
-  set_living x =
-      omega (arith, sum_by-set (living x) objects b o no_object (is_within objects b alive), living_is x (object_at objects b) alive)
-
--- an object alone has other pointers: those that it has come, and those that it had go
-pub record Renumbers (objects new : List Object) (b : ℕ) : Type 0 where
-  pub number : (x : ℕ) → inside_living x new + pointers_to x (object_at objects b).pointers ≡ inside_living x objects + pointers_to x (object_at new b).pointers
-
-pub same_renumbers : (objects : List Object) (b : ℕ) → Renumbers objects objects b
-same_renumbers objects b = record { number = λ x. refl }
-
-pub set_renumbers : (objects : List Object) (b : ℕ) (o : Object) → Alive objects b → is_dead o.standing ≡ false → Renumbers objects (with_object objects b o) b
-set_renumbers objects b o alive still = record {
-  number = λ x.
-      let there : object_at (with_object objects b o) b ≡ o = get_or-set_same objects b o no_object (is_within objects b alive) in
-      omega (arith, set_living objects b o alive x, living_is x o still, ap (λ (p : Object). pointers_to x p.pointers) there);
-}
-
--- an object has the same pointers
-pub set_same : (objects : List Object) (b : ℕ) (o : Object) → Alive objects b → is_dead o.standing ≡ false → o.pointers ≡ (object_at objects b).pointers → (x : ℕ) → inside_living x (with_object objects b o) ≡ inside_living x objects
-set_same objects b o alive still same x =
-    omega (arith, set_living objects b o alive x, living_is x o still, ap (pointers_to x) same)
 
 pub queued_same : (objects : List Object) (b line x : ℕ) → Alive objects b → inside_living x (queued objects b line) ≡ inside_living x objects
 queued_same objects b line x alive = set_same objects b (record (object_at objects b) { standing = Queued line }) alive refl refl x
 
 -- New objects
-
-pub no_pointers : (x n : ℕ) → pointers_to x (replicate n pointer.Null) ≡ 0
-no_pointers x zero = refl
-no_pointers x (suc n) =
-    omega (arith, sum_by-cons (λ p. cond (is_pointer_to x p) 1 0) pointer.Null (replicate n pointer.Null), no_pointers x n)
-
-pub append_living : (objects more : List Object) (x : ℕ) → inside_living x (objects ++ more) ≡ inside_living x objects + inside_living x more
-append_living objects more x = sum_by-append (living x) objects more
 
 no_locals : (x f : ℕ) (mems : List (ℕ × Mem)) → inside_living x (map (local_object f) mems) ≡ 0
 no_locals x f [] = refl

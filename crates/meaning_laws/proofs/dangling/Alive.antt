@@ -2,7 +2,7 @@
 use Rattle.meaning_laws.specs.objects.Good.{Alive, IsFresh, AreFresh, Sane}
 use Rattle.std.proofs.Common.{◌≡◌, ℕ, zero, suc, ◌+◌, ◌-◌, ◌<◌, ◌≤◌, true, false, nat_eq, List, [], ◌∷◌, ◌++◌, length, get_or, set, refl, sym, ap, ◌∙◌, subst, arith, ⊎_elim, ◌⊎◌, inl, inr}
 use Rattle.std.specs.Prelude.{replicate}
-use Rattle.std.proofs.lemmas.Bool.{false≢true, true≢false, cases_lt, cases_eq, or_cases, or_left, or_right, eqb-true, eq-eqb}
+use Rattle.std.proofs.lemmas.Bool.{false≢true, cases_lt, cases_eq, or_cases, or_left, or_right, eqb-true, eq-eqb}
 use Rattle.std.proofs.lemmas.List.{get_or_past, get_or-set_same, get_or-set_other, get_or_append_left, get_or-append-add, length-set, length-append}
 use Rattle.hs_base.specs.declared.values.Pointer.{Pointer}
 use Rattle.hs_base.specs.declared.values.Pointer.TheVariants as pointer
@@ -11,6 +11,7 @@ use Rattle.hs_base.specs.Freeing.{is_heap, queued}
 use Rattle.hs_base.specs.Object.{Object, Queued, is_dead, is_queued, no_object, object_at}
 use Rattle.object_meaning.specs.objects.Values.{is_stale}
 use Rattle.object_meaning.specs.objects.Holding.{is_among}
+use Rattle.meaning_laws.specs.objects.GoodEquations.{is_within}
 
 -- each object that was alive still is, and is on the heap or not as before
 pub record Grows (old new : List Object) : Type 0 where
@@ -34,13 +35,6 @@ grows_both one two three g h = record {
   sort = λ b a. h.sort b (g.alive b a) ∙ g.sort b a;
   longer = omega (arith, g.longer, h.longer);
 }
-
-pub is_within : (objects : List Object) (b : ℕ) → Alive objects b → b < length objects
-is_within objects b h =
-    ⊎_elim
-    (λ lt. lt)
-    (λ le. absurd (true≢false (ap (λ (o : Object). is_dead o.standing) (sym (get_or_past objects b no_object le)) ∙ h)))
-    (cases_lt b (length objects))
 
 -- An object in place of another
 

@@ -21,7 +21,7 @@ use Rattle.core_tree.specs.Statements.{written}
 use Rattle.object_meaning.specs.objects.Values.{number, pointer_in}
 use Rattle.object_meaning.specs.objects.Holding.{is_among, inside_one, counted_inside, inside_objects, statement_in, statement_at, answer_register, takes_answer, is_live_in, is_live_at, in_registers, in_running, in_waiting, is_some_held}
 use Rattle.meaning_laws.specs.objects.Good.{Alive}
-use Rattle.meaning_laws.proofs.dangling.Alive.{is_within}
+use Rattle.meaning_laws.specs.objects.GoodEquations.{is_within}
 use Rattle.meaning_laws.specs.objects.Dangling.{register}
 
 abbrev pub NoHolder : List Holder → Type 0

@@ -1,5 +1,5 @@
 -- What is handed over before each instruction of compiled code.
-use Rattle.std.proofs.Common.{◌≡◌, ℕ, zero, suc, ◌+◌, ◌-◌, ◌<◌, ◌≤◌, true, false, List, [], ◌∷◌, ◌++◌, length, map, take, Option, Some, refl, sym, ◌∙◌, ap, subst, arith, add-one, add-zero}
+use Rattle.std.proofs.Common.{◌≡◌, ℕ, zero, suc, ◌+◌, ◌-◌, ◌<◌, ◌≤◌, false, List, [], ◌∷◌, ◌++◌, length, map, take, Option, Some, refl, sym, ◌∙◌, ap, subst, arith, add-one, add-zero}
 use Rattle.std.specs.Prelude.{slice_get}
 use Rattle.std.proofs.lemmas.List.{take_more, take_all, map_push}
 use Rattle.std.proofs.lemmas.Option.{slice_get_within, get_or_from_slice_get}
@@ -22,9 +22,7 @@ use Rattle.meaning_laws.proofs.form.Doing.{as_doing, does_not_hand}
 use Rattle.meaning_laws.proofs.form.Places.{place, place_more, place_all}
 use Rattle.meaning_laws.proofs.form.Sorts.{hands_over, handed_is}
 use Rattle.meaning_laws.proofs.dangling.Acting.{found as element}
-
-pub one_more_handed : (code : Code) (entry : Entry) (n : ℕ) (i : Instr) → slice_get code.instrs n ≡ Some i → hands i.op ≡ true → handed_before code entry (n + 1) ≡ handed_before code entry n ++ handed_sort code entry i i.op ∷ []
-one_more_handed code entry n i h t = rw (add-one, h, with_handed, t) refl
+use Rattle.flat_code.specs.WellFormedEquations.{one_more_handed}
 
 pub none_handed : (code : Code) (entry : Entry) (n : ℕ) (i : Instr) → slice_get code.instrs n ≡ Some i → hands i.op ≡ false → handed_before code entry (n + 1) ≡ []
 none_handed code entry n i h t = rw (add-one, h, with_handed, t) refl

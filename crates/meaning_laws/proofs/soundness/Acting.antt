@@ -5,7 +5,7 @@ use Rattle.hs_base.specs.declared.values.Value.{Value}
 use Rattle.hs_base.specs.declared.ends.IntKind.TheVariants.{I32}
 use Rattle.hs_base.specs.Access.{Refusal}
 use Rattle.hs_base.specs.State.{State}
-use Rattle.hs_base.proofs.Wrapping.{low_bits_lt}
+use Rattle.hs_base.specs.NumbersEquations.{low_bits_lt}
 use Rattle.hs_base.specs.Numbers.{wrapped}
 use Rattle.c_print.specs.Pieces.{pieces_of}
 use Rattle.core_tree.specs.declared.statements.LibName.{LibName}
@@ -28,7 +28,7 @@ use Rattle.object_meaning.specs.counted.Counting.{birth_in}
 use Rattle.object_meaning.specs.code.CodeState.{CodeState, kept, same_numbers, other_numbers}
 use Rattle.object_meaning.specs.code.Entering.{layout_in}
 use Rattle.object_meaning.specs.code.CodeMeaning.{act, behind_lib}
-use Rattle.meaning_laws.proofs.counts.Touched.{stored_same, stored_pointer_changes, copied_changes, set_changes}
+use Rattle.meaning_laws.specs.counted.TouchedEquations.{stored_same, stored_pointer_changes, copied_changes, set_changes}
 use Rattle.meaning_laws.specs.code.Objects.{IsOfSort, IsPointer, IsOperand, AreOperands}
 use Rattle.meaning_laws.specs.code.Good.{IsGood}
 use Rattle.meaning_laws.specs.code.Laws.{StaysGood}

@@ -15,8 +15,8 @@ use Rattle.object_meaning.specs.code.CodeMeaning.{main_in, handed_value}
 use Rattle.meaning_laws.specs.code.Objects.{IsOperand, AreOperands}
 use Rattle.meaning_laws.specs.code.Good.{AreWaiting, IsGood}
 use Rattle.meaning_laws.specs.code.Laws.{HasOperands, GivesInteger}
-use Rattle.meaning_laws.proofs.soundness.Ready.{Ready, ready_at}
 use Rattle.meaning_laws.proofs.soundness.Stepping.{handed_is}
+use Rattle.flat_code.specs.WellFormedEquations.{Ready, ready_at}
 
 module _ (code : Code) (wf : IsWellFormed code) (c : CodeState) (good : IsGood code c) (i : Instr) (here : slice_get code.instrs c.state.running.point ≡ Some i) where
   abbrev sorts : List (Option Sort)

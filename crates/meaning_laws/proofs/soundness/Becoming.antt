@@ -9,7 +9,7 @@ use Rattle.hs_base.specs.Object.{Object, Local, Live, Dead, is_dead, object_at}
 use Rattle.hs_base.specs.State.{Frame}
 use Rattle.object_meaning.specs.objects.Values.{is_stale}
 use Rattle.object_meaning.specs.objects.Holding.{is_among}
-use Rattle.meaning_laws.proofs.dangling.Alive.{is_within}
+use Rattle.meaning_laws.specs.objects.GoodEquations.{is_within}
 use Rattle.flat_code.specs.declared.program.Code.{Code}
 use Rattle.flat_code.specs.declared.program.Entry.{Entry}
 use Rattle.meaning_laws.specs.code.Objects.{IsThere, IsPointer, HasStatics}

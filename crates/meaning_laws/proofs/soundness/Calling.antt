@@ -31,8 +31,8 @@ use Rattle.meaning_laws.proofs.soundness.Becoming.{none_apart, pointer_grows, st
 use Rattle.meaning_laws.proofs.soundness.Made.{append_grows, append_objects, append_queue}
 use Rattle.meaning_laws.proofs.soundness.Locals.{locals_from, locals_are, locals_unqueued, locals_living, has_locals}
 use Rattle.meaning_laws.proofs.soundness.Pinned.{pins_cons}
-use Rattle.meaning_laws.proofs.soundness.Ready.{Ready}
 use Rattle.meaning_laws.proofs.soundness.Frames.{waiting_become, not_written}
+use Rattle.flat_code.specs.WellFormedEquations.{Ready}
 
 -- Registers at the start of a call
 

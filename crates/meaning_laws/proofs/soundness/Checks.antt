@@ -32,8 +32,8 @@ use Rattle.meaning_laws.proofs.soundness.Becoming.{Spares, grows_same, none_born
 use Rattle.meaning_laws.proofs.soundness.Queues.{queued_lives, sane_of}
 use Rattle.meaning_laws.proofs.soundness.Dropping.{Drops, buried_drops, buried_queue, drops_objects}
 use Rattle.meaning_laws.proofs.soundness.Pinned.{by_register, uncounted}
-use Rattle.meaning_laws.proofs.soundness.Ready.{Ready}
 use Rattle.meaning_laws.proofs.soundness.Frames.{Holds, holds_become, holds_grow, moves}
+use Rattle.flat_code.specs.WellFormedEquations.{Ready}
 
 -- none of some objects is held by its number
 pub none_held : (f : ℕ → ℕ) (births : List ℕ) → first_held (λ b. not (nat_eq (f b) 0)) births ≡ None → (b : ℕ) → is_among births b ≡ true → f b ≡ 0

@@ -31,7 +31,7 @@ use Rattle.meaning_laws.proofs.soundness.Lists.{zip_set}
 use Rattle.meaning_laws.proofs.soundness.Becoming.{Becomes, Grows, Apart, Born, Spares, none_dies, none_apart, pointer_becomes, statics_become, locals_become, running_become}
 use Rattle.meaning_laws.proofs.soundness.Lively.{needed_live, edge_here, live_back}
 use Rattle.meaning_laws.proofs.soundness.Pinned.{uncounted, pins_cons}
-use Rattle.meaning_laws.proofs.soundness.Ready.{Ready}
+use Rattle.flat_code.specs.WellFormedEquations.{Ready}
 
 -- the only edge of most instructions
 pub onto : (point : ℕ) → Contains ((point + 1) ∷ []) (point + 1)

@@ -16,7 +16,8 @@ use Rattle.object_meaning.specs.objects.Going.{put, with_objects}
 use Rattle.object_meaning.specs.objects.Making.{heap_object, with_new}
 use Rattle.object_meaning.specs.objects.Memory.{copied}
 use Rattle.object_meaning.specs.objects.Heap.{birth_of, enqueue}
-use Rattle.meaning_laws.proofs.dangling.Alive.{at_old, is_within}
+use Rattle.meaning_laws.specs.objects.GoodEquations.{is_within}
+use Rattle.meaning_laws.proofs.dangling.Alive.{at_old}
 use Rattle.meaning_laws.proofs.dangling.Touching.{Done}
 use Rattle.meaning_laws.proofs.dangling.Standing.{refused}
 use Rattle.flat_code.specs.declared.instructions.Instr.{Instr}
@@ -33,7 +34,7 @@ use Rattle.object_meaning.specs.code.Pinning.{pinned}
 use Rattle.object_meaning.specs.code.Checking.{leave}
 use Rattle.object_meaning.specs.code.Freeing.{free, free_named, grow, grow_named, grow_old, grown}
 use Rattle.meaning_laws.proofs.counts.Objects.{queued_same}
-use Rattle.meaning_laws.proofs.counts.Touched.{OnDone, Changes, copied_changes}
+use Rattle.meaning_laws.specs.counted.TouchedEquations.{OnDone, Changes, copied_changes}
 use Rattle.meaning_laws.specs.code.Objects.{IsThere, IsPointer, IsOfSort}
 use Rattle.meaning_laws.specs.code.Good.{IsNeeded, IsGood}
 use Rattle.meaning_laws.specs.code.Laws.{StaysGood}
@@ -43,7 +44,8 @@ use Rattle.meaning_laws.proofs.soundness.Made.{heap_is, append_grows, one_more, 
 use Rattle.meaning_laws.proofs.soundness.Queues.{alike_queue, queued_grows, queued_born, queued_objects, queued_queue}
 use Rattle.meaning_laws.proofs.soundness.Frames.{Holds, holds_of, holds_grow, holds_put}
 use Rattle.meaning_laws.proofs.soundness.Checks.{decided_stays, in_scope_stays}
-use Rattle.meaning_laws.proofs.soundness.Standing.{IsReady, goes_to, unwritten, rescoped, heap_living, none_stays, made_stays, IsPlain}
+use Rattle.meaning_laws.specs.counted.CountsEquations.{heap_living}
+use Rattle.meaning_laws.proofs.soundness.Standing.{IsReady, goes_to, unwritten, rescoped, none_stays, made_stays, IsPlain}
 
 -- the object that a free may queue is not dead, on the heap and not queued
 pub record MayQueue (objects : List Object) (b : ℕ) : Type 0 where

@@ -15,7 +15,7 @@ use Rattle.flat_code.specs.declared.program.Entry.{Entry}
 use Rattle.flat_code.specs.WellFormed.{IsWellFormed, IsLayout}
 use Rattle.object_meaning.specs.code.Entering.{layout_in, no_layout, local_object}
 use Rattle.meaning_laws.specs.counted.Counts.{living, inside_living}
-use Rattle.meaning_laws.proofs.counts.Objects.{append_living, no_pointers}
+use Rattle.meaning_laws.specs.counted.CountsEquations.{append_living, no_pointers}
 use Rattle.meaning_laws.specs.code.Objects.{IsObject}
 use Rattle.meaning_laws.specs.code.Good.{HasLocals}
 use Rattle.meaning_laws.proofs.soundness.Lists.{all_at}

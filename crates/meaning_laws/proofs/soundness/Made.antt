@@ -9,14 +9,15 @@ use Rattle.std.proofs.Math.Nat.{mul-le-mul_left}
 use Rattle.hs_base.specs.declared.values.Pointer.TheVariants as pointer
 use Rattle.hs_base.specs.Freeing.{is_heap}
 use Rattle.hs_base.specs.Object.{Object, Sort, Local, Live, Dead, is_dead, is_queued, no_object, object_at}
-use Rattle.hs_base.proofs.Wrapping.{low_bits_lt}
+use Rattle.hs_base.specs.NumbersEquations.{low_bits_lt}
 use Rattle.c_types.specs.declared.layouts.Layout.{Layout}
 use Rattle.c_types.specs.Layouts.{AreSlots, IsSound, array_layout}
-use Rattle.c_types.proofs.Sound.{array_sound, slots_within}
+use Rattle.c_types.specs.LayoutsEquations.{slots_within, slots_of_array}
 use Rattle.object_meaning.specs.objects.Values.{size_in}
 use Rattle.object_meaning.specs.objects.Making.{blank, heap_object}
 use Rattle.object_meaning.specs.objects.Holding.{is_among}
-use Rattle.meaning_laws.proofs.dangling.Alive.{at_old, at_append, is_within}
+use Rattle.meaning_laws.specs.objects.GoodEquations.{is_within}
+use Rattle.meaning_laws.proofs.dangling.Alive.{at_old, at_append}
 use Rattle.flat_code.specs.declared.program.Code.{Code}
 use Rattle.flat_code.specs.WellFormed.{IsWellFormed, IsLayout}
 use Rattle.object_meaning.specs.code.Entering.{layout_in}
@@ -39,7 +40,7 @@ blank_is objects sort size slots small are = record {
 element_slots : (size : ℕ) (element : Layout) → IsSound element → AreSlots 0 size (array_layout (size / element.size) element).slots
 element_slots size element sound =
     let n = size / element.size in
-    let all = (array_sound n element sound).slots in
+    let all = slots_of_array n element sound in
     let fits : n * element.size ≤ size = omega (arith, div-add-mod' size element.size) in
     slots_within 0 0 (n * element.size) size (array_layout n element).slots (omega arith) fits all
 

@@ -13,7 +13,7 @@ use Rattle.hs_base.specs.Access.{Refusal}
 use Rattle.hs_base.specs.Arithmetic.{for_divisor, places_of}
 use Rattle.hs_base.specs.Numbers.{low_bits, wrapped}
 use Rattle.hs_base.specs.Object.{Object}
-use Rattle.hs_base.proofs.Wrapping.{low_bits_lt}
+use Rattle.hs_base.specs.NumbersEquations.{low_bits_lt}
 use Rattle.core_tree.specs.declared.statements.UnOp.{UnOp}
 use Rattle.core_tree.specs.declared.statements.UnOp.TheVariants as un
 use Rattle.core_tree.specs.declared.statements.BinOp.{BinOp}

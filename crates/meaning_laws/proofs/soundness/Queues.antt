@@ -9,7 +9,8 @@ use Rattle.hs_base.specs.Freeing.{is_heap, queued}
 use Rattle.hs_base.specs.Object.{Object, Live, Queued, Dead, is_dead, is_queued, object_at}
 use Rattle.object_meaning.specs.objects.Holding.{is_among}
 use Rattle.meaning_laws.specs.objects.Good.{Sane}
-use Rattle.meaning_laws.proofs.dangling.Alive.{at_set, is_within, among_left, among_last, among_cases}
+use Rattle.meaning_laws.specs.objects.GoodEquations.{is_within}
+use Rattle.meaning_laws.proofs.dangling.Alive.{at_set, among_left, among_last, among_cases}
 use Rattle.meaning_laws.proofs.counts.Objects.{same_bool}
 use Rattle.meaning_laws.specs.code.Objects.{IsThere, IsPointer, IsObject, AreObjects, IsQueue}
 use Rattle.meaning_laws.proofs.soundness.Becoming.{Grows, Alike, Born, none_born, not_stale}

@@ -39,11 +39,11 @@ use Rattle.meaning_laws.specs.code.Laws.{StaysGood}
 use Rattle.meaning_laws.proofs.soundness.Becoming.{live_there, pointer_becomes, statics_become}
 use Rattle.meaning_laws.proofs.soundness.Dropping.{Drops, ended_drops, ended_are_dead, ended_queue, drops_objects}
 use Rattle.meaning_laws.proofs.soundness.Pinned.{by_register, pins_cons}
-use Rattle.meaning_laws.proofs.soundness.Ready.{Ready, ready_at}
 use Rattle.meaning_laws.proofs.soundness.Frames.{Holds, onto, holds_put, moves, waiting_become}
 use Rattle.meaning_laws.proofs.soundness.Checks.{none_held, no_holder}
 use Rattle.meaning_laws.proofs.dangling.Returning.{in_range, out_range}
 use Rattle.meaning_laws.proofs.counts.Calling.{once_range}
+use Rattle.flat_code.specs.WellFormedEquations.{Ready, ready_at}
 
 -- Births one after another
 

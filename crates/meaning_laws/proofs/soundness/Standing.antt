@@ -33,9 +33,8 @@ use Rattle.object_meaning.specs.counted.Counting.{renumbered}
 use Rattle.object_meaning.specs.code.CodeState.{CodeState, Next, kept, same_numbers, other_numbers}
 use Rattle.object_meaning.specs.code.Entering.{with_step}
 use Rattle.object_meaning.specs.code.Checking.{enter}
-use Rattle.meaning_laws.proofs.counts.Objects.{append_living, no_pointers, Renumbers}
-use Rattle.meaning_laws.proofs.counts.Touched.{OnDone, SamePointers, Changes}
-use Rattle.meaning_laws.specs.counted.Counts.{living, inside_living}
+use Rattle.meaning_laws.specs.counted.CountsEquations.{Renumbers, heap_living}
+use Rattle.meaning_laws.specs.counted.TouchedEquations.{OnDone, SamePointers, Changes}
 use Rattle.meaning_laws.specs.code.Objects.{IsPointer, IsOfSort, IsOperand, IsByte, AreObjects, IsQueue}
 use Rattle.meaning_laws.specs.code.Counts.{AreCounts}
 use Rattle.meaning_laws.specs.code.Good.{IsNeeded, IsGood}
@@ -46,16 +45,8 @@ use Rattle.meaning_laws.proofs.soundness.Touching.{Changed}
 use Rattle.meaning_laws.proofs.dangling.Giving.{Lives}
 use Rattle.meaning_laws.proofs.soundness.Made.{heap_is, append_grows, one_more, one_queue, one_born, new_start}
 use Rattle.meaning_laws.proofs.soundness.Queues.{alike_queue}
-use Rattle.meaning_laws.proofs.soundness.Ready.{Ready}
 use Rattle.meaning_laws.proofs.soundness.Frames.{Holds, holds_of, holds_grow, holds_put, moves}
-
--- a new heap object has no pointers
-pub heap_living : (objects : List Object) (line size : ℕ) (element : Layout) (x : ℕ) → inside_living x (objects ++ heap_object line size element ∷ []) ≡ inside_living x objects
-heap_living objects line size element x =
-    let o = heap_object line size element in
-    omega (arith, append_living objects (o ∷ []) x, no_pointers x (length o.slots), one_sum x o) where
-      one_sum : (x : ℕ) (o : Object) → inside_living x (o ∷ []) ≡ living x o
-      one_sum x o = omega arith
+use Rattle.flat_code.specs.WellFormedEquations.{Ready}
 
 module _ (code : Code) (wf : IsWellFormed code) (c : CodeState) (good : IsGood code c) (i : Instr) (at : IsAt code c.state.running.func good.entry c.state.running.point i) where
   abbrev s : State

@@ -24,11 +24,11 @@ use Rattle.meaning_laws.proofs.soundness.Lists.{zip_at, zip_push}
 use Rattle.meaning_laws.proofs.soundness.Numbers.{unsigned_number}
 use Rattle.meaning_laws.proofs.soundness.Lively.{live_back, needed_read, needed_live, edge_here}
 use Rattle.meaning_laws.proofs.soundness.Becoming.{not_stale, live_there}
-use Rattle.meaning_laws.proofs.soundness.Ready.{instr_at, ready_at}
 use Rattle.meaning_laws.proofs.soundness.Frames.{not_written}
 use Rattle.meaning_laws.proofs.soundness.Standing.{IsReady}
 use Rattle.meaning_laws.proofs.soundness.Calling.{there}
 use Rattle.meaning_laws.proofs.soundness.Acting.{act_stays}
+use Rattle.flat_code.specs.WellFormedEquations.{instr_at, ready_at}
 
 -- what an operation does: it hands a value over, or acts on what was handed over
 abbrev pub done_by : Code → (ℕ → Bool) → ℕ → Instr → CodeState → Op → Option Value → Next

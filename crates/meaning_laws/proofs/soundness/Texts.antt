@@ -13,7 +13,7 @@ use Rattle.object_meaning.specs.objects.Values.{pointer_at}
 use Rattle.object_meaning.specs.objects.Strings.{behind, byte_behind, string_from, string_at, order_from, order_of, room_at}
 use Rattle.object_meaning.specs.objects.Printing.{item_text, arguments_behind, printed}
 use Rattle.meaning_laws.proofs.dangling.Touching.{Done, trapped, then_done}
-use Rattle.meaning_laws.proofs.dangling.Alive.{is_within}
+use Rattle.meaning_laws.specs.objects.GoodEquations.{is_within}
 use Rattle.meaning_laws.proofs.dangling.Giving.{Any, Lives, item_cond, front_lives}
 use Rattle.meaning_laws.specs.code.Objects.{IsPointer, AreObjects}
 use Rattle.meaning_laws.proofs.soundness.Numbers.{done_weaker, natural_number}

@@ -14,10 +14,11 @@ use Rattle.hs_base.specs.Access as access
 use Rattle.hs_base.specs.Access.{Refusal, Trapped, ReadsDead, Place, if_so, access_in, access_integer, access_pointer, range_at, bytes_of, overlaid, with_object, copy, copy_between, may_copy, may_set, cuts_slot, same_numbers, distances, filled, set_bytes, slots_below, slots_within}
 use Rattle.hs_base.specs.Numbers.{low_bits, width}
 use Rattle.hs_base.specs.Object.{Object, object_at, no_object, is_dead}
-use Rattle.hs_base.proofs.NumberBytes.{length-bytes_of}
+use Rattle.hs_base.specs.AccessEquations.{length-bytes_of}
 use Rattle.object_meaning.specs.objects.Values.{is_stale}
 use Rattle.object_meaning.specs.objects.Memory.{loaded, loaded_pointer, stored, stored_pointer, pointers_in_range, copied}
-use Rattle.meaning_laws.proofs.dangling.Alive.{at_set, is_within}
+use Rattle.meaning_laws.specs.objects.GoodEquations.{is_within}
+use Rattle.meaning_laws.proofs.dangling.Alive.{at_set}
 use Rattle.meaning_laws.proofs.dangling.Touching.{Done, trapped, then_done, so_done, so_skipped}
 use Rattle.meaning_laws.specs.code.Objects.{IsThere, IsPointer, IsByte, IsObject, AreObjects}
 use Rattle.meaning_laws.proofs.soundness.Lists.{overlaid_length, overlaid_all, all_or}

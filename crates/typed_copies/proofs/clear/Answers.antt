@@ -3,7 +3,7 @@ use Rattle.adjusters.specs.ObjectSlots.{Element, object_slots}
 use Rattle.typed_copies.specs.Slots.{slots_allow}
 use Rattle.typed_copies.specs.Pointers.{Cover, words_at, words_in}
 use Rattle.typed_copies.specs.Copying.{IsCleared, slots_of}
-use Rattle.typed_copies.proofs.Allowed.{after_set, set_allowed, set_of_none}
+use Rattle.typed_copies.specs.CopyingEquations.{after_set, set_allowed, set_of_none}
 use Rattle.typed_copies.proofs.Ascending.{object_has_slots}
 use Rattle.typed_copies.proofs.Outcomes.{cleared_is, cleared_none}
 use Rattle.typed_copies.proofs.Replaced.{cover_part}

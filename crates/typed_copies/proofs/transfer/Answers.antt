@@ -3,7 +3,7 @@ use Rattle.adjusters.specs.ObjectSlots.{Element, object_slots}
 use Rattle.typed_copies.specs.Slots.{slots_agree}
 use Rattle.typed_copies.specs.Pointers.{ArePointers, Cover, HaveRoom, words_at, words_in}
 use Rattle.typed_copies.specs.Copying.{IsCopied, bytes_after, slots_of}
-use Rattle.typed_copies.proofs.Allowed.{after_copy, copy_allowed, copy_of_none}
+use Rattle.typed_copies.specs.CopyingEquations.{after_copy, copy_allowed, copy_of_none}
 use Rattle.typed_copies.proofs.Outcomes.{copied_is, copied_none, pointers_come, room_comes}
 use Rattle.typed_copies.proofs.Overlaid.{moved_long}
 use Rattle.typed_copies.proofs.Replaced.{cover_part}

@@ -3,7 +3,7 @@ use Rattle.std.specs.Vec.{with_items}
 use Rattle.std.proofs.lemmas.List.{with_items_is}
 use Rattle.adjusters.specs.ObjectSlots.{object_slots}
 use Rattle.byte_memory.specs.Filled.{filled_up}
-use Rattle.byte_memory.proofs.Filling.{length-filled_up}
+use Rattle.byte_memory.specs.FilledEquations.{length-filled_up}
 use Rattle.byte_marks.specs.declared.TheConstants.{NOTHING}
 use Rattle.byte_marks.specs.Ends.{ChangesEnds}
 use Rattle.byte_marks.specs.Marks.{ChangesOnly, HasMarks, MarksModel}

@@ -1,6 +1,7 @@
 use Rattle.std.proofs.Common.{◌≡◌, ◌*◌, ◌<◌, ◌^◌, ℕ, sym, ap, ◌∙◌, subst, arith}
 use Rattle.byte_memory.specs.Bytes.{word}
-use Rattle.byte_memory.proofs.Words.{word_1, word_2, word_4, word_8, word_bound}
+use Rattle.byte_memory.specs.BytesEquations.{word_1}
+use Rattle.byte_memory.proofs.Words.{word_2, word_4, word_8, word_bound}
 use Rattle.byte_memory.proofs.flat_bytes.load.Goals as goal
 
 bounded : (width n result : ℕ) → width ≡ n → result < 2 ^ (8 * n) → result < 2 ^ (8 * width)

@@ -1,7 +1,8 @@
 use Rattle.std.proofs.Common.{◌≡◌, ◌*◌, ◌<◌, ◌^◌, subst, sym, ap, ◌∙◌, arith}
 use Rattle.byte_memory.specs.Bytes.{put_word}
-use Rattle.hs_base.proofs.NumberBytes.{bytes_are}
-use Rattle.byte_memory.proofs.Words.{stored, stored_byte}
+use Rattle.hs_base.specs.AccessEquations.{bytes_are}
+use Rattle.byte_memory.specs.BytesEquations.{stored_byte}
+use Rattle.byte_memory.proofs.Words.{stored}
 use Rattle.byte_memory.proofs.flat_bytes.store.Goals as goal
 
 pub returns-in-1 : goal.returns-in-1

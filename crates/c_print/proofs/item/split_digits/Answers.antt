@@ -3,7 +3,7 @@ use Rattle.std.proofs.lemmas.List.Sums.{prefix_len-le-length}
 use Rattle.std.specs.List.{list_all}
 use Rattle.std.specs.Char.{is_ascii_digit}
 use Rattle.c_print.specs.Item.{StartsOutside}
-use Rattle.c_print.proofs.Fronts.{front_passes, rest_starts_outside}
+use Rattle.c_print.specs.ItemEquations.{front_passes, rest_starts_outside}
 use Rattle.c_print.proofs.item.split_digits.Goals as goal
 
 pub split_at-requires : goal.split_at-requires

@@ -2,7 +2,8 @@ use Rattle.std.proofs.Common.{arith, sym, ap, ◌∙◌, ◌≡◌, ◌+◌, tak
 use Rattle.std.specs.Str.Parse.{digits_value}
 use Rattle.std.proofs.lemmas.Str.Parse.{digits_value-take-le}
 use Rattle.c_print.specs.Item.{width_bytes}
-use Rattle.c_print.proofs.Widths.{width_bytes_value, value_width_bytes, value_more}
+use Rattle.c_print.specs.ItemEquations.{width_bytes_value, value_more}
+use Rattle.c_print.proofs.Widths.{value_width_bytes}
 use Rattle.c_print.proofs.item.width_of.Goals as goal
 
 pub returns-then-width-gt-WIDEST : goal.returns-then-width-gt-WIDEST

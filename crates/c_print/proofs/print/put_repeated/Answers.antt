@@ -1,6 +1,6 @@
 use Rattle.std.proofs.Common.{◌≡◌, ◌-◌, ◌≤◌, ℕ, ◌++◌, Some, replicate, take, append_assoc, sym, ap, ◌∙◌, arith, rules}
 use Rattle.std.proofs.lemmas.List.{take-replicate, replicate-append-replicate}
-use Rattle.c_print.proofs.Puts.{took_then, broke}
+use Rattle.c_print.specs.PutsEquations.{took_then, broke}
 use Rattle.c_print.proofs.print.put_repeated.Goals as goal
 
 -- all but `left` bytes, and the next of them

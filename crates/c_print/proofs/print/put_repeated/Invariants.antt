@@ -1,5 +1,5 @@
 use Rattle.std.proofs.Common.{◌≡◌, ◌-◌, ◌≤◌, replicate}
-use Rattle.c_print.proofs.Puts.{Took}
+use Rattle.c_print.specs.PutsEquations.{Took}
 use Rattle.c_print.proofs.print.put_repeated.Given as goal
 
 -- no failure yet, and all but `left` bytes are taken

@@ -1,6 +1,7 @@
 use Rattle.std.proofs.Common.{arith, ◌≡◌, add-one, IsTrue, ◌∙◌, sym, ap}
 use Rattle.c_types.specs.Types.{Function, plain, plain_list, plain_signature}
-use Rattle.c_types.proofs.Same.{never, length-plain_list, plain-function, plain_list-at, result_below, plain_list-take}
+use Rattle.c_types.specs.TypesEquations.{plain-function}
+use Rattle.c_types.proofs.Same.{never, length-plain_list, plain_list-at, result_below, plain_list-take}
 use Rattle.c_types.specs.declared.types.CType.{size-CType}
 use Rattle.c_types.proofs.types.+same.Goals as goal
 

@@ -1,6 +1,6 @@
 use Rattle.std.proofs.Common.{ap, sym, ◌∙◌}
 use Rattle.c_types.specs.Types.{plain}
-use Rattle.c_types.proofs.Same.{plain-function}
+use Rattle.c_types.specs.TypesEquations.{plain-function}
 use Rattle.c_decls.specs.Callees.{function_callee}
 use Rattle.c_typing.proofs.callees.function_callee.Goals as goal
 

@@ -1,7 +1,7 @@
 use Rattle.std.proofs.Common.{◌≡◌, ◌<◌, ◌≤◌, ◌+◌, false, true, Bool, nat_le, sym, ap, ◌∙◌, take_all, arith}
 use Rattle.std.specs.Str.Parse.{digits_value}
 use Rattle.std.proofs.lemmas.Str.Parse.{digits_value-take-le}
-use Rattle.c_print.proofs.Widths.{value_more}
+use Rattle.c_print.specs.ItemEquations.{value_more}
 use Rattle.c_typing.proofs.formats.is_width.Goals as goal
 
 pub returns-then-width-gt-WIDEST : goal.returns-then-width-gt-WIDEST

@@ -2,7 +2,7 @@ use Rattle.std.proofs.Common.{◌≡◌, ◌∙◌, ap, sym, true, drop, length,
 use Rattle.std.specs.List.{list_all, take_while}
 use Rattle.std.specs.Char.{is_ascii_digit}
 use Rattle.std.specs.Str.Parse.{digits_value}
-use Rattle.c_print.proofs.Fronts.{front_passes}
+use Rattle.c_print.specs.ItemEquations.{front_passes}
 use Rattle.c_print.specs.Item.{is_flag}
 use Rattle.c_print.specs.Length.{is_one_of}
 use Rattle.c_decls.specs.Callees.{digits_at}

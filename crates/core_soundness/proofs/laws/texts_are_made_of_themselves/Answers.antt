@@ -5,4 +5,4 @@ pub returns-clause-made : goal.returns-clause-made
 returns-clause-made c = made.text_made
 
 pub returns-clause-small : goal.returns-clause-small
-returns-clause-small c = made.text_one
+returns-clause-small c = made.text_one c.constants_fit.ensures

@@ -11,13 +11,13 @@ use Rattle.c_decls.specs.Refusals.{Meets}
 use Rattle.c_decls.specs.TypeNames.{Layer, FunctionOf}
 use Rattle.c_typing.specs.declared.layers.Layer.{Layer as CodeLayer}
 use Rattle.c_typing.specs.Layers.{plain_layer}
-use Rattle.c_typing.proofs.Walked.{as_types, as_plain_list}
 use Rattle.elaboration.specs.Context.{Context, With, entered}
 use Rattle.elaboration.specs.Declarators.{Members, members, params, suffix_layers, left_params}
 use Rattle.elab_types.specs.Steps.{behind}
 use Rattle.elab_types.proofs.Nodes.{word_next, word_found, words_end, member_step, members_end, members_go, name_step, names_walk, names_end, names_go, suffix_one, suffix_walk, suffixes_end, suffixes_go, param_found, param_walk, params_end, params_go, params_alone, direct_is, direct_meets, with_suffixes, from_name, from_specs, params_is, params_layer}
 use Rattle.elab_types.proofs.Turns.{left_next, left_refused, left_none, pushed, push_next, push_refused, refused_then}
 use Rattle.elab_types.proofs.walk.+walk.Goals as goal
+use Rattle.c_typing.specs.TypeLists.{as_types, as_plain_list}
 
 -- words
 

@@ -10,7 +10,6 @@ use Rattle.hs_base.specs.Trace.{Event, Ending}
 use Rattle.object_meaning.specs.counted.CountedMeaning.{meaning as core_meaning}
 use Rattle.object_meaning.specs.code.CodeMeaning.{meaning as code_meaning}
 use Rattle.object_meaning.specs.compiled.Compiled.{IsCompiled}
-use Rattle.meaning_laws.proofs.form.Lengths.{few_instructions}
 use Rattle.meaning_laws.specs.compiled.SameRun.{SameRun}
 use Rattle.meaning_laws.specs.compiled.Testing.{tested_core, tested_code}
 use Rattle.flat_codegen.proofs.program.compile.Goals as goal
@@ -38,7 +37,7 @@ pub returns-clause-few : goal.returns-clause-few
 returns-clause-few c =
     let core = c.args.counted.now.core in
     let pins = c.args.counted.now.pins in
-    follows (IsCompiled core pins) (λ code. length code.instrs ≤ 14 * sum_by code_size core.funcs + length core.funcs + 1) c.code_of.result (λ code is. few_instructions core code is) c.code_of.ensures.compiled
+    follows (IsCompiled core pins) (λ code. length code.instrs ≤ 14 * sum_by code_size core.funcs + length core.funcs + 1) c.code_of.result (λ code is. c.codes_are_few.ensures core pins code is) c.code_of.ensures.compiled
 
 pub returns-clause-means : goal.returns-clause-means
 returns-clause-means c =

@@ -1,7 +1,7 @@
 use Rattle.std.proofs.Common.{◌≤◌, List, length, refl, subst, arith}
 use Rattle.std.proofs.lemmas.List.{take_all}
 use Rattle.delay_scopes.specs.Pointers.{LowersBy, words_in, words_inside}
-use Rattle.delay_scopes.proofs.Lowering.{covers_object, lowers_object}
+use Rattle.delay_scopes.specs.PointersEquations.{covers_object, lowers_object}
 use Rattle.flat_objects.proofs.ending.take_off_all.Goals as goal
 
 pub loop-local-init : goal.loop-local-init

@@ -1,6 +1,6 @@
 use Rattle.std.proofs.Common.{◌≡◌, ℕ, zero, suc, List, ◌≤◌, ◌∷◌, ◌/◌, ◌%◌, take, refl, ap, ◌∙◌, arith}
 use Rattle.hs_base.specs.Access.{bytes_of, overlaid}
-use Rattle.hs_base.proofs.NumberBytes.{bytes_are}
+use Rattle.hs_base.specs.AccessEquations.{bytes_are}
 use Rattle.meaning_state.proofs.bytes.write_number.Goals as goal
 
 take_bytes : (k n value : ℕ) → k ≤ n → take k (bytes_of n value) ≡ bytes_of k value

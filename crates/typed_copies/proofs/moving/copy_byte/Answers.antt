@@ -1,5 +1,5 @@
 use Rattle.std.proofs.Common.{◌≡◌, ◌∙◌, set, get_or, sym, ap, arith}
-use Rattle.byte_memory.proofs.Words.{stored_byte, word_1}
+use Rattle.byte_memory.specs.BytesEquations.{stored_byte, word_1}
 use Rattle.typed_copies.proofs.moving.copy_byte.Goals as goal
 
 pub returns-clause-copied : goal.returns-clause-copied

@@ -2,7 +2,7 @@ use Rattle.std.proofs.Common.{◌≡◌, ◌+◌, ◌-◌, ◌/◌, ◌∙◌, �
 use Rattle.std.specs.Vec.{with_items}
 use Rattle.std.proofs.lemmas.List.{with_items_is}
 use Rattle.byte_memory.specs.Filled.{filled_up}
-use Rattle.byte_memory.proofs.Filling.{length-filled_up}
+use Rattle.byte_memory.specs.FilledEquations.{length-filled_up}
 use Rattle.byte_marks.specs.Ends.{ChangesEnds, HasEnd}
 use Rattle.byte_marks.specs.Marks.{Filled}
 use Rattle.byte_marks.proofs.Ending.{changes_ends, has_end}

@@ -1,6 +1,6 @@
 use Rattle.std.proofs.Common.{◌∙◌, ap}
 use Rattle.byte_memory.specs.Filled.{filled_up}
-use Rattle.byte_memory.proofs.Filling.{filled_none}
+use Rattle.byte_memory.specs.FilledEquations.{filled_none}
 use Rattle.byte_memory.proofs.flat_bytes.FlatBytes.new.Goals as goal
 
 pub returns : goal.returns

@@ -1,6 +1,7 @@
 use Rattle.std.proofs.Common.{◌≡◌, ◌-◌, ◌∙◌, ◌++◌, length, replicate, sym, ap, arith}
 use Rattle.byte_memory.specs.Bytes.{word}
-use Rattle.byte_memory.proofs.Filling.{filled_is, length-filled_up, word_first}
+use Rattle.byte_memory.specs.FilledEquations.{length-filled_up}
+use Rattle.byte_memory.proofs.Filling.{filled_is, word_first}
 use Rattle.byte_memory.proofs.flat_bytes.FlatBytes.read.Goals as goal
 
 pub returns-then-at-width-clause-value : goal.returns-then-at-width-clause-value

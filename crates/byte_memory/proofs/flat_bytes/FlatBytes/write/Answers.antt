@@ -3,8 +3,9 @@ use Rattle.std.specs.Vec.{with_items}
 use Rattle.std.proofs.lemmas.List.{with_items_is}
 use Rattle.byte_memory.specs.Bytes.{put_word}
 use Rattle.byte_memory.specs.Filled.{filled_up}
-use Rattle.byte_memory.proofs.Filling.{length-filled_up, put_first}
-use Rattle.byte_memory.proofs.Words.{length-put_word}
+use Rattle.byte_memory.specs.FilledEquations.{length-filled_up}
+use Rattle.byte_memory.proofs.Filling.{put_first}
+use Rattle.byte_memory.specs.BytesEquations.{length-put_word}
 use Rattle.byte_memory.proofs.flat_bytes.FlatBytes.write.Goals as goal
 
 pub reach-requires-clause-room : goal.reach-requires-clause-room

@@ -78,7 +78,7 @@ lines-preserved g t c =
     let run_short : length c.lines.here.run ≤ most_bytes = omega (arith, c.lines.invariant.run, c.lines.invariant.within, opens.used, opens.most) in
     let line_short : length line ≤ most_bytes = omega (arith, within, opens.used, opens.most) in
     let lines = lines_of (drop (c.lines.at + length line) s.plain) in
-    let held = λ (f : Formed c.args.self.now). line_formed line c.lines.here c.lines.self _ run_short line_short (c.lines.invariant.formed f) c.in-Ok.ensures.step in
+    let held = λ (f : Formed c.args.self.now). line_formed (c.pieces_are_the_cut.ensures.cut, c.pieces_are_the_cut.ensures.forms) line c.lines.here c.lines.self _ run_short line_short (c.lines.invariant.formed f) c.in-Ok.ensures.step in
     let rest = ap (λ (w : List ℕ). take (length w - c.lines.at) (drop c.lines.at w)) c.as_slice.ensures in
     elim c.match-include.branch [
       | in-Some+else-left-eq0+in_ok-read_text w ↦
@@ -141,12 +141,12 @@ returns-in-Err-end_text-clause-told g t c = λ told h.
 pub returns-in-Ok-end_text-clause-formed : goal.returns-in-Ok-end_text-clause-formed
 returns-in-Ok-end_text-clause-formed g t c = λ f.
     let opens = c.in_ok-source.ensures.opens in
-    (text_formed c.lines.here c.lines.self c.end_text.new.self (omega (arith, c.lines.invariant.run, c.lines.invariant.within, opens.used, opens.most)) (c.lines.invariant.formed f) c.in-Ok-end_text.ensures.text).0
+    (text_formed (c.pieces_are_the_cut.ensures.cut, c.pieces_are_the_cut.ensures.forms) c.lines.here c.lines.self c.end_text.new.self (omega (arith, c.lines.invariant.run, c.lines.invariant.within, opens.used, opens.most)) (c.lines.invariant.formed f) c.in-Ok-end_text.ensures.text).0
 
 pub returns-in-Ok-end_text-clause-adds : goal.returns-in-Ok-end_text-clause-adds
 returns-in-Ok-end_text-clause-adds g t c = λ f.
     let opens = c.in_ok-source.ensures.opens in
-    let ends = text_formed c.lines.here c.lines.self c.end_text.new.self (omega (arith, c.lines.invariant.run, c.lines.invariant.within, opens.used, opens.most)) (c.lines.invariant.formed f) c.in-Ok-end_text.ensures.text in
+    let ends = text_formed (c.pieces_are_the_cut.ensures.cut, c.pieces_are_the_cut.ensures.forms) c.lines.here c.lines.self c.end_text.new.self (omega (arith, c.lines.invariant.run, c.lines.invariant.within, opens.used, opens.most)) (c.lines.invariant.formed f) c.in-Ok-end_text.ensures.text in
     record {
       few = omega (arith, ends.1, c.lines.invariant.few f, c.in-Ok-end_text.ensures.counts.used);
       work = λ k. ends.2 (c.lines.invariant.work f k);
@@ -172,7 +172,7 @@ returns-in_err-read_text-clause-named g t c = λ f.
     let within = line_within s.plain c.as_slice.result.now line c.lines.at c.as_slice.ensures inside l.ensures.bound in
     let run_short : length c.lines.here.run ≤ most_bytes = omega (arith, c.lines.invariant.run, c.lines.invariant.within, opens.used, opens.most) in
     let line_short : length line ≤ most_bytes = omega (arith, within, opens.used, opens.most) in
-    let held = line_formed line c.lines.here c.lines.self _ run_short line_short (c.lines.invariant.formed f) (rw c.in-Some.is at c.in-Ok.ensures.step) in
+    let held = line_formed (c.pieces_are_the_cut.ensures.cut, c.pieces_are_the_cut.ensures.forms) line c.lines.here c.lines.self _ run_short line_short (c.lines.invariant.formed f) (rw c.in-Some.is at c.in-Ok.ensures.step) in
     let p = err_from_is_err_and c.from_residual-in_err-read_text.result c.from_residual-in_err-read_text.ensures.1 in
     rw (p.1, p.2) (include_named c.args.name c.in-Some.name _ held.1 (c.in_err-read_text.ensures.named held.0.0))
 

@@ -1,5 +1,5 @@
 use Rattle.std.proofs.Common.{◌≡◌, ℕ, List, [], ◌++◌, Some, replicate, refl, sym, ap, ◌∙◌, append_assoc, append-nil}
-use Rattle.c_print.proofs.Puts.{took_none, took_then, broke}
+use Rattle.c_print.specs.PutsEquations.{took_none, took_then, broke}
 use Rattle.c_print.proofs.print.Field.put.Goals as goal
 
 -- the parts of a field, split behind one of them

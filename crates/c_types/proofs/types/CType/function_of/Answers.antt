@@ -1,6 +1,6 @@
 use Rattle.std.proofs.Common.{ap, ◌∙◌}
 use Rattle.c_types.specs.Types.{plain_signature}
-use Rattle.c_types.proofs.Same.{plain-parts}
+use Rattle.c_types.specs.TypesEquations.{plain-parts}
 use Rattle.c_types.proofs.types.CType.function_of.Goals as goal
 
 pub returns : goal.returns

@@ -21,8 +21,9 @@ use Rattle.c_typing.specs.Layers.{plain_layer, plain_layers}
 use Rattle.c_typing.specs.Parts.{behind, operand_of}
 use Rattle.c_typing.specs.Walks.{Walks, context_of, with_new}
 use Rattle.c_typing.proofs.Turns.{in_turn, left, behind_none, refused_next, turned, turn_refused, turned_all}
-use Rattle.c_typing.proofs.Walked.{wanted_walks, unused_walks, changing_walks, callee_walks, callee_refused, valued, values_turns, suffix_turns, param_turns, with_types, as_types, as_plain_list, call_walks, call_refused, values_refused, sizeof_walks, sizeof_refused, cast_walks, cast_type_refused, cast_value_refused, plain_op, other_op, assign_walks, assign_left_refused, assign_right_refused, change_walks, change_left_refused, change_right_refused, direct_walks, array_walks, array_refused, params_walk, params_refused}
+use Rattle.c_typing.proofs.Walked.{wanted_walks, unused_walks, changing_walks, callee_walks, callee_refused, valued, values_turns, suffix_turns, param_turns, with_types, call_walks, call_refused, values_refused, sizeof_walks, sizeof_refused, cast_walks, cast_type_refused, cast_value_refused, plain_op, other_op, assign_walks, assign_left_refused, assign_right_refused, change_walks, change_left_refused, change_right_refused, direct_walks, array_walks, array_refused, params_walk, params_refused}
 use Rattle.c_typing.proofs.typer.Typer.+walk.Goals as goal
+use Rattle.c_typing.specs.TypeLists.{as_types, as_plain_list}
 
 pub wanted-returns : goal.wanted-returns
 wanted-returns t c =

@@ -1,6 +1,6 @@
 use Rattle.std.proofs.Common.{[], ◌∷◌, ◌++◌, Ok, Err, refl, ap}
 use Rattle.hs_base.specs.Access.{and_then}
-use Rattle.c_print.proofs.Puts.{took_none, took_then, broke}
+use Rattle.c_print.specs.PutsEquations.{took_none, took_then, broke}
 use Rattle.flat_machine.proofs.Texts.{failed_text}
 use Rattle.flat_machine.proofs.state.State.put_line.Goals as goal
 

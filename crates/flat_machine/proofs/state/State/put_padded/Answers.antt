@@ -1,5 +1,5 @@
 use Rattle.std.proofs.Common.{◌∙◌, ◌-◌, ◌++◌, [], Some, append-nil, replicate, sym, ap, arith}
-use Rattle.c_print.proofs.Puts.{took_none, took_then, broke}
+use Rattle.c_print.specs.PutsEquations.{took_none, took_then, broke}
 use Rattle.flat_machine.specs.Writing.{padded}
 use Rattle.flat_machine.proofs.Texts.{padded_left, padded_right, padded_length}
 use Rattle.flat_machine.proofs.state.State.put_padded.Goals.{then-field+in_ok-put_string+in_ok-put_repeated, else-field+in_ok-put_repeated-2+in_ok-put_string-2}

@@ -1,6 +1,6 @@
 use Rattle.std.proofs.Common.{◌≡◌, ◌∙◌, ◌++◌, Some, length, take, drop, sym, ap, arith}
 use Rattle.std.proofs.Math.Seq.{take-add, take-length}
-use Rattle.c_print.proofs.Puts.{took_then, broke}
+use Rattle.c_print.specs.PutsEquations.{took_then, broke}
 use Rattle.flat_machine.proofs.Texts.{parts}
 use Rattle.flat_machine.proofs.state.State.put_string.Goals as goal
 

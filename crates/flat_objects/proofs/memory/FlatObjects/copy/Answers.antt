@@ -1,7 +1,7 @@
 use Rattle.std.proofs.Common.{◌∙◌, List, refl, subst}
 use Rattle.std.proofs.lemmas.Result.{err_from_is_err_and}
 use Rattle.hs_base.specs.Object.{Object}
-use Rattle.typed_copies.proofs.Allowed.{copy_of_none, range_inside}
+use Rattle.typed_copies.specs.CopyingEquations.{copy_of_none, range_inside}
 use Rattle.flat_objects.specs.Memory.{Memory}
 use Rattle.flat_objects.specs.Counting.{Tracks}
 use Rattle.flat_objects.proofs.RangesDone.{asks_covered, asks_pointers, asks_room, copy_leaves}

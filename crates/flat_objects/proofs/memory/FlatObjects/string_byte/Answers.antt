@@ -1,6 +1,6 @@
 use Rattle.std.proofs.Common.{◌≡◌, ◌∙◌, ◌+◌, length, ap, subst, arith}
 use Rattle.byte_memory.specs.Bytes.{word}
-use Rattle.byte_memory.proofs.Words.{word_1}
+use Rattle.byte_memory.specs.BytesEquations.{word_1}
 use Rattle.flat_objects.specs.Memory.{Memory, IsMemory}
 use Rattle.flat_objects.proofs.Behind.{string_byte_is}
 use Rattle.flat_objects.proofs.memory.FlatObjects.string_byte.Goals as goal

@@ -2,7 +2,7 @@ use Rattle.std.proofs.Common.{◌≡◌, ◌∙◌, List, length, sym, ap, subst
 use Rattle.std.specs.Vec.{with_items}
 use Rattle.std.proofs.lemmas.List.{with_items_is}
 use Rattle.byte_memory.specs.Filled.{filled_up}
-use Rattle.byte_memory.proofs.Filling.{length-filled_up}
+use Rattle.byte_memory.specs.FilledEquations.{length-filled_up}
 use Rattle.heap_blocks.specs.declared.marks.Mark.{Mark}
 use Rattle.heap_blocks.specs.declared.marks.Mark.TheVariants.{Free}
 use Rattle.heap_blocks.specs.Runs.{Filled}

@@ -1,7 +1,7 @@
 use Rattle.std.proofs.Common.{◌<◌, ◌∙◌, List, length, refl, sym, ap, arith}
 use Rattle.std.specs.Prelude.{slice_get}
 use Rattle.std.proofs.lemmas.Option.{slice_get_read}
-use Rattle.byte_memory.proofs.Filling.{length-filled_up}
+use Rattle.byte_memory.specs.FilledEquations.{length-filled_up}
 use Rattle.heap_blocks.specs.declared.marks.Mark.{Mark}
 use Rattle.heap_blocks.specs.declared.marks.Mark.TheVariants.{Free}
 use Rattle.heap_blocks.proofs.Marked.{mark_free, mark_there}

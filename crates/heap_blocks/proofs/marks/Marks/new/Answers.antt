@@ -1,6 +1,6 @@
 use Rattle.std.proofs.Common.{◌∙◌, ap}
 use Rattle.byte_memory.specs.Filled.{filled_up}
-use Rattle.byte_memory.proofs.Filling.{filled_none}
+use Rattle.byte_memory.specs.FilledEquations.{filled_none}
 use Rattle.heap_blocks.specs.declared.marks.Mark.TheVariants.{Free}
 use Rattle.heap_blocks.proofs.marks.Marks.new.Goals as goal
 

@@ -2,7 +2,8 @@ use Rattle.std.proofs.Common.{◌∙◌, Some, None, refl, ap, arith}
 use Rattle.hs_base.specs.Access as access
 use Rattle.object_meaning.specs.objects.Printing.{printed}
 use Rattle.meaning_state.specs.declared.refusal.Refusal.TheVariants as refusal
-use Rattle.meaning_state.proofs.Pieces.{prints_is, print_refused, print_more, print_over}
+use Rattle.meaning_state.proofs.Pieces.{prints_is}
+use Rattle.object_meaning.specs.objects.PrintingEquations.{print_refused, print_more, print_over}
 use Rattle.meaning_state.proofs.objects.Objects.printed.Goals as goal
 
 pub returns-in-Err-ReadsDead : goal.returns-in-Err-ReadsDead

@@ -1,6 +1,6 @@
 use Rattle.std.proofs.Common.{◌≡◌, ◌≤◌, drop}
 use Rattle.object_meaning.specs.objects.Printing.{printed}
-use Rattle.meaning_state.proofs.Pieces.{behind}
+use Rattle.object_meaning.specs.objects.PrintingEquations.{behind}
 use Rattle.meaning_state.proofs.objects.Objects.printed.Given as goal
 
 abbrev pub invariant-loop-i : goal.invariant-loop-i

@@ -1,5 +1,6 @@
--- What a sink has taken after several writes.
+-- What a sink has taken after several writes. Equations, proved from `PutsAll`.
 use Rattle.std.proofs.Common.{◌≡◌, ℕ, List, [], ◌++◌, Option, Some, Result, Ok, Err, IsErr, sym, ap, ◌∙◌, append_assoc, append-nil}
+use Rattle.std.proofs.lemmas.Bool.{false≢true}
 use Rattle.hs_base.specs.declared.outside.Failed.{Failed}
 use Rattle.hs_base.specs.PutAll.{PutsAll}
 
@@ -18,7 +19,7 @@ took_then before between after x y first second taken told =
 -- a failure leaves what was taken before it and a part of its bytes
 pub broke : (T U : Type 0) (before between after : Option (List ℕ)) (x y z whole : List ℕ) (e : Failed) (result : Result U Failed) →
     IsErr result → Took before between x → PutsAll {T = T} between after y (Err e) → x ++ (y ++ z) ≡ whole → PutsAll before after whole result
-broke T U before between after x y z whole e (Ok value) is_err first second parts = absurd (cc)
+broke T U before between after x y z whole e (Ok value) is_err first second parts = absurd (false≢true is_err)
 broke T U before between after x y z whole e (Err f) is_err first second parts = λ taken told.
     let last = second (taken ++ x) (first taken told) in (
       x ++ last.0,

@@ -1,4 +1,4 @@
--- The code of an expression stands behind the code before it.
+-- The code of an expression stands behind the code before it. Proved from `found`.
 use Rattle.std.proofs.Common.{ℕ, Bool, true, false, List, Option, Some, None}
 use Rattle.std.specs.Prelude.{cond, ◌+◌, length, nat_lt}
 use Rattle.c_types.specs.Types.{PlainType, PlainTypes, Void}
@@ -32,7 +32,7 @@ use Rattle.elaboration.specs.Rules.{with_literal, indexed, dotted, pointed, appl
 use Rattle.elaboration.specs.Assignments.{record_assigned, scalar_assigned, old_value, change_place, changed_by, changed_answer, one_found, stepped}
 use Rattle.elaboration.specs.Expressions.{unevaluated, changing, callee, parameters, format_argument, is_printf, callee_name, found, arguments, cast_operand}
 use Rattle.elab_rules.specs.Behind.{Behind, From}
-use Rattle.elab_rules.proofs.Growth.{one, Grown, then_grown, rule_grown, unless_grown, cond_from, read_from, convert_from, tested_from, write_from, before_from, combine_from, change_from, set_from, compare_from, chosen_from, call_from, argument_grown, valued_from_grown, valued_grown, unused_grown}
+use Rattle.elab_rules.specs.GrowthEquations.{one, Grown, then_grown, rule_grown, unless_grown, cond_from, read_from, convert_from, tested_from, write_from, before_from, combine_from, change_from, set_from, compare_from, chosen_from, call_from, argument_grown, valued_from_grown, valued_grown, unused_grown}
 
 module _ (xs : List Piece) (line : ℕ) where
   pub literal_grown : (bytes : List ℕ) (c : Context) → From xs c → Grown xs (with_literal line bytes c)

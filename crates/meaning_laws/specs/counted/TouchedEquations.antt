@@ -1,4 +1,5 @@
--- What operations on objects do to the pointers inside them, and which of their answers are no pointers.
+-- What operations on objects do to the pointers inside them, and which of their answers are no pointers. Proved from the
+-- definitions of the operations.
 use Rattle.std.proofs.Common.{◌≡◌, ℕ, ℤ, zero, suc, pos, ◌+◌, ◌%◌, Bool, true, false, not, nat_eq, nat_lt, List, Option, Some, None, Result, Ok, Err, refl, subst}
 use Rattle.std.specs.List.{list_any}
 use Rattle.hs_base.specs.declared.ends.IntKind.{IntKind}
@@ -19,7 +20,7 @@ use Rattle.object_meaning.specs.objects.Memory.{loaded, stored, stored_pointer, 
 use Rattle.meaning_laws.specs.objects.Good.{Alive}
 use Rattle.object_meaning.specs.counted.Counting.{birth_in}
 use Rattle.meaning_laws.specs.counted.Counts.{inside_living}
-use Rattle.meaning_laws.proofs.counts.Objects.{Renumbers, same_renumbers, set_renumbers, set_same}
+use Rattle.meaning_laws.specs.counted.CountsEquations.{Renumbers, same_renumbers, set_renumbers, set_same}
 
 -- P of what an operation answers, where it answers
 abbrev pub OnDone : {A : Type 0} → (A → Type 0) → Result A Refusal → Type 0

@@ -1,5 +1,5 @@
--- What the definitions of copies and sets answer at a range.
-use Rattle.std.proofs.Common.{◌≡◌, ◌<◌, ◌≤◌, ◌+◌, ℕ, zero, suc, true, not, List, Result, Ok, Err, refl, ap, ◌∙◌, arith}
+-- What copies and sets answer at a range. Equations, proved from the definitions of accesses and from `Copying`.
+use Rattle.std.proofs.Common.{◌≡◌, ◌<◌, ◌≤◌, ◌+◌, ℕ, zero, suc, true, not, List, Result, Ok, Err, refl, ap, ◌∙◌, not-suc-le-zero}
 use Rattle.std.specs.Prelude.{nat_lt}
 use Rattle.std.proofs.lemmas.Bool.{cond-false, le-ltb}
 use Rattle.hs_base.specs.declared.ends.TrapKind.TheVariants as trap
@@ -33,7 +33,7 @@ copied_by objects p q n = and_then (range_at objects p n) (λ to. and_then (rang
 
 -- a copy of some bytes is tried
 copies : (objects : List Object) (p q : Pointer) (n : ℕ) → 0 < n → copy objects p q n ≡ copied_by objects p q n
-copies objects p q zero some = absurd (omega arith)
+copies objects p q zero some = absurd (not-suc-le-zero some)
 copies objects p q (suc m) some = refl
 
 -- a copy of no bytes changes nothing
@@ -67,7 +67,7 @@ set_by objects p byte n =
 
 -- a set of some bytes is tried
 sets : (objects : List Object) (p : Pointer) (byte n : ℕ) → 0 < n → set_bytes objects p byte n ≡ set_by objects p byte n
-sets objects p byte zero some = absurd (omega arith)
+sets objects p byte zero some = absurd (not-suc-le-zero some)
 sets objects p byte (suc m) some = refl
 
 -- a set of no bytes changes nothing

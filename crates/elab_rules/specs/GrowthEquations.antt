@@ -1,4 +1,4 @@
--- Code grows: what a step of the walk adds stands behind what was there.
+-- Code grows: what a step of the walk adds stands behind what was there. Proved from the definitions of the steps.
 use Rattle.std.proofs.Common.{◌≡◌, ℕ, Bool, true, false, List, [], ◌∷◌, ◌++◌, Option, Some, None, Ok, Err, sym, ap, ◌∙◌, append_assoc, append-nil, length}
 use Rattle.std.specs.Prelude.{cond, take}
 use Rattle.std.proofs.Math.Seq.{take-append_seam}

@@ -1,4 +1,4 @@
--- The blocks that are held behind two lists of events.
+-- The blocks that are held behind two lists of events. Equations, proved from `Place`.
 use Rattle.std.proofs.Common.{◌≡◌, ℕ, List, [], ◌∷◌, ◌++◌, refl}
 use Rattle.hs_base.specs.Place.{Block, block_size, first_fit, with_block, without_block, blocks_after}
 use Rattle.hs_base.specs.Trace.{Event, Out, In, New, Gone, Enter, Leave}
