@@ -1,7 +1,6 @@
 pub mod Steps
 pub mod Unary
 pub mod Grown
-pub mod Typedefs
 pub mod Functions
 pub mod Texts
 pub mod Loops

@@ -2,8 +2,6 @@
 use Rattle.std.specs.Prelude.{Bool, true, false}
 use Rattle.c_tree.specs.declared.tree.ExprKind.{ExprKind}
 use Rattle.c_tree.specs.declared.tree.ExprKind.TheVariants as e
-use Rattle.c_tree.specs.declared.tree.Spec.{Spec}
-use Rattle.c_tree.specs.declared.tree.Spec.TheVariants as c
 
 -- whether an expression of the code is a unary one, or a tighter one
 abbrev pub is_unary_kind : ExprKind → Bool
@@ -13,8 +11,3 @@ is_unary_kind (e.Cond' p at kind q at2 kind2 r at3 kind3) = false
 is_unary_kind (e.Assign' op p at kind q at2 kind2) = false
 is_unary_kind (e.Comma' p at kind q at2 kind2) = false
 is_unary_kind _ = true
-
--- whether a word of specs is `typedef`
-abbrev pub is_typedef_word : Spec → Bool
-is_typedef_word c.Typedef = true
-is_typedef_word _ = false

@@ -9,7 +9,6 @@ ghost use Rattle.grammar_reading.specs.Declarators as spec;
 ghost use Rattle.grammar_reading.specs.Declarators.{with_key};
 ghost use Rattle.parser_parts.specs.Gives.{Ended};
 ghost use Rattle.parser_parts.specs.Trees.{ReadsSpecs, ReadsWords};
-ghost use Rattle.c_parser.specs.Nodes.{is_typedef_word};
 ghost use Rattle.c_parser.specs.Pieces.{is_end as spec_is_end};
 ghost use Rattle.c_parser.specs.Readers.{AddsWord};
 ghost use Rattle.c_parser.specs.Rests.{all_specs, word_behind, keyword_behind, name_behind, specs_of};
@@ -36,7 +35,7 @@ pub fn specs(alloc: Global, reader: &mut Reader, room: usize) -> Result<DeepSpec
     ensures deep { IfOk result (λ x. x.depth ≤ room) }
 {
     let specs = specs_by(alloc, reader, room, false)?;
-    if has_typedef(specs.tree.words.as_slice()) {
+    if specs.tree.has_typedef() {
         reader.set_typedef(true);
     }
     Ok(specs)
@@ -249,28 +248,5 @@ fn one_word(reader: &Reader, tally: Tally, words: DeepWords) -> Result<(Tally, D
             Ok((with_keyword(tally, keyword), words))
         }
         _ => unreachable!(),
-    }
-}
-
-/// Says whether `typedef` is one of the words of specs.
-#[tactic(auto, using(crate::proofs::Typedefs::typedef_next, crate::proofs::Typedefs::typedef_found, crate::proofs::Typedefs::typedef_end))]
-fn has_typedef(words: &[Spec]) -> bool
-    ensures { result ≡ scopes.has_typedef (trees spec_tree words.now) }
-{
-    for word in words {
-        if is_typedef(word) {
-            return true;
-        }
-    }
-    false
-}
-
-/// Says whether a word of specs is `typedef`.
-fn is_typedef(word: &Spec) -> bool
-    ensures { result ≡ is_typedef_word word.now }
-{
-    match word {
-        Spec::Typedef => true,
-        _ => false,
     }
 }

@@ -3,4 +3,5 @@ pub mod ExprTexts
 pub mod ListTexts
 pub mod StmtTexts
 pub mod NameTexts
+pub mod SpecWords
 pub mod Rereading

@@ -7,6 +7,7 @@ pub mod Grammar
 pub mod Spelling
 pub mod Depth
 pub mod Scopes
+pub mod SpecWords
 pub mod Allowed
 pub mod HasTree
 pub mod Canonical

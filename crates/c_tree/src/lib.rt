@@ -22,6 +22,7 @@ mod declarations;
 mod expressions;
 mod laws;
 mod operator;
+mod spec_words;
 mod statement;
 mod statements;
 mod tree;

@@ -10,7 +10,6 @@ pub mod BoundTrees
 pub mod BoundDeclarators
 pub mod BoundExternals
 pub mod DefinedParams
-pub mod SpecWords
 pub mod Steps
 pub mod StaticNames
 pub mod TakenNames

@@ -9,7 +9,8 @@ use Rattle.c_tree.specs.Scopes.{first_name, name_of, name_among, leads_to_name}
 use Rattle.c_tree.specs.StatementView.{trees, entry_view, decl_view}
 use Rattle.c_tree.specs.View.{declarator_tree, spec_tree}
 use Rattle.c_units.specs.Mentions.{noted, all_noted}
-use Rattle.c_units.specs.Externals.{has_static, but_main, entry_names, static_names, own_names}
+use Rattle.c_tree.specs.SpecWords.{has_static}
+use Rattle.c_units.specs.Externals.{but_main, entry_names, static_names, own_names}
 use Rattle.c_units.proofs.Steps.{next_is, end_is}
 
 pub noted_append : (names xs ys : List (List ℕ)) → all_noted names (xs ++ ys) ≡ all_noted (all_noted names xs) ys

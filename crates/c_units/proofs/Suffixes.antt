@@ -24,7 +24,8 @@ use Rattle.c_units.specs.declared.mention.Role.{Role}
 use Rattle.c_units.specs.declared.mention.Role.TheVariants.{Typedef, Defined, Declared, Used, Tagged}
 use Rattle.c_units.specs.Mentions.{is_among, noted, all_noted}
 use Rattle.c_units.specs.Names.{Names, binding_of, binding_at, mention, mention_any, used, declare, tag_name, line_in, behind, all_behind, entered, left, left_part, left_scope}
-use Rattle.c_units.specs.Externals.{has_static, but_main, entry_names, static_names, own_names, before_declarator, declared_as, behind_declarator, binding_as, role_of, behind_entries, inside_params, behind_external, suffix_of, unit_names}
+use Rattle.c_tree.specs.SpecWords.{has_static}
+use Rattle.c_units.specs.Externals.{but_main, entry_names, static_names, own_names, before_declarator, declared_as, behind_declarator, binding_as, role_of, behind_entries, inside_params, behind_external, suffix_of, unit_names}
 
 abbrev pub main : List ℕ
 main = codes "main"

@@ -1,14 +1,14 @@
 -- The external declarations of a unit as they stand in the program (C99 6.9).
 use Rattle.std.specs.Prelude.{ℕ, Bool, true, false, ◌||◌, if◌then◌else◌, bytes_eq, codes, decimal, List, [], ◌∷◌, ◌++◌, Option, Some, None}
-use Rattle.c_tree.specs.declared.word.Keyword.TheVariants as k
 use Rattle.c_tree.specs.declared.tree.Declarator.{Declarator}
 use Rattle.c_tree.specs.View.{declarator_tree}
-use Rattle.c_tree.specs.Words.{Word, Key}
+use Rattle.c_tree.specs.Words.{Word}
 use Rattle.c_tree.specs.Words as w
 use Rattle.c_tree.specs.Forms as f
 use Rattle.c_tree.specs.Places as p
 use Rattle.c_tree.specs.Tree.{Tree, Trees, Leaf, At, Node, none, ◌▹◌}
 use Rattle.c_tree.specs.Scopes.{name_of, has_typedef, leads_to_name, params_of}
+use Rattle.c_tree.specs.SpecWords.{has_static}
 use Rattle.c_units.specs.declared.mention.Role.{Role}
 use Rattle.c_units.specs.declared.mention.Role.TheVariants.{Typedef, Defined, Declared}
 use Rattle.c_units.specs.declared.names.Binding.{Binding}
@@ -20,16 +20,6 @@ use Rattle.c_units.specs.Names.{Names, name_by, declare, mention, left_scope, be
 abbrev pub line_at : Tree → ℕ
 line_at (At line) = line
 line_at tree = 0
-
-abbrev pub is_static_word : Word → Bool
-is_static_word (Key k.Static) = true
-is_static_word word = false
-
--- whether `static` is one of the words of specs
-unfoldable pub has_static : Trees → Bool
-has_static none = false
-has_static (Leaf word ▹ rest) = is_static_word word || has_static rest
-has_static (tree ▹ rest) = has_static rest
 
 -- a name, unless it is that of the program's first function
 abbrev pub but_main : Option (List ℕ) → List (List ℕ)

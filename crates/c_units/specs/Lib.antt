@@ -6,7 +6,6 @@ pub mod Sets
 pub mod Turns
 pub mod Rewriting
 pub mod Kept
-pub mod SpecWords
 pub mod Binding
 pub mod KeptBindings
 pub mod MergedBindings

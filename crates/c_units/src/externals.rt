@@ -9,7 +9,6 @@ ghost use Rattle.c_units.specs.Rewriting.{body_start, RenamesBody, LeavesBody, R
 
 use crate::declarations::declared_name;
 use crate::mention::Role;
-use crate::spec_words::has_typedef;
 use crate::walk::Walk;
 use c_tree::{Decl, Declarator, Init, Stmt};
 use hs_base::{Items, Line, NoMemory};
@@ -150,7 +149,7 @@ impl Walk {
                 self.function_body(declarator, body)
             }
             Decl::Names { line, specs, names } => {
-                let typedef = has_typedef(&specs.words);
+                let typedef = specs.has_typedef();
                 self.specs(specs)?;
                 self.file_entries(*line, typedef, names)
             }

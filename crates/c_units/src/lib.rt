@@ -25,7 +25,6 @@ mod name_set;
 mod names;
 mod program;
 mod said;
-mod spec_words;
 mod statements;
 mod statics;
 mod taken;

@@ -7,7 +7,6 @@ ghost use Rattle.c_units.specs.Mentions.{all_noted};
 
 use crate::declarations::declared_name;
 use crate::name_set::NameSet;
-use crate::spec_words::has_static;
 use c_tree::{Decl, Declarator, Init, Unit};
 use hs_base::NoMemory;
 use std::alloc::Global;
@@ -44,7 +43,7 @@ fn note_all(
 }
 
 /// Notes what an external declaration declares `static`.
-#[tactic(auto, unfolding(crate::specs::Externals::static_names, crate::specs::Externals::has_static), using(crate::proofs::StaticNames::function_static))]
+#[tactic(auto, unfolding(crate::specs::Externals::static_names, c_tree::specs::SpecWords::has_static), using(crate::proofs::StaticNames::function_static))]
 fn note_static(alloc: Global, names: &mut NameSet, decl: &Decl) -> Result<(), NoMemory>
     ensures { OnOk result (names.new ≡ all_noted names.old (static_names (decl_view decl.now))) }
 {
@@ -54,7 +53,7 @@ fn note_static(alloc: Global, names: &mut NameSet, decl: &Decl) -> Result<(), No
             declarator,
             ..
         } => {
-            if has_static(&specs.words) {
+            if specs.has_static() {
                 note(alloc, names, declarator)
             } else {
                 Ok(())
@@ -65,7 +64,7 @@ fn note_static(alloc: Global, names: &mut NameSet, decl: &Decl) -> Result<(), No
             names: list,
             ..
         } => {
-            if has_static(&specs.words) {
+            if specs.has_static() {
                 note_all(alloc, names, list.as_slice())
             } else {
                 Ok(())

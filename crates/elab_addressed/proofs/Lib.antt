@@ -2,6 +2,5 @@ pub mod ListTurns
 pub mod ItemTurns
 pub mod ScopeEnds
 pub mod TreeParts
-pub mod Typedefs
 pub mod DefinedParams
 pub mod Addresses

@@ -6,7 +6,6 @@ ghost use Rattle.c_tree.specs.View.{expr_tree, spec_tree, tag_tree, enumerator_t
 ghost use Rattle.c_tree.specs.StatementView.{trees, expr_view, specs_view, typename_view, tag_view, member_view, suffix_view, param_view};
 ghost use Rattle.elaboration.specs.Addressed.{taken, left_scope};
 ghost use Rattle.elab_addressed.specs.Turns.{in_turn, settled, behind_operator, Settles, prototype_taken};
-ghost use Rattle.elab_addressed.specs.Words.{is_typedef_word};
 
 use crate::taken::{Taken, plain_name};
 use c_tree::{
@@ -106,29 +105,6 @@ fn typename(state: &mut Taken, ty: &TypeName) -> Result<(), NoMemory>
     Ok(())
 }
 
-/// Whether a word of specs is `typedef`.
-fn is_typedef(word: &Spec) -> bool
-    ensures { result ≡ is_typedef_word word.now }
-{
-    match word {
-        Spec::Typedef => true,
-        _ => false,
-    }
-}
-
-/// Whether `typedef` is one of the words of specs.
-#[tactic(auto, using(crate::proofs::Typedefs::typedef_next, crate::proofs::Typedefs::typedef_found, crate::proofs::Typedefs::typedef_end))]
-fn has_typedef(list: &[Spec]) -> bool
-    ensures { result ≡ has_typedef (trees spec_tree list.now) }
-{
-    for word in list {
-        if is_typedef(word) {
-            return true;
-        }
-    }
-    false
-}
-
 /// Specs: those with `typedef` say that the running declaration is one of typedef names.
 #[cycle(walk)]
 #[tactic(auto, unfolding(elaboration::specs::Addressed::taken, elaboration::specs::Addressed::left, c_tree::specs::Grammar::shape, c_tree::specs::Scopes::is_scope, c_tree::specs::Scopes::has_typedef), using(crate::proofs::ListTurns::specs_turn))]
@@ -137,7 +113,7 @@ pub(crate) fn specs(state: &mut Taken, specs: &Specs) -> Result<(), NoMemory>
 {
     let typedef = state.is_typedef();
     words(state, &specs.words)?;
-    state.set_typedef_by(has_typedef(&specs.words), typedef);
+    state.set_typedef_by(specs.has_typedef(), typedef);
     Ok(())
 }
 

@@ -1,13 +1,28 @@
-//! Words of specs.
+//! What stands among the words of specs (C99 6.7.1).
 
 ghost use Rattle.std.specs.Prelude.{◌≡◌};
 ghost use Rattle.c_tree.specs.Scopes.{has_typedef};
 ghost use Rattle.c_tree.specs.StatementView.{trees};
 ghost use Rattle.c_tree.specs.View.{spec_tree};
-ghost use Rattle.c_units.specs.Externals.{has_static};
-ghost use Rattle.c_units.specs.SpecWords.{is_static_spec, is_typedef_spec};
+ghost use Rattle.c_tree.specs.SpecWords.{has_static, is_static_spec, is_typedef_spec};
 
-use c_tree::Spec;
+use crate::tree::{Spec, Specs};
+
+impl Specs {
+    /// Whether `typedef` is one of the words.
+    pub fn has_typedef(&self) -> bool
+        ensures { result ≡ has_typedef (trees spec_tree self.now.words.items) }
+    {
+        has_typedef(&self.words)
+    }
+
+    /// Whether `static` is one of the words.
+    pub fn has_static(&self) -> bool
+        ensures { result ≡ has_static (trees spec_tree self.now.words.items) }
+    {
+        has_static(&self.words)
+    }
+}
 
 /// Whether a word of specs is `typedef`.
 fn is_typedef(word: &Spec) -> bool
@@ -21,7 +36,7 @@ fn is_typedef(word: &Spec) -> bool
 
 /// Whether `typedef` is one of the words of specs.
 #[tactic(auto, using(crate::proofs::SpecWords::typedef_next, crate::proofs::SpecWords::typedef_found, crate::proofs::SpecWords::typedef_end))]
-pub(crate) fn has_typedef(list: &[Spec]) -> bool
+fn has_typedef(list: &[Spec]) -> bool
     ensures { result ≡ has_typedef (trees spec_tree list.now) }
 {
     for word in list {
@@ -44,7 +59,7 @@ fn is_static(word: &Spec) -> bool
 
 /// Whether `static` is one of the words of specs.
 #[tactic(auto, using(crate::proofs::SpecWords::static_next, crate::proofs::SpecWords::static_found, crate::proofs::SpecWords::static_end))]
-pub(crate) fn has_static(list: &[Spec]) -> bool
+fn has_static(list: &[Spec]) -> bool
     ensures { result ≡ has_static (trees spec_tree list.now) }
 {
     for word in list {

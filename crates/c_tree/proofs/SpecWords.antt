@@ -9,8 +9,7 @@ use Rattle.c_tree.specs.declared.tree.Spec.{Spec}
 use Rattle.c_tree.specs.declared.tree.Spec.TheVariants as c
 use Rattle.c_tree.specs.declared.tree.TagKind.{TagKind}
 use Rattle.c_tree.specs.declared.tree.TagKind.TheVariants as t
-use Rattle.c_units.specs.Externals.{has_static}
-use Rattle.c_units.specs.SpecWords.{is_static_spec, is_typedef_spec}
+use Rattle.c_tree.specs.SpecWords.{has_static, is_static_spec, is_typedef_spec}
 
 -- a test of words that is known word by word
 module _ (has : Trees → Bool) (test : Spec → Bool) where

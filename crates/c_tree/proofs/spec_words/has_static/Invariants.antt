@@ -1,8 +1,8 @@
 use Rattle.std.proofs.Common.{◌≡◌, drop}
-use Rattle.c_units.specs.Externals.{has_static}
+use Rattle.c_tree.specs.SpecWords.{has_static}
 use Rattle.c_tree.specs.View.{spec_tree}
 use Rattle.c_tree.specs.StatementView.{trees}
-use Rattle.c_units.proofs.spec_words.has_static.Given as goal
+use Rattle.c_tree.proofs.spec_words.has_static.Given as goal
 
 -- the words that are left decide
 abbrev pub invariant-loop-word : goal.invariant-loop-word
