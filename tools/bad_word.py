@@ -6,8 +6,8 @@ It says nothing where there is none: a status of 120 may be a program's own."""
 import re
 import sys
 
-OF_A_RUN = ["--heap", "--stack", "--steps", "--leaks", "--explain"]
-OPTIONS = {"run": OF_A_RUN, "exec": OF_A_RUN, "mean": ["--heap", "--steps", "--explain"]}
+OF_A_RUN = ["--heap", "--stack", "--steps", "--leaks", "--explain", "--json"]
+OPTIONS = {"run": OF_A_RUN, "exec": OF_A_RUN, "mean": ["--heap", "--steps", "--explain", "--json"]}
 # how many words each command takes at most beside its options
 COMMANDS = {"run": 64, "mean": 64, "print": 1, "layout": 64, "list": 64, "live": 64, "compile": 64, "exec": 1, "self": 1}
 # what the launcher answers by itself: alone, and with a folder behind it

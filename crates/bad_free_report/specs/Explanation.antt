@@ -48,18 +48,26 @@ trap_help Divide = codes "test the divisor for 0 first"
 trap_help Shift = codes "keep the count at 0 or more, and below the number of bits"
 trap_help Abort = codes "the program stopped itself: look for what led to this call of abort"
 
+-- what to mend at an escape, and where the steps or the stack are used up
+abbrev pub escape_help : List ℕ
+escape_help = codes "the local ends here: take the object from malloc, let the caller pass it in, or make it a variable at file scope"
+
+abbrev pub steps_help : List ℕ
+steps_help = codes "look for a loop or a recursion that does not end, or allow more steps"
+
+abbrev pub stack_help : List ℕ
+stack_help = codes "look for a recursion that does not end, take large arrays from malloc, or allow more stack"
+
 -- the lines for each kind of end; none of an exit, and none where the input or the output failed, since nothing of the program is
 -- to be mended
 abbrev pub explained : InForce → End → List ℕ
 explained limits (Exit code) = []
 explained limits (Trap kind line) = help_line (trap_help kind)
 explained limits (BadFree free holder) = help_line (free_help free.reason holder)
-explained limits (Escape f index line) =
-    help_line (codes "the local ends here: take the object from malloc, let the caller pass it in, or make it a variable at file scope")
-explained limits Spent =
-    help_line (codes "look for a loop or a recursion that does not end, or allow more steps") ++ limit_line limits.steps (codes " steps, raised by --steps")
+explained limits (Escape f index line) = help_line escape_help
+explained limits Spent = help_line steps_help ++ limit_line limits.steps (codes " steps, raised by --steps")
 explained limits (OutOfStack line) =
-    help_line (codes "look for a recursion that does not end, take large arrays from malloc, or allow more stack") ++ limit_line limits.stack (codes " bytes of stack, raised by --stack")
+    help_line stack_help ++ limit_line limits.stack (codes " bytes of stack, raised by --stack")
 explained limits InputFault = []
 explained limits OutputFault = []
 

@@ -1,2 +1,7 @@
 pub mod Report
 pub mod Explanation
+pub mod Json
+pub mod Notice
+pub mod Parts
+pub mod Pieces
+pub mod Told

@@ -17,7 +17,7 @@ use hs_base::{BadFree, End, Failed, Holder, Reason, Sink};
 /// the end of the steps and a fault of input or output one line. `name` and `text` are those of the C text, and `core` is
 /// its core, from which functions, statics and locals have their names. After a failure, which is the last call on the
 /// sink, a prefix was taken.
-pub fn report<E: Sink>(
+pub(crate) fn report<E: Sink>(
     end: &End,
     core: &Core,
     name: &[u8],

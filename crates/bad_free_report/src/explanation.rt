@@ -9,6 +9,18 @@ use crate::parts::put_parts;
 use hs_base::{End, Failed, Holder, Reason, Sink, TrapKind};
 use itoa::Buffer;
 
+/// What to mend at an escape.
+pub(crate) const ESCAPE_HELP: &[u8] =
+    b"the local ends here: take the object from malloc, let the caller pass it in, or make it a variable at file scope";
+
+/// What to mend where the steps are used up.
+pub(crate) const STEPS_HELP: &[u8] =
+    b"look for a loop or a recursion that does not end, or allow more steps";
+
+/// What to mend where the stack is.
+pub(crate) const STACK_HELP: &[u8] =
+    b"look for a recursion that does not end, take large arrays from malloc, or allow more stack";
+
 /// The limits that a run was under: how many steps it was allowed, and the bytes of its stack.
 #[derive(Clone, Copy)]
 pub struct InForce {
@@ -34,7 +46,7 @@ fn holder_help(holder: Option<Holder>) -> &'static [u8]
 }
 
 /// What to mend at a bad free.
-fn free_help(reason: Reason, holder: Option<Holder>) -> &'static [u8]
+pub(crate) fn free_help(reason: Reason, holder: Option<Holder>) -> &'static [u8]
     ensures { result.now ≡ free_help reason holder }
 {
     match reason {
@@ -45,7 +57,7 @@ fn free_help(reason: Reason, holder: Option<Holder>) -> &'static [u8]
 }
 
 /// What to mend at a trap.
-fn trap_help(kind: TrapKind) -> &'static [u8]
+pub(crate) fn trap_help(kind: TrapKind) -> &'static [u8]
     ensures { result.now ≡ trap_help kind }
 {
     match kind {
@@ -90,10 +102,7 @@ fn put_spent<E: Sink>(err: &mut E, limits: InForce) -> Result<(), Failed>
     ensures bytes { PutsAll (E.taken err.old) (E.taken err.new) (explained limits End.Spent) result }
     ensures cause { CountsFaults (E.faults err.old) (E.faults err.new) result }
 {
-    put_help(
-        err,
-        b"look for a loop or a recursion that does not end, or allow more steps",
-    )?;
+    put_help(err, STEPS_HELP)?;
     put_limit(err, limits.steps, b" steps, raised by --steps")
 }
 
@@ -103,10 +112,7 @@ fn put_out_of_stack<E: Sink>(err: &mut E, limits: InForce) -> Result<(), Failed>
     ensures bytes { PutsAll (E.taken err.old) (E.taken err.new) (explained limits (End.OutOfStack 0)) result }
     ensures cause { CountsFaults (E.faults err.old) (E.faults err.new) result }
 {
-    put_help(
-        err,
-        b"look for a recursion that does not end, take large arrays from malloc, or allow more stack",
-    )?;
+    put_help(err, STACK_HELP)?;
     put_limit(
         err,
         u64::from(limits.stack),
@@ -118,7 +124,7 @@ fn put_out_of_stack<E: Sink>(err: &mut E, limits: InForce) -> Result<(), Failed>
 /// spaces. One says what to mend, and behind a want of stack and the end of the steps another the limit that was in force and
 /// the option that raises it. Of an exit nothing is written, nor where the input or the output failed. After a failure, which is
 /// the last call on the sink, a prefix was taken.
-pub fn explain<E: Sink>(end: &End, asked: Option<InForce>, err: &mut E) -> Result<(), Failed>
+pub(crate) fn explain<E: Sink>(end: &End, asked: Option<InForce>, err: &mut E) -> Result<(), Failed>
     requires { E.faults err.old + 1 < 2 ^ 64 }
     ensures bytes { PutsAll (E.taken err.old) (E.taken err.new) (explanation end.now asked) result }
     ensures cause { CountsFaults (E.faults err.old) (E.faults err.new) result }
@@ -129,10 +135,7 @@ pub fn explain<E: Sink>(end: &End, asked: Option<InForce>, err: &mut E) -> Resul
     match *end {
         End::Trap(kind, _) => put_help(err, trap_help(kind)),
         End::BadFree(free, holder) => put_help(err, free_help(free.reason, holder)),
-        End::Escape { .. } => put_help(
-            err,
-            b"the local ends here: take the object from malloc, let the caller pass it in, or make it a variable at file scope",
-        ),
+        End::Escape { .. } => put_help(err, ESCAPE_HELP),
         End::Spent => put_spent(err, limits),
         End::OutOfStack(_) => put_out_of_stack(err, limits),
         End::Exit(_) | End::InputFault | End::OutputFault => Ok(()),

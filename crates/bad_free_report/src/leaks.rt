@@ -11,7 +11,7 @@ use itoa::Buffer;
 
 /// Writes `leak: line LINE: K blocks, B bytes` and a line feed: the line of birth, how many heap objects of it are left,
 /// and the sum of their sizes in bytes. After a failure, which is the last call on the sink, a prefix was taken.
-pub fn leak_line<E: Sink>(leak: &Leak, err: &mut E) -> Result<(), Failed>
+pub(crate) fn leak_line<E: Sink>(leak: &Leak, err: &mut E) -> Result<(), Failed>
     requires { E.faults err.old + 1 < 2 ^ 64 }
     ensures bytes { PutsAll (E.taken err.old) (E.taken err.new) (leak_text leak.now) result }
     ensures cause { CountsFaults (E.faults err.old) (E.faults err.new) result }

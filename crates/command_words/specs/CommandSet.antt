@@ -25,14 +25,15 @@ option name = record (new_rule name) { long = Some name }
 abbrev pub flag : Text → Rule
 flag name = record (new_rule name) { long = Some name; action = Some SetTrue }
 
--- a command with its file or files and what may be said of a run: `[--heap N] [--stack N] [--steps N] [--leaks] [--explain]`
+-- a command with its file or files and what may be said of a run: `[--heap N] [--stack N] [--steps N] [--leaks] [--explain] [--json]`
 abbrev pub running : Text → Rule → App
 running name word =
-    with_rule (with_rule (with_rule (with_rule (with_rule (with_rule (new_app name) word) (option (codes "heap"))) (option (codes "stack"))) (option (codes "steps"))) (flag (codes "leaks"))) (flag (codes "explain"))
+    with_rule (with_rule (with_rule (with_rule (with_rule (with_rule (with_rule (new_app name) word) (option (codes "heap"))) (option (codes "stack"))) (option (codes "steps"))) (flag (codes "leaks"))) (flag (codes "explain"))) (flag (codes "json"))
 
--- `mean FILE.. [--heap N] [--steps N] [--explain]`
+-- `mean FILE.. [--heap N] [--steps N] [--explain] [--json]`
 abbrev pub mean : App
-mean = with_rule (with_rule (with_rule (with_rule (new_app (codes "mean")) files) (option (codes "heap"))) (option (codes "steps"))) (flag (codes "explain"))
+mean =
+    with_rule (with_rule (with_rule (with_rule (with_rule (new_app (codes "mean")) files) (option (codes "heap"))) (option (codes "steps"))) (flag (codes "explain"))) (flag (codes "json"))
 
 -- a command with its words alone
 abbrev pub plain : Text → Rule → App

@@ -1,5 +1,5 @@
 -- What the words of the command line ask for.
-use Rattle.std.specs.Prelude.{◌≡◌, ◌≤◌, ⊤, ℕ, Bool, false, ◌&&◌, cond, nat_eq, nat_le, List as Listed, length, map, Option, Some, None, option_and_then, option_map, Result, Ok, Err, codes}
+use Rattle.std.specs.Prelude.{◌≡◌, ◌≤◌, ⊤, ℕ, Bool, false, ◌&&◌, ◌||◌, cond, nat_eq, nat_le, List as Listed, length, map, Option, Some, None, option_and_then, option_map, Result, Ok, Err, codes}
 use Rattle.std.specs.List.{list_all}
 use Rattle.std.specs.Option.{option_map_or}
 use Rattle.std.specs.Str.{bytes_eq}
@@ -60,6 +60,10 @@ functions_in word = within 1 2000 (number_in word)
 abbrev pub flag_in : Text → Listed Row → Bool
 flag_in name rows = option_map_or (λ word. bytes_eq word (codes "true")) (first_of name rows) false
 
+-- an end is explained where that is asked for, and where an object of JSON is, which has all of it
+abbrev pub is_explained : Listed Row → Bool
+is_explained rows = flag_in (codes "explain") rows || flag_in (codes "json") rows
+
 -- how many files a task takes at most
 abbrev pub most_files : Task → ℕ
 most_files Print = 1
@@ -81,7 +85,7 @@ files_in task rows = option_and_then (λ files. with_files files task) (all_of (
 -- what a command says of a run, by the values of its arguments
 abbrev pub options_in : Listed Row → Option Options
 options_in rows =
-    option_and_then (λ heap. option_and_then (λ stack. option_map (λ steps. let o : Options = record { heap = heap; stack = stack; steps = steps; leaks = flag_in (codes "leaks") rows; explain = flag_in (codes "explain") rows } in o) (steps_in (first_of (codes "steps") rows))) (stack_in (first_of (codes "stack") rows))) (heap_in (first_of (codes "heap") rows))
+    option_and_then (λ heap. option_and_then (λ stack. option_map (λ steps. let o : Options = record { heap = heap; stack = stack; steps = steps; leaks = flag_in (codes "leaks") rows; explain = is_explained rows } in o) (steps_in (first_of (codes "steps") rows))) (stack_in (first_of (codes "stack") rows))) (heap_in (first_of (codes "heap") rows))
 
 -- what a command asks for, by the values of its arguments
 abbrev pub run_in : Listed Row → Option Command
@@ -94,7 +98,7 @@ exec_in rows =
 
 abbrev pub mean_in : Listed Row → Option Command
 mean_in rows =
-    option_and_then (λ heap. option_and_then (λ steps. files_in (Mean heap steps (flag_in (codes "explain") rows)) rows) (steps_in (first_of (codes "steps") rows))) (heap_in (first_of (codes "heap") rows))
+    option_and_then (λ heap. option_and_then (λ steps. files_in (Mean heap steps (is_explained rows)) rows) (steps_in (first_of (codes "steps") rows))) (heap_in (first_of (codes "heap") rows))
 
 abbrev pub self_in : Listed Row → Option Command
 self_in rows =

@@ -4,7 +4,7 @@ ghost use Rattle.std.specs.Prelude.{◌≡◌, ⊤, IfOk, IfSome, MatchOption, m
 ghost use Rattle.std.specs.List.{list_all};
 ghost use Rattle.clap.specs.Words.{all_of, first_of, found_of, rows_of};
 ghost use Rattle.command_words.specs.Numbers.{is_file};
-ghost use Rattle.command_words.specs.Commands.{command_of, command_shown, task_shown, asked, run_in, exec_in, options_in, Run, mean_in, most_files, are_files, files_in, self_in, flag_in, task_named, with_files, HasLimits, IsLimited, IsRead};
+ghost use Rattle.command_words.specs.Commands.{command_of, command_shown, task_shown, asked, run_in, exec_in, options_in, Run, mean_in, most_files, are_files, files_in, self_in, flag_in, is_explained, task_named, with_files, HasLimits, IsLimited, IsRead};
 
 use crate::error::WordsError;
 use crate::set::command_set;
@@ -145,6 +145,13 @@ fn flag(found: &ArgMatches, id: &str) -> bool
     }
 }
 
+/// Whether an end is explained: where that is asked for, and where an object of JSON is, which has all of it.
+fn is_explained(found: &ArgMatches) -> bool
+    ensures { result ≡ is_explained (rows_of (found_of found.now)) }
+{
+    flag(found, "explain") || flag(found, "json")
+}
+
 /// What is said of a run, by the values of a command's arguments.
 fn run_options(found: &ArgMatches) -> Option<Options>
     ensures value { result ≡ options_in (rows_of (found_of found.now)) }
@@ -154,7 +161,7 @@ fn run_options(found: &ArgMatches) -> Option<Options>
     let stack = stack(value_of(found, "stack"))?;
     let steps = steps(value_of(found, "steps"))?;
     let leaks = flag(found, "leaks");
-    let explain = flag(found, "explain");
+    let explain = is_explained(found);
     Some(Options {
         heap,
         stack,
@@ -232,7 +239,7 @@ fn mean<'a>(alloc: Global, found: &ArgMatches<'a>) -> Result<Command<'a>, WordsE
     let Some(steps) = steps(value_of(found, "steps")) else {
         return Err(WordsError::Usage);
     };
-    let explain = flag(found, "explain");
+    let explain = is_explained(found);
     let task = Task::Mean {
         heap,
         steps,

@@ -52,7 +52,8 @@ fn running<'a>(alloc: Global, name: &'a str, word: Arg<'a>) -> Result<Command<'a
         .arg(option(alloc, "stack"))?
         .arg(option(alloc, "steps"))?
         .arg(flag(alloc, "leaks"))?
-        .arg(flag(alloc, "explain"))
+        .arg(flag(alloc, "explain"))?
+        .arg(flag(alloc, "json"))
 }
 
 /// Adds a command with its file or files and what may be said of a run.
@@ -69,7 +70,7 @@ fn add_running<'a>(
     program.subcommand(running(alloc, name, word)?)
 }
 
-/// Adds `mean FILE.. [--heap N] [--steps N] [--explain]`.
+/// Adds `mean FILE.. [--heap N] [--steps N] [--explain] [--json]`.
 fn add_mean<'a>(alloc: Global, program: Command<'a>) -> Result<Command<'a>, AllocError>
     ensures { IfOk result (λ c. app_of c ≡ with_subcommand (app_of program.entry) mean.top) }
 {
@@ -77,7 +78,8 @@ fn add_mean<'a>(alloc: Global, program: Command<'a>) -> Result<Command<'a>, Allo
         .arg(files(alloc))?
         .arg(option(alloc, "heap"))?
         .arg(option(alloc, "steps"))?
-        .arg(flag(alloc, "explain"))?;
+        .arg(flag(alloc, "explain"))?
+        .arg(flag(alloc, "json"))?;
     program.subcommand(mean)
 }
 

@@ -4,8 +4,9 @@ use Rattle.std.specs.Prelude.{cond}
 use Rattle.std.proofs.lemmas.Bool.{le-ltb}
 use Rattle.std.proofs.lemmas.List.{append-nil}
 use Rattle.command_words.specs.Commands.{Command, Execute, Generated, OnFiles}
+use Rattle.bad_free_report.specs.Notice.{Notice, said}
 use Rattle.heapsafe.specs.Shown.{Shown, written, no_memory, output_fault}
-use Rattle.heapsafe.specs.Saying.{Breaks, BreaksOff, BreaksOne, IsSaid, Says, SaysMore, SaysOnly, TakesFront, unread_files}
+use Rattle.heapsafe.specs.Saying.{Breaks, BreaksOff, BreaksOne, IsSaid, Says, SaysMore, SaysOnly, TakesFront, TakesSome, unread_files}
 use Rattle.heapsafe.specs.Sight.{KeepsBoth, KeepsInput, Sight}
 
 -- all of some bytes are a front of them
@@ -24,13 +25,13 @@ unread_none (Some (Execute file heap stack steps leaks explain)) t t' same = ap 
 unread_none (Some (OnFiles files task)) t t' same = ap (λ b. cond b (Some files) None) (le-ltb t t' (omega (arith, same)))
 
 module _ {I O E : Type 0} (before after : Sight I O E) (result : ℕ) where
-  -- the error stream took a front of these bytes, and nothing more was written to it where it failed
-  abbrev pub Fronts : List ℕ → Type 0
-  Fronts bytes = TakesFront before.said after.said bytes × (after.err_faults ≤ before.err_faults + 1)
+  -- the error stream took a front of what is said, and nothing more was written to it where it failed
+  abbrev pub Fronts : Notice → Type 0
+  Fronts notice = TakesSome before after notice × (after.err_faults ≤ before.err_faults + 1)
 
-  pub says_front : (status : ℕ) (bytes : List ℕ) → Says before after bytes status result → Fronts bytes
-  says_front status bytes said =
-      ⊎_elim (λ h. (all_front before.said after.said bytes h.2, omega (arith, h.0))) (λ h. (h.2, omega (arith, h.0))) said
+  pub says_front : (status : ℕ) (notice : Notice) → Says before after notice status result → Fronts notice
+  says_front status notice says =
+      ⊎_elim (λ h. (all_front before.said after.said (said before.form notice) h.2, omega (arith, h.0))) (λ h. (h.2, omega (arith, h.0))) says
 
   -- the input and the output are as before
   pub broken_said : (unread : Option (List (List ℕ))) (s a : Shown) (left : List ℕ) → IsSaid unread a before after s.err → before.left ≡ Some left → SaysOnly s before after result → Breaks unread a left before after
@@ -44,7 +45,7 @@ module _ {I O E : Type 0} (before after : Sight I O E) (result : ℕ) where
         is_lost = refl;
         is_read = refl;
         out_took = no_front before.taken after.taken a.out said.keeps.out.taken;
-        line = s.err;
+        words = s.err;
         is_said = is;
         err_took = front.0;
         out_stops = omega (arith, said.keeps.out.faults);
@@ -70,7 +71,7 @@ module _ {I O E : Type 0} (before after : Sight I O E) (result : ℕ) where
         is_lost = refl;
         is_read = refl;
         out_took = subst (λ (x : Shown). TakesFront before.taken after.taken x.out) (sym is) took;
-        line = output_fault.err;
+        words = output_fault.err;
         is_said = inr (inl (omega (arith, counts), refl));
         err_took = front.0;
         out_stops = omega (arith, counts);

@@ -18,15 +18,16 @@ use Rattle.flat_codegen.specs.Running as core_runs
 use Rattle.meaning_run.specs.Meant.{MeanAnswers, StopsAtIn, Stopped, end_in}
 use Rattle.meaning_run.specs.Meant as meant_runs
 use Rattle.flat_machine.specs.Running.{RunAnswers, RunCounts, Whole, cut_of}
-use Rattle.heapsafe.specs.Shown.{Shown, no_memory}
-use Rattle.heapsafe.specs.Places.{told_end_of, told_leaks}
-use Rattle.heapsafe.specs.Program.{AnswersProgram, AnswersWay, AreTold, Done, Ended, Input, TellsNone, ended, explains_mean, input_of, run_within, meant, status_of, unfinished}
+use Rattle.bad_free_report.specs.Notice.{Notice}
+use Rattle.heapsafe.specs.Shown.{Shown, input_fault, no_memory, output_fault}
+use Rattle.heapsafe.specs.Program.{AnswersProgram, AnswersWay, AreTold, Done, Ended, Input, TellsNone, ended, explains_mean, input_of, run_within, meant, status_of, told_notice, unfinished}
 use Rattle.heapsafe.specs.Saying.{Breaks, Gives, IsFault, IsSaid, Puts, Says, SaysCounts, SaysLeaks, SaysOnly, SaysOwn, TakesAll}
 use Rattle.heapsafe.specs.Serving.{Runs}
 use Rattle.heapsafe.specs.Sight.{KeepsBoth, Sight}
 use Rattle.heapsafe.specs.declared.program.Way.TheVariants.{Mean}
 use Rattle.heapsafe.proofs.Served.{says_from}
-use Rattle.heapsafe.proofs.Told.{gives, said_faults}
+use Rattle.heapsafe.proofs.Told.{gives, said_faults, says_same}
+use Rattle.heapsafe.proofs.Reported.{input_said, output_said}
 use Rattle.heapsafe.proofs.Ended.{IsNoExit, input_end, none_told, output_end, program_faults, same_some, stopped_is, tells_none, whole_is}
 use Rattle.heapsafe.proofs.Broken.{Fronts, says_front}
 use Rattle.heapsafe.proofs.Statuses.{end_cause, end_refused, never_refused, no_fault, own_end}
@@ -154,22 +155,31 @@ same_end : (x y : End) → Some x ≡ Some y → x ≡ y
 same_end x y e = cc
 
 module _ {I O E : Type 0} (file : List ℕ) (opened : List Opened) (core : Core) (asked : Option InForce) (before after : Sight I O E) (result : ℕ) where
-  -- the report of an end was said, and nothing else
-  abbrev pub Plain : End → Type 0
-  Plain x = Says before after (told_end_of core file opened asked x) (status_of x) result
+  -- what is said of an end, with these leaks
+  abbrev told : End → List Leak → Notice
+  told x leaks = told_notice file opened core asked x leaks
 
-  -- and then some leaks
+  -- it was said with some leaks
   abbrev Reported : End → List Leak → Type 0
-  Reported x leaks = Says before after (told_end_of core file opened asked x ++ told_leaks opened leaks) (status_of x) result
+  Reported x leaks = Says before after (told x leaks) (status_of x) result
 
-  plain : (x : End) → Plain x → Reported x []
-  plain x said =
-      subst (λ (bytes : List ℕ). Says before after bytes (status_of x) result) (sym (append-nil (told_end_of core file opened asked x))) said
+  -- and without
+  abbrev pub Plain : End → Type 0
+  Plain x = Reported x []
 
-  -- what is told of a run: nothing behind its report, or behind an exit its leaks
-  pub record Telling (objects : List Object) (leaks : Bool) (x : End) : Type 0 where
+  -- where the input or the output failed, that was said
+  input_line : Plain end.InputFault → Says before after input_fault.err 132 result
+  input_line said =
+      says_same before after result (told end.InputFault []) input_fault.err 132 (input_said before.form file opened core asked) said
+
+  output_line : Plain end.OutputFault → Says before after output_fault.err 133 result
+  output_line said =
+      says_same before after result (told end.OutputFault []) output_fault.err 133 (output_said before.form file opened core asked) said
+
+  -- what is told of a run: no leaks, or behind an exit those that there are
+  pub record Tells (objects : List Object) (leaks : Bool) (x : End) : Type 0 where
     pub none : TellsNone leaks x → Plain x
-    pub some : (code : ℕ) → IsTrue leaks → x ≡ end.Exit code → SaysLeaks opened objects before after code result
+    pub some : (code : ℕ) → IsTrue leaks → x ≡ end.Exit code → SaysLeaks (record { file = file; opened = opened; core = core; asked = asked }) objects before after code result
 
   module _ (left put : List ℕ) (took : TakesAll before.taken after.taken put) (events : List Event) (ends : Option End) (objects : List Object) where
     abbrev Made : End → Type 0
@@ -199,20 +209,20 @@ module _ {I O E : Type 0} (file : List ℕ) (opened : List Opened) (core : Core)
       stopped leaks more s said =
           gives before after result (λ a. Is leaks a) (ended file opened core asked s.before end.InputFault []) left s.left
           (inl (stopped_is file opened core asked (done_of events ends objects leaks) s.before s.byte s.rest before.input_faults after.input_faults more s.is))
-          s.is_left s.is_read (wrote (bytes_out s.before) s.is_taken) same (plain end.InputFault said)
+          s.is_left s.is_read (wrote (bytes_out s.before) s.is_taken) same said
 
-      exit : (leaks : Bool) (code : ℕ) → Made (end.Exit code) → after.input_faults ≡ before.input_faults → Telling objects leaks (end.Exit code) → Gave leaks
-      exit false code w stays t = whole false (end.Exit code) [] w stays refl (plain (end.Exit code) (t.none tt))
+      exit : (leaks : Bool) (code : ℕ) → Made (end.Exit code) → after.input_faults ≡ before.input_faults → Tells objects leaks (end.Exit code) → Gave leaks
+      exit false code w stays t = whole false (end.Exit code) [] w stays refl (t.none tt)
       exit true code w stays t =
           let said = t.some code refl refl in
           let leaks = said.all same in
           whole true (end.Exit code) leaks.0 w stays leaks.1 (said.says leaks.0 leaks.1)
 
-      other : (leaks : Bool) (x : End) → IsNoExit x → Made x → after.input_faults ≡ before.input_faults → Telling objects leaks x → Gave leaks
+      other : (leaks : Bool) (x : End) → IsNoExit x → Made x → after.input_faults ≡ before.input_faults → Tells objects leaks x → Gave leaks
       other leaks x unlike w stays t =
-          whole leaks x [] w stays (none_told (done_of events ends objects leaks).left x unlike) (plain x (t.none (tells_none leaks x unlike)))
+          whole leaks x [] w stays (none_told (done_of events ends objects leaks).left x unlike) (t.none (tells_none leaks x unlike))
 
-      gives_done : (leaks : Bool) (x : End) → Makes events ends left x after.left (Some put) → Counts x → after.out_faults ≡ before.out_faults → Telling objects leaks x → Gave leaks
+      gives_done : (leaks : Bool) (x : End) → Makes events ends left x after.left (Some put) → Counts x → after.out_faults ≡ before.out_faults → Tells objects leaks x → Gave leaks
       gives_done leaks (end.Exit code) w counts stays t = exit leaks code w counts.0 t
       gives_done leaks (end.Trap kind line) w counts stays t = other leaks (end.Trap kind line) tt w counts.0 t
       gives_done leaks (end.BadFree why holder) w counts stays t = other leaks (end.BadFree why holder) tt w counts.0 t
@@ -228,8 +238,8 @@ module _ {I O E : Type 0} (file : List ℕ) (opened : List Opened) (core : Core)
     Broke a = Breaks None a left before after
 
     -- the events before some others were made
-    pub parted : (a : Shown) (first rest : List Event) (kept : List ℕ) (how : End) (told : List Leak) → events ≡ first ++ rest → a ≡ ended file opened core asked events how told → after.left ≡ Some kept → bytes_in first ++ kept ≡ left → Some put ≡ Some (bytes_out first) → (line : List ℕ) → IsSaid None a before after line → Fronts before after result line → after.out_faults ≤ before.out_faults + 1 → Broke a
-    parted a first rest kept how told split is is_left is_lost written line said front stops = record {
+    pub parted : (a : Shown) (first rest : List Event) (kept : List ℕ) (how : End) (told : List Leak) → events ≡ first ++ rest → a ≡ ended file opened core asked events how told → after.left ≡ Some kept → bytes_in first ++ kept ≡ left → Some put ≡ Some (bytes_out first) → (words : Notice) → IsSaid None a before after words → Fronts before after result words → after.out_faults ≤ before.out_faults + 1 → Broke a
+    parted a first rest kept how told split is is_left is_lost written words said front stops = record {
       lost = bytes_in first;
       kept = kept;
       more = bytes_in rest;
@@ -242,7 +252,7 @@ module _ {I O E : Type 0} (file : List ℕ) (opened : List Opened) (core : Core)
         sym (ap (λ (s : Shown). s.out) is ∙ ap bytes_out split ∙ out_of_parts first rest),
         took t h ∙ ap (λ (b : List ℕ). Some (t ++ b)) (same_some put (bytes_out first) written),
       );
-      line = line;
+      words = words;
       is_said = said;
       err_took = front.0;
       out_stops = stops;
@@ -257,32 +267,32 @@ module _ {I O E : Type 0} (file : List ℕ) (opened : List Opened) (core : Core)
       same_how x is = same_end x e.how (sym is ∙ e.ends)
 
       -- the whole run was made, and its report was not said whole
-      broke_whole : (x : End) → Steady → Made x → Fronts before after result (told_end_of core file opened asked e.how ++ told_leaks opened e.leaks) → Broke a
+      broke_whole : (x : End) → Steady → Made x → Fronts before after result (told e.how e.leaks) → Broke a
       broke_whole x counts w front =
           parted a events [] w.rest e.how e.leaks (sym (append-nil events)) e.is w.is_left w.is_read w.is_taken
-          (told_end_of core file opened asked e.how ++ told_leaks opened e.leaks) (inr (inr (counts.0, counts.1, inl (sym (ap (λ (s : Shown). s.err) e.is))))) front (omega (arith, counts.1))
+          (told e.how e.leaks) (inr (inr (counts.0, counts.1, inl (sym (ap (λ (s : Shown). s.err) e.is))))) front (omega (arith, counts.1))
 
       broke_plain : (x : End) → Steady → Made x → e.leaks ≡ [] → Plain x → Broke a
       broke_plain x counts w none said =
           broke_whole x counts w
-          (subst (λ (ls : List Leak). Fronts before after result (told_end_of core file opened asked e.how ++ told_leaks opened ls)) (sym none)
-          (subst (λ (y : End). Fronts before after result (told_end_of core file opened asked y ++ told_leaks opened [])) (same_how x w.end)
-          (says_front before after result (status_of x) (told_end_of core file opened asked x ++ told_leaks opened []) (plain x said))))
+          (subst (λ (ls : List Leak). Fronts before after result (told e.how ls)) (sym none)
+          (subst (λ (y : End). Fronts before after result (told y [])) (same_how x w.end)
+          (says_front before after result (status_of x) (told x []) said)))
 
-      broke_other : (x : End) → IsNoExit x → Steady → Made x → Telling objects leaks x → Broke a
+      broke_other : (x : End) → IsNoExit x → Steady → Made x → Tells objects leaks x → Broke a
       broke_other x unlike counts w t =
           broke_plain x counts w (told_none (done_of events ends objects leaks).left e.how e.leaks (subst IsNoExit (same_how x w.end) unlike) e.told) (t.none (tells_none leaks x unlike))
 
-    broke_exit : (leaks : Bool) (a : Shown) (e : Ended file opened core asked (done_of events ends objects leaks) a) (code : ℕ) → (after.input_faults ≡ before.input_faults) × (after.out_faults ≡ before.out_faults) → Made (end.Exit code) → Telling objects leaks (end.Exit code) → Broke a
+    broke_exit : (leaks : Bool) (a : Shown) (e : Ended file opened core asked (done_of events ends objects leaks) a) (code : ℕ) → (after.input_faults ≡ before.input_faults) × (after.out_faults ≡ before.out_faults) → Made (end.Exit code) → Tells objects leaks (end.Exit code) → Broke a
     broke_exit false a e code counts w t = broke_plain false a e (end.Exit code) counts w e.told (t.none tt)
     broke_exit true a e code counts w t =
         let same = same_how true a e (end.Exit code) w.end in
-        let told = subst (λ (y : End). AreTold (Some objects) y e.leaks) (sym same) e.told in
+        let are = subst (λ (y : End). AreTold (Some objects) y e.leaks) (sym same) e.told in
         broke_whole true a e (end.Exit code) counts w
-        (subst (λ (y : End). Fronts before after result (told_end_of core file opened asked y ++ told_leaks opened e.leaks)) same
-        (says_front before after result code (told_leaks opened e.leaks) ((t.some code refl refl).says e.leaks told)))
+        (subst (λ (y : End). Fronts before after result (told y e.leaks)) same
+        (says_front before after result code (told (end.Exit code) e.leaks) ((t.some code refl refl).says e.leaks are)))
 
-    broken_done : (leaks : Bool) (a : Shown) (x : End) → Ended file opened core asked (done_of events ends objects leaks) a → Counts x → Makes events ends left x after.left (Some put) → Telling objects leaks x → Broke a
+    broken_done : (leaks : Bool) (a : Shown) (x : End) → Ended file opened core asked (done_of events ends objects leaks) a → Counts x → Makes events ends left x after.left (Some put) → Tells objects leaks x → Broke a
     broken_done leaks a (end.Exit code) e counts w t = broke_exit leaks a e code counts w t
     broken_done leaks a (end.Trap kind line) e counts w t = broke_other leaks a e (end.Trap kind line) tt counts w t
     broken_done leaks a (end.BadFree why holder) e counts w t = broke_other leaks a e (end.BadFree why holder) tt counts w t
@@ -291,27 +301,27 @@ module _ {I O E : Type 0} (file : List ℕ) (opened : List Opened) (core : Core)
     broken_done leaks a (end.OutOfStack line) e counts w t = broke_other leaks a e (end.OutOfStack line) tt counts w t
     broken_done leaks a end.InputFault e counts s t =
         parted a s.before (In s.byte ∷ s.rest) s.left e.how e.leaks s.is e.is s.is_left s.is_read s.is_taken
-        (told_end_of core file opened asked end.InputFault) (inl (omega (arith, counts.0), refl))
-        (says_front before after result 132 (told_end_of core file opened asked end.InputFault) (t.none (tells_none leaks end.InputFault tt))) (omega (arith, counts.1))
+        input_fault.err (inl (omega (arith, counts.0), refl))
+        (says_front before after result 132 input_fault.err (input_line (t.none (tells_none leaks end.InputFault tt)))) (omega (arith, counts.1))
     broken_done leaks a end.OutputFault e counts s t =
         parted a s.before s.rest s.left e.how e.leaks s.is e.is s.is_left s.is_read s.is_taken
-        (told_end_of core file opened asked end.OutputFault) (inr (inl (omega (arith, counts.1), refl)))
-        (says_front before after result 133 (told_end_of core file opened asked end.OutputFault) (t.none (tells_none leaks end.OutputFault tt))) (omega (arith, counts.1))
+        output_fault.err (inr (inl (omega (arith, counts.1), refl)))
+        (says_front before after result 133 output_fault.err (output_line (t.none (tells_none leaks end.OutputFault tt)))) (omega (arith, counts.1))
 
   -- a run is served by its answers
   pub serves_done : (MeansNone : Type 0) (x : End) (leaks : Bool) (events : List ℕ → List Event) (ends : List ℕ → Option End) (objects : List ℕ → List Object) →
       RunCounts x before.input_faults after.input_faults before.out_faults after.out_faults →
       ((left : List ℕ) → before.left ≡ Some left → Puts (Makes (events left) (ends left) left x after.left) before.taken after.taken) →
-      ((left : List ℕ) → before.left ≡ Some left → Telling (objects left) leaks x) →
-      (TellsNone leaks x → Plain x) → SaysCounts before after (status_of x) result → SaysOwn x before after →
+      ((left : List ℕ) → before.left ≡ Some left → Tells (objects left) leaks x) →
+      (TellsNone leaks x → Plain x) → SaysCounts before after (status_of x) result → SaysOwn x before after → after.form ≡ before.form →
       Runs MeansNone (λ i a. AnswersProgram file opened core asked i.fails (done_of (events i.bytes) (ends i.bytes) (objects i.bytes) leaks) a) before after result
-  serves_done MeansNone x leaks events ends objects counts put telling none said own = record {
+  serves_done MeansNone x leaks events ends objects counts put telling none said own form = record {
     exact = λ left k same_out same_err.
         let p = put left k in
         gives_done left p.put p.took (events left) (ends left) (objects left) same_err leaks x p.is counts same_out (telling left k);
     faults = λ t. program_faults before after result x t counts said;
-    input_fault = λ more. subst Plain (input_end before after result x counts more) (none (subst (TellsNone leaks) (sym (input_end before after result x counts more)) (tells_none leaks end.InputFault tt)));
-    output_fault = λ more. subst Plain (output_end before after result x counts more) (none (subst (TellsNone leaks) (sym (output_end before after result x counts more)) (tells_none leaks end.OutputFault tt)));
+    input_fault = λ more. input_line (subst Plain (input_end before after result x counts more) (none (subst (TellsNone leaks) (sym (input_end before after result x counts more)) (tells_none leaks end.InputFault tt))));
+    output_fault = λ more. output_line (subst Plain (output_end before after result x counts more) (none (subst (TellsNone leaks) (sym (output_end before after result x counts more)) (tells_none leaks end.OutputFault tt))));
     stays = λ never. absurd never;
     broken = λ left k fails. record {
       each = λ one a e more.
@@ -322,6 +332,7 @@ module _ {I O E : Type 0} (file : List ℕ) (opened : List Opened) (core : Core)
     memory = λ is. inr ((λ n. n), own_end before after result x said own is);
     cause = end_cause before after result x counts said own;
     refused = λ is. inr ((λ n. n), end_refused before after result x said own is);
+    form = form;
   }
 
 -- so it is by the same texts and the same limits
@@ -347,9 +358,9 @@ module _ {I O E : Type 0} (middle after : Sight I O E) (keeps : KeepsBoth middle
 -- an evaluation wanted memory after a first part of the events
 pub serves_unfinished : {I O E : Type 0} (file : List ℕ) (opened : List Opened) (core : Core) (before middle after : Sight I O E) (result steps heap : ℕ) (explain : Bool) →
     ((left : List ℕ) → before.left ≡ Some left → Puts (Stopped (meant core left steps heap).events left [] middle.left) before.taken middle.taken) →
-    middle.input_faults ≡ before.input_faults → middle.out_faults ≡ before.out_faults → middle.said ≡ before.said → middle.err_faults ≡ before.err_faults → SaysOnly no_memory middle after result →
+    middle.input_faults ≡ before.input_faults → middle.out_faults ≡ before.out_faults → middle.form ≡ before.form → middle.said ≡ before.said → middle.err_faults ≡ before.err_faults → SaysOnly no_memory middle after result →
     Runs ⊥ (λ i a. AnswersWay file opened core i (Mean heap steps explain) a) before after result
-serves_unfinished file opened core before middle after result steps heap explain put same_in same_out quiet same said = record {
+serves_unfinished file opened core before middle after result steps heap explain put same_in same_out form quiet same said = record {
   exact = λ left k _ same_err.
       let p = kept_puts middle after said.keeps (Stopped (meant core left steps heap).events left []) before.taken (put left k) in
       gives before after result (λ a. AnswersWay file opened core (input_of left before.input_faults after.input_faults) (Mean heap steps explain) a) (unfinished p.is.before) left p.is.left
@@ -369,9 +380,10 @@ serves_unfinished file opened core before middle after result steps heap explain
   memory = λ is. ⊎_elim (λ h. inl ((λ never. absurd never), h.2)) (λ h. absurd (omega (arith, h.1, is))) says;
   cause = λ is. ⊎_elim (λ h. absurd (no_fault 134 (λ h. omega (arith, h)) (λ h. omega (arith, h)) (λ h. omega (arith, h)) (subst IsFault h.1 is))) (λ h. inl (inr (inr (omega (arith, h.0))))) says;
   refused = never_refused before after result ⊥ 134 no_memory.err (omega arith) (omega arith) says;
+  form = said.keeps.form ∙ form;
 } where
   says : Says before after no_memory.err 134 result
-  says = says_from before middle after no_memory.err 134 result quiet same said.says
+  says = says_from before middle after no_memory.err 134 result form quiet same said.says
 
   stays : (after.input_faults ≡ before.input_faults) × (after.out_faults ≡ before.out_faults)
   stays = kept_same middle after said.keeps before.input_faults before.out_faults same_in same_out

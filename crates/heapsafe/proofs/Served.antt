@@ -1,16 +1,24 @@
 -- How a command is served that says a line alone, and in other words.
 use Rattle.std.proofs.Common.{◌≡◌, ◌≢◌, ◌⊎◌, ◌+◌, ◌<◌, ◌∙◌, ℕ, List, [], Option, Some, None, inl, inr, refl, sym, ap, subst, arith, ⊎_elim}
 use Rattle.hs_base.specs.declared.outside.Texts as reading
+use Rattle.bad_free_report.specs.Notice.{Notice, Nothing, said}
+use Rattle.bad_free_report.specs.declared.form.Form.{Form}
+use Rattle.bad_free_report.specs.declared.form.Form.TheVariants.{Lines, Json}
 use Rattle.command_words.specs.Commands.{Command}
 use Rattle.heapsafe.specs.Answer.{AnswersCommand, AsksNoFile, AsksNoMeaning, AsksNone, AsksOne, files_asked}
 use Rattle.heapsafe.specs.Program.{Input, input_of, steady}
-use Rattle.heapsafe.specs.Saying.{Breaks, BreaksOff, HasCause, IsFault, IsTextOf, Refuses, Says, SaysMore, SaysOnly, StreamFails, TakesAll, TakesFront, Wants, unread_files}
+use Rattle.heapsafe.specs.Saying.{Breaks, BreaksOff, HasCause, IsFault, IsTextOf, Refuses, Says, SaysMore, SaysOnly, StreamFails, TakesAll, TakesFront, TakesSaid, Wants, unread_files}
 use Rattle.heapsafe.specs.Serving.{Answered, Obeys, Serves, Writes, WritesSome}
 use Rattle.heapsafe.specs.Shown.{Shown, no_memory, output_fault, text_fault, usage, written}
 use Rattle.heapsafe.specs.Sight.{KeepsBoth, KeepsInput, KeepsOut, Sight}
 use Rattle.heapsafe.proofs.Told.{IsSilent, faults_as, gives_more, gives_said, said_faults, takes_none}
 use Rattle.heapsafe.proofs.Broken.{broken_own, broken_said, broken_text, off_as, unread_none}
 use Rattle.heapsafe.proofs.Statuses.{never_refused, no_fault, refusal_low}
+
+-- nothing is said in either form
+said_nothing : (f : Form) → said f Nothing ≡ []
+said_nothing Lines = refl
+said_nothing Json = refl
 
 -- streams in other words
 pub seen_from : {I O E : Type 0} (P : Sight I O E → Sight I O E → ℕ → Type 0) (b before after : Sight I O E) (result : ℕ) → b ≡ before → P b after result → P before after result
@@ -41,7 +49,7 @@ module _ {I O E : Type 0} (before after : Sight I O E) (result : ℕ) where
   said_wants : (MeansNone RunsNone : Type 0) (s : Shown) → (s.status ≡ 134 → s ≡ no_memory) → SaysOnly s before after result → Wants MeansNone RunsNone before after result
   said_wants MeansNone RunsNone s wants said = λ is.
       ⊎_elim
-      (λ h. inl ((λ _. said.keeps), subst (λ (x : Shown). TakesAll before.said after.said x.err) (wants (sym h.1 ∙ is)) h.2))
+      (λ h. inl ((λ _. said.keeps), subst (λ (x : Shown). TakesSaid before after x.err) (wants (sym h.1 ∙ is)) h.2))
       (λ h. absurd (omega (arith, h.1, is)))
       said.says
 
@@ -64,6 +72,7 @@ module _ {I O E : Type 0} (before after : Sight I O E) (result : ℕ) where
     memory = said_wants MeansNone RunsNone s line.wants said;
     cause = said_cause RunsNone s (StreamFails before after) (λ is. absurd (line.fair is)) (λ fails. fails) said;
     refused = λ _. inl said.keeps;
+    form = said.keeps.form;
   }
 
   -- memory was wanted
@@ -85,11 +94,12 @@ module _ {I O E : Type 0} (before after : Sight I O E) (result : ℕ) where
     memory = h.memory;
     cause = h.cause;
     refused = h.refused;
+    form = h.form;
   }
 
   -- a text was written whole
-  pub serves_written : (text : List ℕ) → KeepsInput before after → after.out_faults ≡ before.out_faults → TakesAll before.taken after.taken text → after.said ≡ before.said → after.err_faults ≡ before.err_faults → result ≡ 0 → Writes (written text) before after result
-  serves_written text keeps counts took quiet same is = record {
+  pub serves_written : (text : List ℕ) → KeepsInput before after → after.form ≡ before.form → after.out_faults ≡ before.out_faults → TakesAll before.taken after.taken text → after.said ≡ before.said → after.err_faults ≡ before.err_faults → result ≡ 0 → Writes (written text) before after result
+  serves_written text keeps form counts took quiet same is = record {
     exact = λ left k _ _. record {
       shown = written text;
       is = inl refl;
@@ -97,7 +107,7 @@ module _ {I O E : Type 0} (before after : Sight I O E) (result : ℕ) where
       is_left = keeps.left ∙ k;
       is_read = refl;
       out_took = took;
-      err_took = takes_none before.said after.said [] quiet refl;
+      err_took = takes_none before.said after.said (said before.form Nothing) quiet (said_nothing before.form);
       status = is;
     };
     faults = λ t. inl (refl, keeps.faults, counts, same);
@@ -108,32 +118,34 @@ module _ {I O E : Type 0} (before after : Sight I O E) (result : ℕ) where
     memory = λ wants. absurd (omega (arith, is, wants));
     cause = λ fault. absurd (no_fault 0 (λ h. omega (arith, h)) (λ h. omega (arith, h)) (λ h. omega (arith, h)) (subst IsFault is fault));
     refused = λ refusal. absurd (omega (arith, is, refusal_low result refusal));
+    form = form;
   }
 
 -- what was said behind a stretch that said nothing
-pub says_from : {I O E : Type 0} (before middle after : Sight I O E) (bytes : List ℕ) (status result : ℕ) → middle.said ≡ before.said → middle.err_faults ≡ before.err_faults → Says middle after bytes status result → Says before after bytes status result
-says_from before middle after bytes status result quiet same said =
+pub says_from : {I O E : Type 0} (before middle after : Sight I O E) (notice : Notice) (status result : ℕ) → middle.form ≡ before.form → middle.said ≡ before.said → middle.err_faults ≡ before.err_faults → Says middle after notice status result → Says before after notice status result
+says_from before middle after notice status result form quiet same says =
     ⊎_elim
-    (λ h. inl (h.0 ∙ same, h.1, subst (λ s. TakesAll s after.said bytes) quiet h.2))
-    (λ h. inr (h.0 ∙ ap (λ n. n + 1) same, h.1, subst (λ s. TakesFront s after.said bytes) quiet h.2))
-    said
+    (λ h. inl (h.0 ∙ same, h.1, subst (λ s. TakesAll s after.said (said before.form notice)) quiet (subst (λ (f : Form). TakesAll middle.said after.said (said f notice)) form h.2)))
+    (λ h. inr (h.0 ∙ ap (λ n. n + 1) same, h.1, subst (λ s. TakesFront s after.said (said before.form notice)) quiet (subst (λ (f : Form). TakesFront middle.said after.said (said f notice)) form h.2)))
+    says
 
 -- a line was said behind a stretch that kept all
-pub said_behind : {I O E : Type 0} (before middle after : Sight I O E) (s : Shown) (result : ℕ) → KeepsInput before middle → KeepsOut before middle → middle.said ≡ before.said → middle.err_faults ≡ before.err_faults → SaysOnly s middle after result → SaysOnly s before after result
-said_behind before middle after s result input out quiet same said = record {
+pub said_behind : {I O E : Type 0} (before middle after : Sight I O E) (s : Shown) (result : ℕ) → KeepsInput before middle → KeepsOut before middle → middle.form ≡ before.form → middle.said ≡ before.said → middle.err_faults ≡ before.err_faults → SaysOnly s middle after result → SaysOnly s before after result
+said_behind before middle after s result input out form quiet same said = record {
   keeps = record {
     input = record { input = said.keeps.input.input ∙ input.input; left = said.keeps.input.left ∙ input.left; faults = said.keeps.input.faults ∙ input.faults };
     out = record { out = said.keeps.out.out ∙ out.out; taken = said.keeps.out.taken ∙ out.taken; faults = said.keeps.out.faults ∙ out.faults };
+    form = said.keeps.form ∙ form;
   };
-  says = says_from before middle after s.err s.status result quiet same said.says;
+  says = says_from before middle after s.err s.status result form quiet same said.says;
 }
 
 -- a text was not written whole
-pub serves_cut : {I O E : Type 0} (before middle after : Sight I O E) (result : ℕ) (text : List ℕ) → KeepsInput before middle → middle.out_faults ≡ before.out_faults + 1 → TakesFront before.taken middle.taken text → middle.said ≡ before.said → middle.err_faults ≡ before.err_faults → SaysOnly output_fault middle after result → Writes (written text) before after result
-serves_cut before middle after result text keeps counts took quiet same said =
+pub serves_cut : {I O E : Type 0} (before middle after : Sight I O E) (result : ℕ) (text : List ℕ) → KeepsInput before middle → middle.out_faults ≡ before.out_faults + 1 → TakesFront before.taken middle.taken text → middle.form ≡ before.form → middle.said ≡ before.said → middle.err_faults ≡ before.err_faults → SaysOnly output_fault middle after result → Writes (written text) before after result
+serves_cut before middle after result text keeps counts took form quiet same said =
     let input : KeepsInput before after = record { input = said.keeps.input.input ∙ keeps.input; left = said.keeps.input.left ∙ keeps.left; faults = said.keeps.input.faults ∙ keeps.faults } in
     let rises : after.out_faults ≡ before.out_faults + 1 = said.keeps.out.faults ∙ counts in
-    let says : Says before after output_fault.err 133 result = says_from before middle after output_fault.err 133 result quiet same said.says in
+    let says : Says before after output_fault.err 133 result = says_from before middle after output_fault.err 133 result form quiet same said.says in
     record {
       exact = λ left k stays _. absurd (omega (arith, stays, rises));
       faults = λ t. inr (inl (
@@ -154,6 +166,7 @@ serves_cut before middle after result text keeps counts took quiet same said =
       memory = λ is. absurd (⊎_elim (λ h. omega (arith, h.1, is)) (λ h. omega (arith, h.1, is)) says);
       cause = λ is. inl (inr (inl (omega (arith, rises))));
       refused = never_refused before after result _ 133 output_fault.err (omega arith) (omega arith) says;
+      form = said.keeps.form ∙ form;
     }
 
 -- an answer that is written is more than the line of want of memory
@@ -176,6 +189,7 @@ module _ {I O E : Type 0} (before after : Sight I O E) (result : ℕ) where
     memory = h.memory;
     cause = h.cause;
     refused = h.refused;
+    form = h.form;
   }
 
 module _ {T I O E : Type 0} (of : reading.Ghosts T) (texts texts' : T) (before after : Sight I O E) (result : ℕ) where
@@ -199,6 +213,7 @@ module _ {T I O E : Type 0} (of : reading.Ghosts T) (texts texts' : T) (before a
     memory = h.memory;
     cause = λ is. ⊎_elim (λ fails. inl (inr fails)) (λ own. inr own) (h.cause is);
     refused = h.refused;
+    form = h.form;
   }
 
   -- a line was said, where no text failed
@@ -225,6 +240,7 @@ module _ {T I O E : Type 0} (of : reading.Ghosts T) (texts texts' : T) (before a
     memory = said_wants before after result (AsksNoMeaning asked) (AsksNone asked) s line.wants said;
     cause = said_cause before after result (AsksNone asked) s ((of.faults texts < of.faults texts') ⊎ StreamFails before after) (λ fault. absurd (line.fair fault)) (λ fails. inr fails) said;
     refused = λ _. inl said.keeps;
+    form = said.keeps.form;
   }
 
   -- a text failed
@@ -249,6 +265,7 @@ module _ {T I O E : Type 0} (of : reading.Ghosts T) (texts texts' : T) (before a
     memory = said_wants before after result (AsksNoMeaning asked) (AsksNone asked) (text_fault name) (λ h. absurd (omega (arith, h))) said;
     cause = said_cause before after result (AsksNone asked) (text_fault name) ((of.faults texts < of.faults texts') ⊎ StreamFails before after) (λ _. inl (omega (arith, rises))) (λ fails. inr fails) said;
     refused = λ _. inl said.keeps;
+    form = said.keeps.form;
   }
 
   -- words are answered as what they ask for is obeyed

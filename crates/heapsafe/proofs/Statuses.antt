@@ -1,8 +1,9 @@
 -- What the statuses of refusals, of want of memory and of failures of the outside mean.
 use Rattle.std.proofs.Common.{◌≡◌, ◌≢◌, ◌⊎◌, ◌<◌, ◌≤◌, ◌∙◌, ℕ, List, [], Option, Err, inl, inr, refl, sym, subst, arith, ⊎_elim}
+use Rattle.bad_free_report.specs.Notice.{Notice}
 use Rattle.hs_base.specs.declared.ends.End.{End}
 use Rattle.hs_base.specs.declared.ends.End.TheVariants as end
-use Rattle.heapsafe.specs.Places.{told_end_of}
+use Rattle.heapsafe.specs.Places.{told_ending}
 use Rattle.c_decls.specs.declared.refusal.TypeError.{TypeError}
 use Rattle.c_decls.specs.declared.refusal.TypeError.TheVariants as type
 use Rattle.c_pre.specs.declared.answer.Opened.{Opened}
@@ -12,8 +13,8 @@ use Rattle.hs_base.specs.declared.reading.ReadError.{ReadError}
 use Rattle.hs_base.specs.declared.reading.ReadError.TheVariants.{Fault, TooLong, NoMemory}
 use Rattle.hs_base.specs.ReadAll.{ReadCounts}
 use Rattle.flat_machine.specs.Running.{RunCounts}
-use Rattle.heapsafe.specs.Program.{status_of}
-use Rattle.heapsafe.specs.Saying.{HasCause, IsFault, IsRefusal, Refuses, Says, SaysCounts, SaysOwn, StreamFails, TakesLeaks, unmade, unread, untyped}
+use Rattle.heapsafe.specs.Program.{status_of, told_notice}
+use Rattle.heapsafe.specs.Saying.{HasCause, IsFault, IsRefusal, Refuses, Says, SaysCounts, SaysOwn, StreamFails, TakesExit, unmade, unread, untyped}
 use Rattle.heapsafe.specs.Sight.{Sight}
 use Rattle.heapsafe.specs.Reads.{CountsText}
 use Rattle.heapsafe.specs.declared.units.Program.{Program}
@@ -80,27 +81,30 @@ refusal_apart status more less is =
 -- An end of a program
 
 module _ {I O E : Type 0} (before after : Sight I O E) (result : ℕ) where
-  -- bytes were said with a status that is no refusal's
-  pub never_refused : (RunsNone : Type 0) (status : ℕ) (bytes : List ℕ) → 126 ≤ status → status ≤ 134 → Says before after bytes status result → Refuses RunsNone before after result
-  never_refused RunsNone status bytes more less said = λ is.
+  -- something was said with a status that is no refusal's
+  pub never_refused : (RunsNone : Type 0) (status : ℕ) (notice : Notice) → 126 ≤ status → status ≤ 134 → Says before after notice status result → Refuses RunsNone before after result
+  never_refused RunsNone status notice more less said = λ is.
       absurd (⊎_elim (λ h. refusal_apart result (omega (arith, h.1, more)) (omega (arith, h.1, less)) is) (λ h. refusal_apart result (omega (arith, h.1)) (omega (arith, h.1)) is) said)
 
   -- the counts of what was said
-  pub counts_of : (status : ℕ) (bytes : List ℕ) → Says before after bytes status result → SaysCounts before after status result
-  counts_of status bytes said = ⊎_elim (λ h. inl (h.0, h.1)) (λ h. inr (h.0, h.1)) said
+  pub counts_of : (status : ℕ) (notice : Notice) → Says before after notice status result → SaysCounts before after status result
+  counts_of status notice said = ⊎_elim (λ h. inl (h.0, h.1)) (λ h. inr (h.0, h.1)) said
 
-  -- behind an exit the report is empty, and nothing explains it
-  pub own_of : (file : List ℕ) (opened : List Opened) (core : Core) (asked : Option InForce) (x : End) → Says before after (told_end_of core file opened asked x) (status_of x) result → SaysOwn x before after
+  -- behind an exit no more is said than of one
+  pub own_of : (file : List ℕ) (opened : List Opened) (core : Core) (asked : Option InForce) (x : End) → Says before after (told_notice file opened core asked x []) (status_of x) result → SaysOwn x before after
   own_of file opened core asked x said = λ code exits same.
-      let plain = subst (λ (y : End). Says before after (told_end_of core file opened asked y) (status_of y) result) exits said in
-      ⊎_elim (λ h. ([], h.2)) (λ h. absurd (omega (arith, h.0, same))) plain
+      let plain = subst (λ (y : End). Says before after (told_notice file opened core asked y []) (status_of y) result) exits said in
+      ⊎_elim
+      (λ h. (told_ending core file opened asked (end.Exit code), [], code, refl, h.2))
+      (λ h. absurd (omega (arith, h.0, same)))
+      plain
 
   -- an end with another status than that of want of memory, of a refusal, of a fault
   unlike : (status : ℕ) → (result ≡ status → ⊥) → (result ≡ 133 → ⊥) → SaysCounts before after status result → ⊥
   unlike status one other counts = ⊎_elim (λ h. one h.1) (λ h. other h.1) counts
 
   -- the status of want of memory is that of an exit
-  pub own_end : (x : End) → SaysCounts before after (status_of x) result → SaysOwn x before after → result ≡ 134 → TakesLeaks before after
+  pub own_end : (x : End) → SaysCounts before after (status_of x) result → SaysOwn x before after → result ≡ 134 → TakesExit before after
   own_end (end.Exit code) counts own is = ⊎_elim (λ h. own code refl h.0) (λ h. absurd (omega (arith, h.1, is))) counts
   own_end (end.Trap kind line) counts own is = absurd (unlike 128 (λ h. omega (arith, h, is)) (λ h. omega (arith, h, is)) counts)
   own_end (end.BadFree why holder) counts own is = absurd (unlike 126 (λ h. omega (arith, h, is)) (λ h. omega (arith, h, is)) counts)
@@ -116,7 +120,7 @@ module _ {I O E : Type 0} (before after : Sight I O E) (result : ℕ) where
       unlike status (λ h. refusal_apart result (omega (arith, h, more)) (omega (arith, h, less)) is) (λ h. refusal_apart result (omega (arith, h)) (omega (arith, h)) is) counts
 
   -- and so are those of refusals
-  pub end_refused : (x : End) → SaysCounts before after (status_of x) result → SaysOwn x before after → IsRefusal result → TakesLeaks before after
+  pub end_refused : (x : End) → SaysCounts before after (status_of x) result → SaysOwn x before after → IsRefusal result → TakesExit before after
   end_refused (end.Exit code) counts own is =
       ⊎_elim (λ h. own code refl h.0) (λ h. absurd (refusal_apart result (omega (arith, h.1)) (omega (arith, h.1)) is)) counts
   end_refused (end.Trap kind line) counts own is = absurd (higher 128 (omega arith) (omega arith) counts is)

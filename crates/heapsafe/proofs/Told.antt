@@ -14,7 +14,8 @@ use Rattle.heapsafe.specs.Reads.{CountsText, IsRefused, ReadsAs}
 use Rattle.heapsafe.specs.declared.units.Program.{Program}
 use Rattle.heapsafe.specs.declared.units.ProgramError.{ProgramError}
 use Rattle.heapsafe.specs.declared.units.ProgramError.TheVariants.{Text, Syntax, Conflict, NoMemory}
-use Rattle.heapsafe.specs.Saying.{Faults, Gives, Says, SaysOnly, TakesAll, unmade}
+use Rattle.bad_free_report.specs.Notice.{Notice, said}
+use Rattle.heapsafe.specs.Saying.{Faults, Gives, Says, SaysOnly, TakesAll, TakesFront, unmade}
 use Rattle.heapsafe.specs.Sight.{Sight}
 use Rattle.c_lexer.specs.declared.token.Token.{Token}
 use Rattle.c_lexer.specs.declared.token.LexKind.{LexKind}
@@ -48,8 +49,8 @@ module _ {I O E : Type 0} (before after : Sight I O E) (result : ℕ) where
       (takes_none before.taken after.taken s.out said.keeps.out.taken silent.out) same said.says
 
   -- faults: those of the error stream alone
-  pub said_faults : (t : ℕ) (bytes : List ℕ) (status : ℕ) → after.input_faults ≡ before.input_faults → after.out_faults ≡ before.out_faults → Says before after bytes status result → Faults t t before after result
-  said_faults t bytes status input_stays out_stays said =
+  pub said_faults : (t : ℕ) (notice : Notice) (status : ℕ) → after.input_faults ≡ before.input_faults → after.out_faults ≡ before.out_faults → Says before after notice status result → Faults t t before after result
+  said_faults t notice status input_stays out_stays said =
       ⊎_elim
       (λ h. inl (refl, input_stays, out_stays, h.0))
       (λ h. inr (inl (omega arith, omega (arith, input_stays), omega (arith, out_stays), omega (arith, h.0), inr (omega (arith, h.0)), h.1)))
@@ -63,6 +64,14 @@ module _ {I O E : Type 0} (before after : Sight I O E) (result : ℕ) where
   -- the count of the texts stayed
   pub faults_as : (t t' : ℕ) → t' ≡ t → Faults t t before after result → Faults t t' before after result
   faults_as t t' same h = subst (λ n. Faults t n before after result) (sym same) h
+
+  -- what says the same bytes
+  pub says_same : (one other : Notice) (status : ℕ) → said before.form one ≡ said before.form other → Says before after one status result → Says before after other status result
+  says_same one other status same says =
+      ⊎_elim
+      (λ h. inl (h.0, h.1, subst (λ (bytes : List ℕ). TakesAll before.said after.said bytes) same h.2))
+      (λ h. inr (h.0, h.1, subst (λ (bytes : List ℕ). TakesFront before.said after.said bytes) same h.2))
+      says
 
   -- the same in other words
   pub said_as : (r s : Shown) → r ≡ s → SaysOnly r before after result → SaysOnly s before after result

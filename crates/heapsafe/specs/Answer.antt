@@ -1,6 +1,10 @@
 -- What the program reads, writes and answers for its words.
-use Rattle.std.specs.Prelude.{◌≡◌, ◌-◌, ⊤, ℕ, false, List, [], ◌∷◌, length, map, Option, Some, None, Ok, Err}
+use Rattle.std.specs.Prelude.{◌≡◌, ◌-◌, ⊤, ℕ, Bool, cond, false, List, [], ◌∷◌, length, map, Option, Some, None, Ok, Err, codes}
 use Rattle.std.specs.Borrow.{Bor}
+use Rattle.std.specs.List.{list_any}
+use Rattle.std.specs.Str.{bytes_eq}
+use Rattle.bad_free_report.specs.declared.form.Form.{Form}
+use Rattle.bad_free_report.specs.declared.form.Form.TheVariants.{Lines, Json}
 use Rattle.hs_base.specs.declared.ends.Limits.{Limits}
 use Rattle.c_lexer.specs.declared.token.Token.{Token}
 use Rattle.c_lexer.specs.declared.token.LexKind.{LexKind}
@@ -106,6 +110,13 @@ spelt words = map (λ word. word.now) words
 -- what they ask for
 abbrev pub asked_by : List (Bor (List ℕ)) → Option Command
 asked_by words = command_of (spelt words)
+
+-- in which form things are said: by an object of JSON where one of the words asks for it, whatever else they say
+abbrev pub is_json : List ℕ → Bool
+is_json word = bytes_eq word (codes "--json")
+
+abbrev pub form_by : List (Bor (List ℕ)) → Form
+form_by words = cond (list_any (λ word. is_json word.now) words) Json Lines
 
 -- a task with these files
 abbrev pub asked_for : List (Bor (List ℕ)) → Given → Option Command

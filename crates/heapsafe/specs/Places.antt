@@ -1,19 +1,17 @@
 -- Lines of the texts that were opened. Below the tokens a line is counted over all of them, in the order in which they were
 -- opened; what is said names a text and counts in it.
-use Rattle.std.specs.Prelude.{ℕ, ◌-◌, nat_lt, cond, List, [], ◌∷◌, ◌++◌, map, Option, Some, None, option_map}
+use Rattle.std.specs.Prelude.{ℕ, ◌-◌, nat_lt, cond, List, [], ◌∷◌, map, Option, Some, None, option_map}
 use Rattle.hs_base.specs.declared.ends.BadFree.{BadFree as WrongFree}
 use Rattle.hs_base.specs.declared.ends.End.{End}
 use Rattle.hs_base.specs.declared.ends.End.TheVariants.{Exit, Trap, BadFree, Escape, Spent, OutOfStack, InputFault, OutputFault}
 use Rattle.hs_base.specs.declared.ends.Holder.{Holder}
 use Rattle.hs_base.specs.declared.ends.Holder.TheVariants.{Global, Memory, Block, Register}
 use Rattle.hs_base.specs.declared.ends.Leak.{Leak}
-use Rattle.bad_free_report.specs.Report.{end_report}
-use Rattle.bad_free_report.specs.Explanation.{explanation}
+use Rattle.bad_free_report.specs.Notice.{Ending}
 use Rattle.bad_free_report.specs.declared.explanation.InForce.{InForce}
 use Rattle.c_pre.specs.declared.answer.Opened.{Opened}
 use Rattle.c_pre.specs.declared.answer.Place.{Place}
 use Rattle.core_tree.specs.declared.program.Core.{Core}
-use Rattle.heapsafe.specs.Leaks.{leak_lines}
 
 -- the last of some texts that begins before a line, or the one before them
 abbrev pub last_before : Option Opened → List Opened → ℕ → Option Opened
@@ -73,15 +71,12 @@ abbrev pub named_place : List ℕ → List Opened → Option ℕ → Place
 named_place file opened None = record { name = file; line = 0; text = [] }
 named_place file opened (Some line) = line_in opened line
 
--- what is said of an end
-abbrev pub told_report : Core → List ℕ → List Opened → End → List ℕ
-told_report core file opened e =
-    let at = named_place file opened (line_of_end e) in end_report core at.name at.text (told_end opened e)
+-- how a program ended, with the lines of their texts
+abbrev pub told_ending : Core → List ℕ → List Opened → Option InForce → End → Ending
+told_ending core file opened asked e =
+    let at = named_place file opened (line_of_end e) in
+    record { core = core; name = at.name; text = at.text; limits = asked; how = told_end opened e }
 
--- the same, and the lines that explain it, where they are asked for
-abbrev pub told_end_of : Core → List ℕ → List Opened → Option InForce → End → List ℕ
-told_end_of core file opened asked e = told_report core file opened e ++ explanation e asked
-
--- a line for each leak
-abbrev pub told_leaks : List Opened → List Leak → List ℕ
-told_leaks opened leaks = leak_lines (map (told_leak opened) leaks)
+-- leaks with them
+abbrev pub told_leaks : List Opened → List Leak → List Leak
+told_leaks opened leaks = map (told_leak opened) leaks

@@ -1,5 +1,5 @@
 -- What a program reads, writes and answers, by the meaning of its core.
-use Rattle.std.specs.Prelude.{◌≡◌, ◌⊎◌, ◌++◌, ◌≤◌, ℕ, Bool, true, false, cond, nat_lt, List, [], ◌∷◌, Option, Some, None, MatchBool, codes}
+use Rattle.std.specs.Prelude.{◌≡◌, ◌⊎◌, ◌++◌, ◌≤◌, ℕ, Bool, true, false, cond, nat_lt, List, [], ◌∷◌, Option, Some, None, MatchBool}
 use Rattle.hs_base.specs.declared.ends.End.{End}
 use Rattle.hs_base.specs.declared.ends.Leak.{Leak}
 use Rattle.hs_base.specs.declared.ends.Limits.{Limits}
@@ -7,7 +7,8 @@ use Rattle.hs_base.specs.declared.ends.End.TheVariants as end
 use Rattle.hs_base.specs.Object.{Object}
 use Rattle.hs_base.specs.Trace.{Event, In, bytes_in, bytes_out}
 use Rattle.hs_base.specs.Cut.{cut, ending_of}
-use Rattle.bad_free_report.specs.Report.{complaint}
+use Rattle.bad_free_report.specs.Notice.{Notice}
+use Rattle.bad_free_report.specs.Notice as notice
 use Rattle.bad_free_report.specs.declared.explanation.InForce.{InForce}
 use Rattle.core_tree.specs.declared.program.Core.{Core}
 use Rattle.object_meaning.specs.objects.Meaning.{meaning}
@@ -16,9 +17,9 @@ use Rattle.flat_codegen.specs.Lasting.{cut_run}
 use Rattle.heapsafe.specs.declared.program.Way.{Way}
 use Rattle.heapsafe.specs.declared.program.Way.TheVariants.{Run, Mean}
 use Rattle.heapsafe.specs.Leaks.{AreLeaks}
-use Rattle.heapsafe.specs.Places.{told_end_of, told_leaks}
+use Rattle.heapsafe.specs.Places.{told_ending, told_leaks}
 use Rattle.c_pre.specs.declared.answer.Opened.{Opened}
-use Rattle.heapsafe.specs.Shown.{Shown}
+use Rattle.heapsafe.specs.Shown.{Shown, no_memory}
 
 -- the bytes of input that are left, and whether the input fails
 pub record Input : Type 0 where
@@ -83,15 +84,20 @@ explains_run explain steps limits = cond explain (Some (record { steps = steps; 
 abbrev pub explains_mean : Bool → ℕ → Option InForce
 explains_mean explain steps = cond explain (Some (record { steps = steps; stack = 0 })) None
 
--- the bytes that events read and write, with the report, its explanation, the leaks and the status of an end
+-- what is said of how a program ended
+abbrev pub told_notice : List ℕ → List Opened → Core → Option InForce → End → List Leak → Notice
+told_notice file opened core asked e leaks =
+    notice.Ended (told_ending core file opened asked e) (told_leaks opened leaks) (status_of e)
+
+-- the bytes that events read and write, with what is said of an end and of leaks, and its status
 abbrev pub ended : List ℕ → List Opened → Core → Option InForce → List Event → End → List Leak → Shown
 ended file opened core asked events e leaks =
-    record { read = bytes_in events; out = bytes_out events; err = told_end_of core file opened asked e ++ told_leaks opened leaks; status = status_of e }
+    record { read = bytes_in events; out = bytes_out events; err = told_notice file opened core asked e leaks; status = status_of e }
 
 -- the same for want of memory
 abbrev pub unfinished : List Event → Shown
 unfinished events =
-    record { read = bytes_in events; out = bytes_out events; err = complaint (codes "heapsafe") (codes "no memory"); status = 134 }
+    record { read = bytes_in events; out = bytes_out events; err = no_memory.err; status = 134 }
 
 -- a program made all of its events and ended
 pub record Ended (file : List ℕ) (opened : List Opened) (core : Core) (asked : Option InForce) (done : Done) (a : Shown) : Type 0 where

@@ -1,10 +1,14 @@
 -- What is said of an answer, and what a fault of the outside leads to.
 use Rattle.std.specs.List.{list_all}
 use Rattle.c_pre.specs.Directives.{is_path_byte}
-use Rattle.std.specs.Prelude.{◌≡◌, ◌≢◌, ◌⊎◌, ◌<◌, ◌≤◌, ◌+◌, ℕ, Bool, IsTrue, true, nat_lt, cond, List, [], ◌∷◌, ◌++◌, Contains, Option, Some, None, Result, IfOk, codes}
+use Rattle.std.specs.Prelude.{◌≡◌, ◌≢◌, ◌⊎◌, ◌<◌, ◌≤◌, ◌+◌, ℕ, Bool, IsTrue, true, false, nat_lt, cond, List, [], ◌∷◌, ◌++◌, Contains, Option, Some, None, Result, IfOk, codes}
 use Rattle.command_words.specs.Commands.{Command, OnFiles, Execute}
 use Rattle.core_tree.specs.declared.program.Core.{Core}
 use Rattle.bad_free_report.specs.declared.explanation.InForce.{InForce}
+use Rattle.bad_free_report.specs.declared.form.Form.{Form}
+use Rattle.bad_free_report.specs.Notice.{Ending, Notice, said}
+use Rattle.bad_free_report.specs.Notice as notice
+use Rattle.bad_free_report.specs.Parts.{leaks_said}
 use Rattle.hs_base.specs.Object.{Object}
 use Rattle.hs_base.specs.PutAll.{PutsAll}
 use Rattle.hs_base.specs.declared.outside.Failed.{Failed}
@@ -15,10 +19,11 @@ use Rattle.hs_base.specs.declared.ends.Leak.{Leak}
 use Rattle.flat_objects.specs.Keeping.{Keeps}
 use Rattle.flat_machine.specs.Machined.{Machined}
 use Rattle.c_pre.specs.declared.answer.Opened.{Opened}
-use Rattle.heapsafe.specs.Leaks.{AreLeaks, leak_lines}
-use Rattle.heapsafe.specs.Program.{Input, TellsNone, input_of, status_of, steady}
+use Rattle.heapsafe.specs.Leaks.{AreLeaks}
+use Rattle.heapsafe.specs.Program.{Input, TellsNone, input_of, status_of, steady, told_notice}
 use Rattle.heapsafe.specs.Sight.{KeepsBoth, Sight}
-use Rattle.heapsafe.specs.Places.{line_in, told_end_of, told_leaks, told_report}
+use Rattle.heapsafe.specs.Places.{line_in, told_ending, told_leaks}
+use Rattle.heapsafe.specs.declared.program.Telling as code
 use Rattle.heapsafe.specs.declared.refusal.Refusal.{Refusal}
 use Rattle.heapsafe.specs.declared.refusal.Refusal.TheVariants.{Usage, TextFault, TextTooLong, BadCode, Unverified, NoMemory, OutputFault}
 use Rattle.heapsafe.specs.Shown.{Shown, place_of, refusal, refusal_at, input_fault, output_fault, text_fault, text_too_long, no_memory, bad_syntax, bad_type, conflicting, untokened}
@@ -30,14 +35,14 @@ use Rattle.c_decls.specs.declared.refusal.TypeError.TheVariants as type
 use Rattle.heapsafe.specs.declared.units.ProgramError.{ProgramError}
 use Rattle.heapsafe.specs.declared.units.ProgramError.TheVariants as program
 
-abbrev pub name_of : Refusal → List ℕ
-name_of Usage = codes "heapsafe"
-name_of (TextFault file) = file.now
-name_of (TextTooLong file) = file.now
-name_of (BadCode file) = file.now
-name_of (Unverified file) = file.now
-name_of NoMemory = codes "heapsafe"
-name_of OutputFault = codes "heapsafe"
+abbrev pub file_of : Refusal → Option (List ℕ)
+file_of Usage = None
+file_of (TextFault file) = Some file.now
+file_of (TextTooLong file) = Some file.now
+file_of (BadCode file) = Some file.now
+file_of (Unverified file) = Some file.now
+file_of NoMemory = None
+file_of OutputFault = None
 
 abbrev pub words_of : Refusal → List ℕ
 words_of Usage = codes "bad command line"
@@ -58,7 +63,7 @@ status_in (Unverified file) = 137
 status_in OutputFault = 133
 
 abbrev pub shown_of : Refusal → Shown
-shown_of r = refusal (name_of r) (words_of r) (status_in r)
+shown_of r = refusal (file_of r) (words_of r) (status_in r)
 
 -- what is said where a code file was not read
 abbrev pub unread : ReadError → List ℕ → Shown
@@ -87,12 +92,19 @@ abbrev pub TakesFront : Option (List ℕ) → Option (List ℕ) → List ℕ →
 TakesFront taken taken' bytes =
     (t : List ℕ) → taken ≡ Some t → (put : List ℕ) × (rest : List ℕ) × (put ++ rest ≡ bytes) × (taken' ≡ Some (t ++ put))
 
--- the error stream took these bytes and the status is this one, or a write to it failed, it took a front of them and the
--- status is 133
-abbrev pub Says : {I O E : Type 0} → Sight I O E → Sight I O E → List ℕ → ℕ → ℕ → Type 0
-Says before after bytes status result =
-    ((after.err_faults ≡ before.err_faults) × (result ≡ status) × TakesAll before.said after.said bytes)
-    ⊎ ((after.err_faults ≡ before.err_faults + 1) × (result ≡ 133) × TakesFront before.said after.said bytes)
+-- the error stream took what is said, in the form in which things are said
+abbrev pub TakesSaid : {I O E : Type 0} → Sight I O E → Sight I O E → Notice → Type 0
+TakesSaid before after notice = TakesAll before.said after.said (said before.form notice)
+
+-- or a front of it
+abbrev pub TakesSome : {I O E : Type 0} → Sight I O E → Sight I O E → Notice → Type 0
+TakesSome before after notice = TakesFront before.said after.said (said before.form notice)
+
+-- the error stream took it and the status is this one, or a write to it failed, it took a front of it and the status is 133
+abbrev pub Says : {I O E : Type 0} → Sight I O E → Sight I O E → Notice → ℕ → ℕ → Type 0
+Says before after notice status result =
+    ((after.err_faults ≡ before.err_faults) × (result ≡ status) × TakesSaid before after notice)
+    ⊎ ((after.err_faults ≡ before.err_faults + 1) × (result ≡ 133) × TakesSome before after notice)
 
 -- where the input failed, its line is said
 abbrev pub TellsInput : {I O E : Type 0} → Sight I O E → Sight I O E → ℕ → Type 0
@@ -108,29 +120,45 @@ pub record SaysOnly {I O E : Type 0} (s : Shown) (before after : Sight I O E) (r
   pub says : Says before after s.err s.status result
 
 -- so is a refusal at a line of a text, and at one that is counted over all texts
-abbrev pub SaysAt : {I O E : Type 0} → List ℕ → ℕ → List ℕ → List ℕ → ℕ → Sight I O E → Sight I O E → ℕ → Type 0
-SaysAt name line text words status before after result =
-    SaysOnly (refusal_at (place_of name line text) words status) before after result
+abbrev pub SaysAt : {I O E : Type 0} → List ℕ → ℕ → List ℕ → List ℕ → Option (List ℕ) → ℕ → Sight I O E → Sight I O E → ℕ → Type 0
+SaysAt name line text kind word status before after result =
+    SaysOnly (refusal_at (place_of name line text) kind word status) before after result
 
-abbrev pub SaysIn : {I O E : Type 0} → List Opened → ℕ → List ℕ → ℕ → Sight I O E → Sight I O E → ℕ → Type 0
-SaysIn opened line words status before after result =
-    SaysOnly (refusal_at (line_in opened line) words status) before after result
+abbrev pub SaysIn : {I O E : Type 0} → List Opened → ℕ → List ℕ → Option (List ℕ) → ℕ → Sight I O E → Sight I O E → ℕ → Type 0
+SaysIn opened line kind word status before after result =
+    SaysOnly (refusal_at (line_in opened line) kind word status) before after result
 
--- a sink took the report of an end, or a front of it where a write failed
-abbrev pub PutsReport : {E T : Type 0} → sink.Ghosts E → Core → List ℕ → List Opened → End → E → E → Result T Failed → Type 0
-PutsReport of core file opened end err err' result =
-    PutsAll (of.taken err) (of.taken err') (told_report core file opened end) result
+-- how a program is told of: the file and the texts that are named, its core, and the limits by which its end is explained
+pub record Telling : Type 0 where
+  pub file : List ℕ
+  pub opened : List Opened
+  pub core : Core
+  pub asked : Option InForce
 
--- and the lines that explain it, where they are asked for
-abbrev pub PutsEnd : {E T : Type 0} → sink.Ghosts E → Core → List ℕ → List Opened → Option InForce → End → E → E → Result T Failed → Type 0
-PutsEnd of core file opened asked end err err' result =
-    PutsAll (of.taken err) (of.taken err') (told_end_of core file opened asked end) result
+-- the code's as the definition has it
+abbrev pub telling_of : code.Telling → Telling
+telling_of t = record { file = t.file.now; opened = t.opened.now; core = t.core.now; asked = t.asked }
 
--- or a line for each leak of the objects that a machine keeps
-abbrev pub PutsLeaks : {E T : Type 0} → sink.Ghosts E → Machined → List Opened → E → E → Result T Failed → Type 0
-PutsLeaks of machine opened err err' result =
+-- how it ended, with the lines of their texts, and what is said of that
+abbrev pub ending_told : Telling → End → Ending
+ending_told t e = told_ending t.core t.file t.opened t.asked e
+
+abbrev pub tells : Telling → End → List Leak → Notice
+tells t e leaks = told_notice t.file t.opened t.core t.asked e leaks
+
+-- a sink took what is said of each leak of the objects that a machine keeps, or a front of it where a write failed
+abbrev pub PutsLeaks : {E T : Type 0} → sink.Ghosts E → Form → Machined → List Opened → E → E → Result T Failed → Type 0
+PutsLeaks of form machine opened err err' result =
     (places : ℕ → ℕ) (objects : List Object) → Keeps machine.kept.memory places objects →
-    (leaks : List Leak) → AreLeaks objects 0 leaks → PutsAll (of.taken err) (of.taken err') (told_leaks opened leaks) result
+    (leaks : List Leak) → AreLeaks objects 0 leaks →
+    PutsAll (of.taken err) (of.taken err') (leaks_said form false (told_leaks opened leaks)) result
+
+-- or all that is said of an exit, with those leaks
+abbrev pub PutsExit : {E T : Type 0} → sink.Ghosts E → Form → Telling → Machined → ℕ → E → E → Result T Failed → Type 0
+PutsExit of form t machine code err err' result =
+    (places : ℕ → ℕ) (objects : List Object) → Keeps machine.kept.memory places objects →
+    (leaks : List Leak) → AreLeaks objects 0 leaks →
+    PutsAll (of.taken err) (of.taken err') (said form (tells t (Exit code) leaks)) result
 
 -- where all were told, there are such
 abbrev pub TellsLeaks : {T : Type 0} → Machined → Result T Failed → Type 0
@@ -138,20 +166,21 @@ TellsLeaks machine result =
     (places : ℕ → ℕ) (objects : List Object) → Keeps machine.kept.memory places objects →
     IfOk result (λ _. (leaks : List Leak) × AreLeaks objects 0 leaks)
 
--- the error stream took no line but those of leaks
-abbrev pub TakesLeaks : {I O E : Type 0} → Sight I O E → Sight I O E → Type 0
-TakesLeaks before after = (leaks : List Leak) × TakesAll before.said after.said (leak_lines leaks)
+-- the error stream took no more than what is said of an exit: lines of leaks, or an object that tells of it
+abbrev pub TakesExit : {I O E : Type 0} → Sight I O E → Sight I O E → Type 0
+TakesExit before after =
+    (ending : Ending) × (leaks : List Leak) × (code : ℕ) × (ending.how ≡ Exit code) × TakesSaid before after (notice.Ended ending leaks code)
 
--- where a command runs a program: the status is a program's own, and the error stream took no line but those of leaks
+-- where a command runs a program: the status is a program's own, and the error stream took no more than that
 abbrev pub IsOwn : {I O E : Type 0} → Type 0 → Sight I O E → Sight I O E → Type 0
-IsOwn RunsNone before after = (RunsNone → ⊥) × TakesLeaks before after
+IsOwn RunsNone before after = (RunsNone → ⊥) × TakesExit before after
 
 -- the status of want of memory: the error stream took its line, and input and output are as before, but where a program is
 -- evaluated; or the status is a program's own
 abbrev pub Wants : {I O E : Type 0} → Type 0 → Type 0 → Sight I O E → Sight I O E → ℕ → Type 0
 Wants MeansNone RunsNone before after result =
     result ≡ 134 →
-    ((MeansNone → KeepsBoth before after) × TakesAll before.said after.said no_memory.err) ⊎ IsOwn RunsNone before after
+    ((MeansNone → KeepsBoth before after) × TakesSaid before after no_memory.err) ⊎ IsOwn RunsNone before after
 
 -- a write to one of the two streams failed
 abbrev pub WriteFails : {I O E : Type 0} → Sight I O E → Sight I O E → Type 0
@@ -183,36 +212,34 @@ SaysCounts before after status result =
     ((after.err_faults ≡ before.err_faults) × (result ≡ status))
     ⊎ ((after.err_faults ≡ before.err_faults + 1) × (result ≡ 133))
 
--- it took the lines of the leaks of these objects, or a front of them
-pub record SaysLeaks {I O E : Type 0} (opened : List Opened) (objects : List Object) (before after : Sight I O E) (status result : ℕ) : Type 0 where
-  pub says : (leaks : List Leak) → AreLeaks objects 0 leaks → Says before after (told_leaks opened leaks) status result
+-- it took what is said of an exit with the leaks of these objects, or a front of it
+pub record SaysLeaks {I O E : Type 0} (t : Telling) (objects : List Object) (before after : Sight I O E) (code result : ℕ) : Type 0 where
+  pub says : (leaks : List Leak) → AreLeaks objects 0 leaks → Says before after (tells t (Exit code) leaks) code result
   pub all : after.err_faults ≡ before.err_faults → (leaks : List Leak) × AreLeaks objects 0 leaks
 
 -- so it is for the objects that a machine keeps
-abbrev pub SaysLeft : {I O E : Type 0} → Machined → List Opened → Sight I O E → Sight I O E → ℕ → ℕ → Type 0
-SaysLeft machine opened before after status result =
+abbrev pub SaysLeft : {I O E : Type 0} → Machined → Telling → Sight I O E → Sight I O E → ℕ → ℕ → Type 0
+SaysLeft machine t before after code result =
     (places : ℕ → ℕ) (objects : List Object) → Keeps machine.kept.memory places objects →
-    SaysLeaks opened objects before after status result
+    SaysLeaks t objects before after code result
 
 -- so it is behind an exit, where leaks are asked for
-abbrev pub SaysExit : {I O E : Type 0} → Bool → End → Machined → List Opened → Sight I O E → Sight I O E → ℕ → Type 0
-SaysExit leaks end machine opened before after result =
-    (code : ℕ) → IsTrue leaks → end ≡ Exit code → SaysLeft machine opened before after code result
+abbrev pub SaysExit : {I O E : Type 0} → Bool → End → Machined → Telling → Sight I O E → Sight I O E → ℕ → Type 0
+SaysExit leaks end machine t before after result =
+    (code : ℕ) → IsTrue leaks → end ≡ Exit code → SaysLeft machine t before after code result
 
--- the report of an end was said, and the lines that explain it, where they are asked for
-abbrev pub SaysEnd : {I O E : Type 0} → List ℕ → List Opened → Core → Option InForce → End → Sight I O E → Sight I O E → ℕ → Type 0
-SaysEnd file opened core asked end before after result =
-    Says before after (told_end_of core file opened asked end) (status_of end) result
+-- what is said of an end was said, without leaks
+abbrev pub SaysEnd : {I O E : Type 0} → Telling → End → Sight I O E → Sight I O E → ℕ → Type 0
+SaysEnd t end before after result = Says before after (tells t end []) (status_of end) result
 
 -- so it is where no leaks are told of
-abbrev pub SaysPlain : {I O E : Type 0} → Bool → List ℕ → List Opened → Core → Option InForce → End → Sight I O E → Sight I O E → ℕ → Type 0
-SaysPlain leaks file opened core asked end before after result =
-    TellsNone leaks end → SaysEnd file opened core asked end before after result
+abbrev pub SaysPlain : {I O E : Type 0} → Bool → Telling → End → Sight I O E → Sight I O E → ℕ → Type 0
+SaysPlain leaks t end before after result = TellsNone leaks end → SaysEnd t end before after result
 
--- behind an exit it took no line but those of leaks, where no write to it failed
+-- behind an exit it took no more than what is said of one, where no write to it failed
 abbrev pub SaysOwn : {I O E : Type 0} → End → Sight I O E → Sight I O E → Type 0
 SaysOwn end before after =
-    (code : ℕ) → end ≡ Exit code → after.err_faults ≡ before.err_faults → TakesLeaks before after
+    (code : ℕ) → end ≡ Exit code → after.err_faults ≡ before.err_faults → TakesExit before after
 
 -- the output took some bytes, of which this holds
 pub record Puts (Is : Option (List ℕ) → Type 0) (o o' : Option (List ℕ)) : Type 0 where
@@ -229,7 +256,7 @@ pub record Gives {I O E : Type 0} (Is : Shown → Type 0) (left : List ℕ) (bef
   pub is_left : after.left ≡ Some rest
   pub is_read : shown.read ++ rest ≡ left
   pub out_took : TakesAll before.taken after.taken shown.out
-  pub err_took : TakesAll before.said after.said shown.err
+  pub err_took : TakesSaid before after shown.err
   pub status : result ≡ shown.status
 
 -- so it is where the input tells its bytes and no write failed, by the answers for these bytes
@@ -264,17 +291,17 @@ pub record SaysUnread {I O E : Type 0} (files : List (List ℕ)) (before after :
   pub is_text : IsTextOf files name
   pub says : SaysOnly (text_fault name) before after result
 
--- the line that is said where a write failed: that of the text that failed; else that of the input or of the output,
--- where it failed; or, where neither did, that of the answer or of want of memory
-abbrev pub IsSaid : {I O E : Type 0} → Option (List (List ℕ)) → Shown → Sight I O E → Sight I O E → List ℕ → Type 0
-IsSaid (Some files) a before after line = (name : List ℕ) × IsTextOf files name × (line ≡ (text_fault name).err)
-IsSaid None a before after line =
-    ((before.input_faults < after.input_faults) × (line ≡ input_fault.err))
-    ⊎ ((before.out_faults < after.out_faults) × (line ≡ output_fault.err))
-    ⊎ ((after.input_faults ≡ before.input_faults) × (after.out_faults ≡ before.out_faults) × ((line ≡ a.err) ⊎ (line ≡ no_memory.err)))
+-- what is said where a write failed: that the text that failed did; else that the input or the output did, where it did; or, where
+-- neither did, what the answer says, or that memory was wanted
+abbrev pub IsSaid : {I O E : Type 0} → Option (List (List ℕ)) → Shown → Sight I O E → Sight I O E → Notice → Type 0
+IsSaid (Some files) a before after words = (name : List ℕ) × IsTextOf files name × (words ≡ (text_fault name).err)
+IsSaid None a before after words =
+    ((before.input_faults < after.input_faults) × (words ≡ input_fault.err))
+    ⊎ ((before.out_faults < after.out_faults) × (words ≡ output_fault.err))
+    ⊎ ((after.input_faults ≡ before.input_faults) × (after.out_faults ≡ before.out_faults) × ((words ≡ a.err) ⊎ (words ≡ no_memory.err)))
 
 -- a write failed: the input lost a front of what this answer reads, the output took a front of what it writes, the error stream
--- a front of one line that may be said, and nothing more was written to a stream that failed
+-- a front of what may be said, and nothing more was written to a stream that failed
 pub record Breaks {I O E : Type 0} (unread : Option (List (List ℕ))) (a : Shown) (left : List ℕ) (before after : Sight I O E) : Type 0 where
   pub lost : List ℕ
   pub kept : List ℕ
@@ -283,9 +310,9 @@ pub record Breaks {I O E : Type 0} (unread : Option (List (List ℕ))) (a : Show
   pub is_lost : lost ++ kept ≡ left
   pub is_read : lost ++ more ≡ a.read
   pub out_took : TakesFront before.taken after.taken a.out
-  pub line : List ℕ
-  pub is_said : IsSaid unread a before after line
-  pub err_took : TakesFront before.said after.said line
+  pub words : Notice
+  pub is_said : IsSaid unread a before after words
+  pub err_took : TakesSome before after words
   pub out_stops : after.out_faults ≤ before.out_faults + 1
   pub err_stops : after.err_faults ≤ before.err_faults + 1
 

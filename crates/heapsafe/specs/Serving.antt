@@ -17,7 +17,7 @@ use Rattle.heapsafe.specs.Shown.{Shown}
 use Rattle.heapsafe.specs.Sight.{KeepsBoth, KeepsInput, Sight}
 
 -- a command that reads no text is served by these answers; it has one for each input where `One` holds, evaluates no program
--- where `MeansNone` does, and runs none where `RunsNone` does
+-- where `MeansNone` does, and runs none where `RunsNone` does; the form in which things are said stays
 pub record Serves {I O E : Type 0} (One MeansNone RunsNone : Type 0) (Answers : Input → Shown → Type 0) (before after : Sight I O E) (result : ℕ) : Type 0 where
   pub exact : Exactly Answers before after result
   pub faults : (t : ℕ) → Faults t t before after result
@@ -28,6 +28,7 @@ pub record Serves {I O E : Type 0} (One MeansNone RunsNone : Type 0) (Answers : 
   pub memory : Wants MeansNone RunsNone before after result
   pub cause : HasCause (StreamFails before after) RunsNone before after result
   pub refused : Refuses RunsNone before after result
+  pub form : after.form ≡ before.form
 
 -- one that runs or evaluates a program
 abbrev pub Runs : {I O E : Type 0} → Type 0 → (Input → Shown → Type 0) → Sight I O E → Sight I O E → ℕ → Type 0
@@ -94,6 +95,7 @@ pub record Obeys {T I O E : Type 0} (of : reading.Ghosts T) (asked : Option Comm
   pub memory : Wants (AsksNoMeaning asked) (AsksNone asked) before after result
   pub cause : Caused of asked texts texts' before after result
   pub refused : Refuses (AsksNone asked) before after result
+  pub form : after.form ≡ before.form
 
 -- so are words; those that are not taken leave all but the error stream, and those that name no file leave the texts
 pub record Answered {T I O E : Type 0} (of : reading.Ghosts T) (asked : Option Command) (texts texts' : T) (before after : Sight I O E) (result : ℕ) : Type 0 where

@@ -1,6 +1,6 @@
 -- What is seen of an answer, and the answers that are not of a program.
-use Rattle.std.specs.Prelude.{◌++◌, ℕ, List, [], Ok, Err, codes}
-use Rattle.bad_free_report.specs.Report.{complaint, complaint_at}
+use Rattle.std.specs.Prelude.{ℕ, List, [], Option, Some, None, Ok, Err, codes}
+use Rattle.bad_free_report.specs.Notice.{Notice, Nothing, Refused, Spot}
 use Rattle.c_lexer.specs.declared.token.LexKind.{LexKind}
 use Rattle.c_lexer.specs.Words.{word_of}
 use Rattle.c_pre.specs.Words as lines
@@ -21,74 +21,78 @@ use Rattle.layout_list.specs.Listing.{layout_listing}
 use Rattle.live_list.specs.Listing.{live_listing}
 use Rattle.heapsafe.specs.Places.{line_in}
 
--- the bytes that are read from the input, those that are written to the two streams, and the status
+-- the bytes that are read from the input and those that are written to the output, what is said on the error stream, and the status
 pub record Shown : Type 0 where
   pub read : List ℕ
   pub out : List ℕ
-  pub err : List ℕ
+  pub err : Notice
   pub status : ℕ
 
--- lines on the error stream alone
-abbrev pub said : List ℕ → ℕ → Shown
-said lines status = record { read = []; out = []; err = lines; status = status }
+-- something is said on the error stream alone: what is refused or failed, perhaps with a word for why, perhaps of a file and at a
+-- line of it
+abbrev pub says_refused : List ℕ → Option (List ℕ) → Option (List ℕ) → Option Spot → ℕ → Shown
+says_refused kind word file spot status =
+    record { read = []; out = []; err = Refused kind word file spot status; status = status }
 
--- one line
-abbrev pub refusal : List ℕ → List ℕ → ℕ → Shown
-refusal name words status = said (complaint name words) status
+-- at no line
+abbrev pub refusal : Option (List ℕ) → List ℕ → ℕ → Shown
+refusal file kind status = says_refused kind None file None status
 
 -- a line of a text with this name
 abbrev pub place_of : List ℕ → ℕ → List ℕ → Place
 place_of name line text = record { name = name; line = line; text = text }
 
--- one at a line of a text, which is shown below it
-abbrev pub refusal_at : Place → List ℕ → ℕ → Shown
-refusal_at at words status = said (complaint_at at.name at.line words at.text) status
+-- one at a line of a text, which is shown with it
+abbrev pub refusal_at : Place → List ℕ → Option (List ℕ) → ℕ → Shown
+refusal_at at kind word status =
+    says_refused kind word (Some at.name) (Some (record { line = at.line; text = at.text })) status
 
 abbrev pub usage : Shown
-usage = refusal (codes "heapsafe") (codes "bad command line") 120
+usage = refusal None (codes "bad command line") 120
 
 -- a text, the input, or the output failed
 abbrev pub text_fault : List ℕ → Shown
-text_fault file = refusal file (codes "cannot read") 121
+text_fault file = refusal (Some file) (codes "cannot read") 121
 
 abbrev pub input_fault : Shown
-input_fault = refusal (codes "heapsafe") (codes "input fault") 132
+input_fault = refusal None (codes "input fault") 132
 
 abbrev pub output_fault : Shown
-output_fault = refusal (codes "heapsafe") (codes "output fault") 133
+output_fault = refusal None (codes "output fault") 133
 
 abbrev pub text_too_long : List ℕ → Shown
-text_too_long file = refusal file (codes "text too long") 122
+text_too_long file = refusal (Some file) (codes "text too long") 122
 
 -- bytes that are those of no code file, and code that is not well formed
 abbrev pub bad_code : List ℕ → Shown
-bad_code file = refusal file (codes "bad code") 136
+bad_code file = refusal (Some file) (codes "bad code") 136
 
 abbrev pub unverified : List ℕ → Shown
-unverified file = refusal file (codes "unverified") 137
+unverified file = refusal (Some file) (codes "unverified") 137
 
 abbrev pub bad_line : PreKind → Place → Shown
-bad_line kind at = refusal_at at (codes "preprocess: " ++ lines.word_of kind) 138
+bad_line kind at = refusal_at at (codes "preprocess") (Some (lines.word_of kind)) 138
 
 abbrev pub bad_place : LexKind → Place → Shown
-bad_place kind at = refusal_at at (codes "lex: " ++ word_of kind) 123
+bad_place kind at = refusal_at at (codes "lex") (Some (word_of kind)) 123
 
 abbrev pub bad_syntax : List Opened → ℕ → Shown
-bad_syntax opened line = refusal_at (line_in opened line) (codes "syntax") 124
+bad_syntax opened line = refusal_at (line_in opened line) (codes "syntax") None 124
 
 -- two units say what may not be said of one name twice. What a unit has for itself is in no conflict, so the name has no suffix
 abbrev pub conflicting : List Opened → Conflict → Shown
-conflicting opened conflict = refusal_at (line_in opened conflict.line) (codes "conflict: " ++ conflict.name) 139
+conflicting opened conflict = refusal_at (line_in opened conflict.line) (codes "conflict") (Some conflict.name) 139
 
 abbrev pub bad_type : List Opened → Refusal → Shown
-bad_type opened refusal = refusal_at (line_in opened refusal.line) (codes "type: " ++ types.word_of refusal.kind) 125
+bad_type opened refusal =
+    refusal_at (line_in opened refusal.line) (codes "type") (Some (types.word_of refusal.kind)) 125
 
 abbrev pub no_memory : Shown
-no_memory = refusal (codes "heapsafe") (codes "no memory") 134
+no_memory = refusal None (codes "no memory") 134
 
 -- a text on the output alone
 abbrev pub written : List ℕ → Shown
-written text = record { read = []; out = text; err = []; status = 0 }
+written text = record { read = []; out = text; err = Nothing; status = 0 }
 
 -- the canonical spelling, the layouts of structs and unions, the functions of the core, and the registers that are live after
 -- each point of it

@@ -1,10 +1,11 @@
--- What is seen of three streams at a time.
+-- What is seen of three streams at a time, and in which form things are said on the error stream.
 use Rattle.std.specs.Prelude.{◌≡◌, ◌+◌, ◌<◌, ◌^◌, ℕ, List, Option}
+use Rattle.bad_free_report.specs.declared.form.Form.{Form}
 use Rattle.hs_base.specs.declared.outside.Sink as sink
 use Rattle.hs_base.specs.declared.outside.Source as source
 
 -- the streams, what they tell, and how often each failed: of the input the bytes that are left, of the output and of the error stream
--- those that were taken
+-- those that were taken; and the form
 pub record Sight (I O E : Type 0) : Type 0 where
   pub input : I
   pub left : Option (List ℕ)
@@ -15,10 +16,11 @@ pub record Sight (I O E : Type 0) : Type 0 where
   pub err : E
   pub said : Option (List ℕ)
   pub err_faults : ℕ
+  pub form : Form
 
 -- three streams as they are seen: of the traits that they meet come what each tells, and how often it failed
-abbrev pub see : {I O E : Type 0} → source.Ghosts I → sink.Ghosts O → sink.Ghosts E → I → O → E → Sight I O E
-see inputs outs errs input out err = record {
+abbrev pub see : {I O E : Type 0} → Form → source.Ghosts I → sink.Ghosts O → sink.Ghosts E → I → O → E → Sight I O E
+see form inputs outs errs input out err = record {
   input = input;
   left = inputs.left input;
   input_faults = inputs.faults input;
@@ -28,6 +30,7 @@ see inputs outs errs input out err = record {
   err = err;
   said = errs.taken err;
   err_faults = errs.faults err;
+  form = form;
 }
 
 -- the count of each has room for one failure more
@@ -48,7 +51,8 @@ pub record KeepsOut {I O E : Type 0} (before after : Sight I O E) : Type 0 where
   pub taken : after.taken ≡ before.taken
   pub faults : after.out_faults ≡ before.out_faults
 
--- both are
+-- both are, and so is the form
 pub record KeepsBoth {I O E : Type 0} (before after : Sight I O E) : Type 0 where
   pub input : KeepsInput before after
   pub out : KeepsOut before after
+  pub form : after.form ≡ before.form

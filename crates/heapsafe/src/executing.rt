@@ -9,7 +9,7 @@ ghost use Rattle.heapsafe.specs.Saying.{shown_of, unread};
 ghost use Rattle.heapsafe.specs.Serving.{Obeys, Runs};
 ghost use Rattle.heapsafe.specs.Sight.{HasRoom};
 
-use crate::program::{explains_run, finish_run};
+use crate::program::{Telling, explains_run, finish_run};
 use crate::refusal::{Refusal, refuse};
 use crate::running::run_file;
 use crate::streams::Streams;
@@ -82,17 +82,13 @@ fn run_verified<I: Source, O: Sink, E: Sink>(
         &mut io.out,
     ) {
         Ok((end, machine)) => {
-            let explains = explains_run(asked.explain, asked.steps, asked.limits);
-            finish_run(
-                &end,
-                &machine,
-                asked.leaks,
-                &code.names,
+            let telling = Telling {
                 file,
                 opened,
-                explains,
-                io,
-            )
+                core: &code.names,
+                asked: explains_run(asked.explain, asked.steps, asked.limits),
+            };
+            finish_run(&end, &machine, asked.leaks, &telling, io)
         }
         Err(_) => refuse(io, Refusal::NoMemory),
     }

@@ -8,10 +8,11 @@
 #![tactic(auto)]
 
 ghost use Rattle.std.specs.Prelude.{◌≡◌, ◌+◌, ◌<◌, ◌≤◌, ◌^◌, None, length};
+ghost use Rattle.std.specs.List.{list_any};
 ghost use Rattle.core_soundness.specs.Texts.{IsOfTexts};
 ghost use Rattle.command_words.specs.Commands.{task_shown, IsLimited};
 ghost use Rattle.c_tree.specs.StatementView.{unit_view};
-ghost use Rattle.heapsafe.specs.Answer.{Answers, AsksNoFile, AsksNoMeaning, AsksNone, asked_by, asked_for, files_asked, first_of, spelt};
+ghost use Rattle.heapsafe.specs.Answer.{Answers, AsksNoFile, AsksNoMeaning, AsksNone, asked_by, asked_for, files_asked, first_of, form_by, is_json, spelt};
 ghost use Rattle.heapsafe.specs.Saying.{Faults, Refuses, SaysUnread, TellsInput, TellsOutput, Wants};
 ghost use Rattle.heapsafe.specs.Serving.{Answered, BrokenOff, Caused, DoesTask, Exact, Obeys};
 ghost use Rattle.heapsafe.specs.Sight.{HasRoom, see};
@@ -31,6 +32,7 @@ mod streams;
 mod units;
 mod written;
 
+use bad_free_report::Form;
 use c_pre::Opened;
 use c_tree::Unit;
 use command_words::{Command, Task, WordsError};
@@ -175,6 +177,31 @@ fn serve<T: Texts, I: Source, O: Sink, E: Sink>(
     }
 }
 
+/// Says whether a word asks for an object of JSON.
+fn is_json(word: &str) -> bool
+    ensures { result ≡ is_json word.now }
+{
+    word == "--json"
+}
+
+/// Says whether one of some words does.
+fn asks_for_json(words: &[&str]) -> bool
+    ensures { result ≡ list_any (λ word. is_json word.now) words.now }
+{
+    words.iter().any(|word| is_json(word))
+}
+
+/// In which form things are said: by an object of JSON where one of the words asks for it, also where the words are not taken.
+fn form_by(words: &[&str]) -> Form
+    ensures { result ≡ form_by words.now }
+{
+    if asks_for_json(words) {
+        Form::Json
+    } else {
+        Form::Lines
+    }
+}
+
 /// Does what the words say with streams that were lent, and hands them back.
 fn serve_lent<'a, T: Texts, I: Source, O: Sink, E: Sink, A: Loan, B: Loan, C: Loan>(
     alloc: Global,
@@ -194,7 +221,7 @@ fn serve_lent<'a, T: Texts, I: Source, O: Sink, E: Sink, A: Loan, B: Loan, C: Lo
     ensures input_back { result.1.ghost_name ≡ input.entry.ghost_name }
     ensures out_back { result.2.ghost_name ≡ out.entry.ghost_name }
     ensures err_back { result.3.ghost_name ≡ err.entry.ghost_name }
-    ensures answered { let s = see I.Source O.Sink E.Sink in
+    ensures answered { let s = see (form_by words.now) I.Source O.Sink E.Sink in
         Answered T.Texts (asked_by words.now) texts.old texts.new
         (s input.old out.old err.old) (s result.1.now result.2.now result.3.now) result.0 }
 {
@@ -202,9 +229,15 @@ fn serve_lent<'a, T: Texts, I: Source, O: Sink, E: Sink, A: Loan, B: Loan, C: Lo
         input: Borrowed::<I, A>::new(input),
         out: Borrowed::<O, B>::new(out),
         err: Borrowed::<E, C>::new(err),
+        form: form_by(words),
     };
     let status = serve(alloc, words, texts, &mut io);
-    let Streams { input, out, err } = io;
+    let Streams {
+        input,
+        out,
+        err,
+        ..
+    } = io;
     (status, input.back(), out.back(), err.back())
 }
 
@@ -223,7 +256,8 @@ fn serve_lent<'a, T: Texts, I: Source, O: Sink, E: Sink, A: Loan, B: Loan, C: Lo
 /// not well formed it does not run.
 ///
 /// Where it is asked for, lines behind the report of an end say what to mend and which limit was in force. Without that, every byte
-/// is that of the report.
+/// is that of the report. Where one of the words is `--json`, one object of JSON says all of it in place of all lines, of each end
+/// and of each refusal; then also that a program ended by an exit.
 ///
 /// Where texts and input are told and neither texts nor streams failed, what is read and answered, and what each stream took that
 /// tells of it, is by `Answers`, or nothing but the line of want of memory. Where a write to a stream failed, the input lost a
@@ -249,34 +283,34 @@ pub fn heapsafe<T: Texts, I: Source, O: Sink, E: Sink>(
     requires input { I.faults input.old + 1 < 2 ^ 64 }
     requires out { O.faults out.old + 1 < 2 ^ 64 }
     requires err { E.faults err.old + 1 < 2 ^ 64 }
-    ensures exact { let s = see I.Source O.Sink E.Sink in
+    ensures exact { let s = see (form_by words.now) I.Source O.Sink E.Sink in
         Exact T.Texts (Answers (spelt words.now)) texts.old texts.new
         (s input.old out.old err.old) (s input.new out.new err.new) result }
-    ensures faults { let s = see I.Source O.Sink E.Sink in
+    ensures faults { let s = see (form_by words.now) I.Source O.Sink E.Sink in
         Faults (T.faults texts.old) (T.faults texts.new)
         (s input.old out.old err.old) (s input.new out.new err.new) result }
-    ensures input_fault { let s = see I.Source O.Sink E.Sink in
+    ensures input_fault { let s = see (form_by words.now) I.Source O.Sink E.Sink in
         TellsInput (s input.old out.old err.old) (s input.new out.new err.new) result }
-    ensures output_fault { let s = see I.Source O.Sink E.Sink in
+    ensures output_fault { let s = see (form_by words.now) I.Source O.Sink E.Sink in
         TellsOutput (s input.old out.old err.old) (s input.new out.new err.new) result }
     ensures usage { asked_by words.now ≡ None →
         (texts.new ≡ texts.old) × (input.new ≡ input.old) × (out.new ≡ out.old) }
     ensures no_file { AsksNoFile (asked_by words.now) →
         (texts.new ≡ texts.old) × (input.new ≡ input.old) }
     ensures stays { AsksNone (asked_by words.now) → input.new ≡ input.old }
-    ensures text_fault { let s = see I.Source O.Sink E.Sink in T.faults texts.old < T.faults texts.new →
+    ensures text_fault { let s = see (form_by words.now) I.Source O.Sink E.Sink in T.faults texts.old < T.faults texts.new →
         SaysUnread (files_asked (asked_by words.now))
         (s input.old out.old err.old) (s input.new out.new err.new) result }
-    ensures broken { let s = see I.Source O.Sink E.Sink in
+    ensures broken { let s = see (form_by words.now) I.Source O.Sink E.Sink in
         BrokenOff T.Texts (asked_by words.now) (Answers (spelt words.now)) texts.old texts.new
         (s input.old out.old err.old) (s input.new out.new err.new) }
-    ensures memory { let s = see I.Source O.Sink E.Sink in let asked = asked_by words.now in
+    ensures memory { let s = see (form_by words.now) I.Source O.Sink E.Sink in let asked = asked_by words.now in
         Wants (AsksNoMeaning asked) (AsksNone asked)
         (s input.old out.old err.old) (s input.new out.new err.new) result }
-    ensures cause { let s = see I.Source O.Sink E.Sink in
+    ensures cause { let s = see (form_by words.now) I.Source O.Sink E.Sink in
         Caused T.Texts (asked_by words.now) texts.old texts.new
         (s input.old out.old err.old) (s input.new out.new err.new) result }
-    ensures refused { let s = see I.Source O.Sink E.Sink in
+    ensures refused { let s = see (form_by words.now) I.Source O.Sink E.Sink in
         Refuses (AsksNone (asked_by words.now))
         (s input.old out.old err.old) (s input.new out.new err.new) result }
 {

@@ -2,7 +2,7 @@
 //! counts in it.
 
 ghost use Rattle.std.specs.Prelude.{◌≡◌, option_copied, option_map};
-ghost use Rattle.heapsafe.specs.Places.{text_of, told_line, told_holder, told_free, told_end, told_leak, line_of_end};
+ghost use Rattle.heapsafe.specs.Places.{named_place, text_of, told_line, told_holder, told_free, told_end, told_leak, line_of_end};
 
 use c_pre::Opened;
 use hs_base::{BadFree, End, Holder, Leak, Line};
@@ -103,5 +103,23 @@ pub(crate) fn line_of_end(end: &End) -> Option<Line>
         | End::Escape { line, .. }
         | End::OutOfStack(line) => Some(*line),
         _ => None,
+    }
+}
+
+/// The name and the bytes of the text that is named of an end: of one without a line the file that was asked for, without a byte.
+pub(crate) fn named_text<'a>(
+    file: &'a str,
+    opened: &'a [Opened],
+    line: Option<Line>,
+) -> (&'a [u8], &'a [u8])
+    ensures name { result.0.now ≡ (named_place file.now opened.now line).name }
+    ensures text { result.1.now ≡ (named_place file.now opened.now line).text }
+{
+    let Some(line) = line else {
+        return (file.as_bytes(), b"");
+    };
+    match text_of(opened, line) {
+        Some(text) => (text.name.as_slice(), text.text.as_slice()),
+        None => (b"", b""),
     }
 }

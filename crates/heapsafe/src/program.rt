@@ -1,6 +1,6 @@
 //! Running the program of a text: on a machine, or by the meaning of its core.
 
-ghost use Rattle.std.specs.Prelude.{◌≡◌, ◌+◌, ◌<◌, ◌≤◌, ◌^◌, [], false, IsTrue};
+ghost use Rattle.std.specs.Prelude.{◌≡◌, ◌+◌, ◌<◌, ◌≤◌, ◌^◌, false, IsTrue};
 ghost use Rattle.c_tree.specs.StatementView.{unit_view};
 ghost use Rattle.c_elab.specs.Core.{core_in};
 ghost use Rattle.core_soundness.specs.Texts.{IsOfTexts};
@@ -8,16 +8,19 @@ ghost use Rattle.core_tree.specs.Sound.{IsSound};
 ghost use Rattle.flat_objects.specs.Leaks.{KeepsSome};
 ghost use Rattle.hs_base.specs.Outside.{CountsFaults};
 ghost use Rattle.heapsafe.specs.Program.{IsBounded, explains_mean, explains_run, status_of};
-ghost use Rattle.heapsafe.specs.Saying.{PutsEnd, PutsReport, SaysCounts, SaysEnd, SaysExit, SaysLeft, SaysOwn, SaysPlain, Says, TakesLeaks};
+ghost use Rattle.bad_free_report.specs.Told.{ending_of};
+ghost use Rattle.heapsafe.specs.Saying.{PutsExit, SaysCounts, SaysEnd, SaysExit, SaysLeft, SaysOwn, SaysPlain, TakesExit, TellsLeaks, ending_told, telling_of};
 ghost use Rattle.heapsafe.specs.Serving.{RunsOn, RunsTyped, RunsWay};
 ghost use Rattle.heapsafe.specs.Sight.{HasRoom, KeepsBoth};
 
 use crate::leaks::write_leaks;
-use crate::places::{line_of_end, text_of, told_end};
+use crate::places::{line_of_end, named_text, told_end};
 use crate::refusal::{OUTPUT_FAULT, Refusal, refuse, refuse_types};
 use crate::running::{evaluate, run_code};
 use crate::streams::Streams;
-use bad_free_report::{InForce, explain, report};
+use bad_free_report::{
+    Ending, Form, InForce, ends_are_said_in_parts, say_before_leaks, say_behind_leaks, say_ended,
+};
 use c_elab::elab;
 use c_pre::Opened;
 use c_tree::Unit;
@@ -87,113 +90,113 @@ pub(crate) fn status_of(end: &End) -> u8
     }
 }
 
-/// Writes how a program ended, with the lines of their texts.
-fn put_report<E: Sink>(
-    end: &End,
-    core: &Core,
-    file: &str,
-    opened: &[Opened],
-    err: &mut E,
-) -> Result<(), Failed>
-    requires { E.faults err.old + 1 < 2 ^ 64 }
-    ensures puts { PutsReport E.Sink core.now file.now opened.now end.now err.old err.new result }
-    ensures cause { CountsFaults (E.faults err.old) (E.faults err.new) result }
+/// How a program is told of: the file and the texts that are named, its core, and the limits by which its end is explained, where
+/// that is asked for.
+#[derive(Clone, Copy)]
+pub(crate) struct Telling<'a> {
+    pub(crate) file: &'a str,
+    pub(crate) opened: &'a [Opened],
+    pub(crate) core: &'a Core,
+    pub(crate) asked: Option<InForce>,
+}
+
+/// How a program ended, with the lines of their texts.
+fn told_ending<'a>(telling: &Telling<'a>, end: &End) -> Ending<'a>
+    ensures { ending_of result ≡ ending_told (telling_of telling.now) end.now }
 {
-    let told = told_end(opened, *end);
-    let Some(line) = line_of_end(end) else {
-        return report(&told, core, file.as_bytes(), b"", err);
-    };
-    match text_of(opened, line) {
-        Some(text) => report(&told, core, text.name.as_slice(), text.text.as_slice(), err),
-        None => report(&told, core, b"", b"", err),
+    let how = told_end(telling.opened, *end);
+    let (name, text) = named_text(telling.file, telling.opened, line_of_end(end));
+    Ending {
+        core: telling.core,
+        name,
+        text,
+        limits: telling.asked,
+        how,
     }
 }
 
-/// Writes how a program ended, and the lines that explain it, where they are asked for.
-fn put_end<E: Sink>(
-    end: &End,
-    core: &Core,
-    file: &str,
-    opened: &[Opened],
-    explains: Option<InForce>,
-    err: &mut E,
-) -> Result<(), Failed>
-    requires { E.faults err.old + 1 < 2 ^ 64 }
-    ensures puts { PutsEnd E.Sink core.now file.now opened.now explains end.now err.old err.new result }
-    ensures cause { CountsFaults (E.faults err.old) (E.faults err.new) result }
-{
-    put_report(end, core, file, opened, err)?;
-    explain(end, explains, err)
-}
-
-/// Reports how a program ended, and answers its status or that of a failed write.
+/// Says how a program ended, and answers its status or that of a failed write.
 fn finish<I: Source, O: Sink, E: Sink>(
     end: &End,
-    core: &Core,
-    file: &str,
-    opened: &[Opened],
-    explains: Option<InForce>,
+    telling: &Telling<'_>,
     io: &mut Streams<I, O, E>,
 ) -> u8
     requires { io.old.err_faults + 1 < 2 ^ 64 }
     ensures keeps { KeepsBoth io.old io.new }
-    ensures says { SaysEnd file.now opened.now core.now explains end.now io.old io.new result }
+    ensures says { SaysEnd (telling_of telling.now) end.now io.old io.new result }
 {
-    match put_end(end, core, file, opened, explains, &mut io.err) {
-        Ok(()) => status_of(end),
+    let status = status_of(end);
+    match say_ended(&mut io.err, io.form, &told_ending(telling, end), status) {
+        Ok(()) => status,
         Err(_) => OUTPUT_FAULT,
     }
 }
 
-/// Writes the lines of the leaks behind an exit, where they are asked for, and answers the program's own status or that of a
-/// failed write.
+/// Says that a program ended by an exit, with the leaks of its machine.
+fn put_exit<E: Sink>(
+    code: u8,
+    machine: &Machine,
+    telling: &Telling<'_>,
+    form: Form,
+    err: &mut E,
+) -> Result<(), Failed>
+    requires kept { KeepsSome machine.now.kept.memory }
+    requires room { E.faults err.old + 1 < 2 ^ 64 }
+    ensures puts { PutsExit E.Sink form (telling_of telling.now) machine.now code err.old err.new result }
+    ensures all { TellsLeaks machine.now result }
+    ensures cause { CountsFaults (E.faults err.old) (E.faults err.new) result }
+{
+    ends_are_said_in_parts();
+    say_before_leaks(err, form, &told_ending(telling, &End::Exit(code)), code)?;
+    write_leaks(machine, telling.opened, form, err)?;
+    say_behind_leaks(err, form)
+}
+
+/// Says that a program ended by an exit, with its leaks, where they are asked for, and answers the program's own status or that of
+/// a failed write.
 fn finish_exit<I: Source, O: Sink, E: Sink>(
     code: u8,
     machine: &Machine,
     leaks: bool,
-    opened: &[Opened],
+    telling: &Telling<'_>,
     io: &mut Streams<I, O, E>,
 ) -> u8
     requires kept { KeepsSome machine.now.kept.memory }
     requires room { io.old.err_faults + 1 < 2 ^ 64 }
     ensures keeps { KeepsBoth io.old io.new }
-    ensures none { leaks ≡ false → Says io.old io.new [] code result }
-    ensures leaks { IsTrue leaks → SaysLeft machine.now opened.now io.old io.new code result }
+    ensures none { leaks ≡ false → SaysEnd (telling_of telling.now) (End.Exit code) io.old io.new result }
+    ensures leaks { IsTrue leaks → SaysLeft machine.now (telling_of telling.now) io.old io.new code result }
     ensures counts { SaysCounts io.old io.new code result }
-    ensures own { io.new.err_faults ≡ io.old.err_faults → TakesLeaks io.old io.new }
+    ensures own { io.new.err_faults ≡ io.old.err_faults → TakesExit io.old io.new }
 {
     if !leaks {
-        return code;
+        return finish(&End::Exit(code), telling, io);
     }
-    match write_leaks(machine, opened, &mut io.err) {
+    match put_exit(code, machine, telling, io.form, &mut io.err) {
         Ok(()) => code,
         Err(_) => OUTPUT_FAULT,
     }
 }
 
-/// Reports how a run ended, or, behind an exit and where they are asked for, its leaks; and answers its status or that of a
-/// failed write.
+/// Says how a run ended, and behind an exit its leaks, where they are asked for; and answers its status or that of a failed write.
 pub(crate) fn finish_run<I: Source, O: Sink, E: Sink>(
     end: &End,
     machine: &Machine,
     leaks: bool,
-    core: &Core,
-    file: &str,
-    opened: &[Opened],
-    explains: Option<InForce>,
+    telling: &Telling<'_>,
     io: &mut Streams<I, O, E>,
 ) -> u8
     requires kept { KeepsSome machine.now.kept.memory }
     requires room { io.old.err_faults + 1 < 2 ^ 64 }
     ensures keeps { KeepsBoth io.old io.new }
-    ensures says { SaysPlain leaks file.now opened.now core.now explains end.now io.old io.new result }
-    ensures leaks { SaysExit leaks end.now machine.now opened.now io.old io.new result }
+    ensures says { SaysPlain leaks (telling_of telling.now) end.now io.old io.new result }
+    ensures leaks { SaysExit leaks end.now machine.now (telling_of telling.now) io.old io.new result }
     ensures counts { SaysCounts io.old io.new (status_of end.now) result }
     ensures own { SaysOwn end.now io.old io.new }
 {
     match end {
-        End::Exit(code) => finish_exit(*code, machine, leaks, opened, io),
-        _ => finish(end, core, file, opened, explains, io),
+        End::Exit(code) => finish_exit(*code, machine, leaks, telling, io),
+        _ => finish(end, telling, io),
     }
 }
 
@@ -218,8 +221,13 @@ fn run_core<I: Source, O: Sink, E: Sink>(
 {
     match run_code(alloc, core, limits, steps, &mut io.input, &mut io.out) {
         Ok((end, machine)) => {
-            let explains = explains_run(explain, steps, limits);
-            finish_run(&end, &machine, leaks, core, file, opened, explains, io)
+            let telling = Telling {
+                file,
+                opened,
+                core,
+                asked: explains_run(explain, steps, limits),
+            };
+            finish_run(&end, &machine, leaks, &telling, io)
         }
         Err(_) => refuse(io, Refusal::NoMemory),
     }
@@ -242,7 +250,15 @@ fn mean_core<I: Source, O: Sink, E: Sink>(
     ensures { RunsWay file.now opened.now core.now (Way.Mean heap steps explain) io.old io.new result }
 {
     match evaluate(alloc, core, steps, heap, &mut io.input, &mut io.out) {
-        Ok(end) => finish(&end, core, file, opened, explains_mean(explain, steps), io),
+        Ok(end) => {
+            let telling = Telling {
+                file,
+                opened,
+                core,
+                asked: explains_mean(explain, steps),
+            };
+            finish(&end, &telling, io)
+        }
         Err(_) => refuse(io, Refusal::NoMemory),
     }
 }

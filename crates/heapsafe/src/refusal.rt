@@ -1,13 +1,13 @@
-//! Answers that are not of a run: each has a line on the error stream and a status.
+//! Answers that are not of a run: of each something is said on the error stream, and it has a status.
 
-ghost use Rattle.std.specs.Prelude.{◌≡◌, ◌+◌, ◌<◌, ◌^◌, ◌++◌};
+ghost use Rattle.std.specs.Prelude.{◌≡◌, ◌+◌, ◌<◌, ◌^◌, option_copied};
 ghost use Rattle.heapsafe.specs.Shown.{untokened};
-ghost use Rattle.heapsafe.specs.Saying.{SaysAt, SaysIn, SaysOnly, name_of, words_of, status_in, shown_of, unmade, untyped};
+ghost use Rattle.heapsafe.specs.Saying.{SaysAt, SaysIn, SaysOnly, file_of, words_of, status_in, shown_of, unmade, untyped};
 
 use crate::places::text_of;
 use crate::streams::Streams;
 use crate::units::ProgramError;
-use bad_free_report::{complain, complain_labelled};
+use bad_free_report::{Refused, Spot, say_refused};
 use c_decls::TypeError;
 use c_pre::{Opened, PreError};
 use hs_base::{Line, Sink, Source};
@@ -32,20 +32,20 @@ pub(crate) enum Refusal<'a> {
 }
 
 impl<'a> Refusal<'a> {
-    /// The name that the line begins with.
-    fn name(&self) -> &'a [u8]
-        ensures { result.now ≡ name_of self.now }
+    /// The file that it is of.
+    fn file(&self) -> Option<&'a [u8]>
+        ensures { option_copied result ≡ file_of self.now }
     {
         match self {
             Refusal::TextFault(file)
             | Refusal::TextTooLong(file)
             | Refusal::BadCode(file)
-            | Refusal::Unverified(file) => file,
-            Refusal::Usage | Refusal::NoMemory | Refusal::OutputFault => b"heapsafe",
+            | Refusal::Unverified(file) => Some(file),
+            Refusal::Usage | Refusal::NoMemory | Refusal::OutputFault => None,
         }
     }
 
-    /// What the line says.
+    /// What it is.
     fn words(&self) -> &'static [u8]
         ensures { result.now ≡ words_of self.now }
     {
@@ -94,7 +94,7 @@ pub(crate) const BAD_TYPES: u8 = 125;
 /// The status of a program of which two units say what may not be said of one name twice.
 pub(crate) const CONFLICT: u8 = 139;
 
-/// Writes the line of a refusal and answers its status, or that of a failed write.
+/// Says what a refusal is and answers its status, or that of a failed write.
 pub(crate) fn refuse<I: Source, O: Sink, E: Sink>(
     io: &mut Streams<I, O, E>,
     refusal: Refusal<'_>,
@@ -102,27 +102,41 @@ pub(crate) fn refuse<I: Source, O: Sink, E: Sink>(
     requires { io.old.err_faults + 1 < 2 ^ 64 }
     ensures { SaysOnly (shown_of refusal.entry) io.old io.new result }
 {
-    match complain(&mut io.err, refusal.name(), refusal.words()) {
-        Ok(()) => refusal.status(),
+    let status = refusal.status();
+    let refused = Refused {
+        kind: refusal.words(),
+        word: None,
+        file: refusal.file(),
+        spot: None,
+        status,
+    };
+    match say_refused(&mut io.err, io.form, &refused) {
+        Ok(()) => status,
         Err(_) => OUTPUT_FAULT,
     }
 }
 
-/// Writes the line of a refusal at a line of a text, with that line below it, and answers this status, or that of a failed
-/// write.
+/// Says what a refusal at a line of a text is, with that line, and answers this status, or that of a failed write.
 fn refuse_at<I: Source, O: Sink, E: Sink>(
     io: &mut Streams<I, O, E>,
     name: &[u8],
     line: Line,
     text: &[u8],
-    label: &[u8],
-    words: &[u8],
+    kind: &'static [u8],
+    word: Option<&[u8]>,
     status: u8,
 ) -> u8
     requires { io.old.err_faults + 1 < 2 ^ 64 }
-    ensures { SaysAt name.now line text.now (label.now ++ words.now) status io.old io.new result }
+    ensures { SaysAt name.now line text.now kind.now (option_copied word.entry) status io.old io.new result }
 {
-    match complain_labelled(&mut io.err, name, line, label, words, text) {
+    let refused = Refused {
+        kind,
+        word,
+        file: Some(name),
+        spot: Some(Spot { line, text }),
+        status,
+    };
+    match say_refused(&mut io.err, io.form, &refused) {
         Ok(()) => status,
         Err(_) => OUTPUT_FAULT,
     }
@@ -133,12 +147,12 @@ fn refuse_in<I: Source, O: Sink, E: Sink>(
     io: &mut Streams<I, O, E>,
     opened: &[Opened],
     line: Line,
-    label: &[u8],
-    words: &[u8],
+    kind: &'static [u8],
+    word: Option<&[u8]>,
     status: u8,
 ) -> u8
     requires { io.old.err_faults + 1 < 2 ^ 64 }
-    ensures { SaysIn opened.now line (label.now ++ words.now) status io.old io.new result }
+    ensures { SaysIn opened.now line kind.now (option_copied word.entry) status io.old io.new result }
 {
     match text_of(opened, line) {
         Some(text) => {
@@ -147,12 +161,12 @@ fn refuse_in<I: Source, O: Sink, E: Sink>(
                 text.name.as_slice(),
                 line.saturating_sub(text.base),
                 text.text.as_slice(),
-                label,
-                words,
+                kind,
+                word,
                 status,
             )
         }
-        None => refuse_at(io, b"", line, b"", label, words, status),
+        None => refuse_at(io, b"", line, b"", kind, word, status),
     }
 }
 
@@ -171,8 +185,8 @@ pub(crate) fn refuse_text<I: Source, O: Sink, E: Sink>(
                 at.name.as_slice(),
                 at.line,
                 at.text.as_slice(),
-                b"preprocess: ",
-                kind.word().as_bytes(),
+                b"preprocess",
+                Some(kind.word().as_bytes()),
                 BAD_LINE,
             )
         }
@@ -182,8 +196,8 @@ pub(crate) fn refuse_text<I: Source, O: Sink, E: Sink>(
                 at.name.as_slice(),
                 at.line,
                 at.text.as_slice(),
-                b"lex: ",
-                kind.word().as_bytes(),
+                b"lex",
+                Some(kind.word().as_bytes()),
                 BAD_TOKENS,
             )
         }
@@ -208,8 +222,8 @@ pub(crate) fn refuse_types<I: Source, O: Sink, E: Sink>(
                 io,
                 opened,
                 line,
-                b"type: ",
-                kind.word().as_bytes(),
+                b"type",
+                Some(kind.word().as_bytes()),
                 BAD_TYPES,
             )
         }
@@ -228,15 +242,15 @@ pub(crate) fn refuse_program<I: Source, O: Sink, E: Sink>(
     match error {
         ProgramError::Text(error) => refuse_text(io, error),
         ProgramError::Syntax { texts, line } => {
-            refuse_in(io, texts.as_slice(), *line, b"", b"syntax", BAD_TREE)
+            refuse_in(io, texts.as_slice(), *line, b"syntax", None, BAD_TREE)
         }
         ProgramError::Conflict { texts, name, line } => {
             refuse_in(
                 io,
                 texts.as_slice(),
                 *line,
-                b"conflict: ",
-                name.as_slice(),
+                b"conflict",
+                Some(name.as_slice()),
                 CONFLICT,
             )
         }

@@ -13,7 +13,8 @@ returns-clause-shape c =
     let with_stack = c.in_ok-arg-3.ensures.shape c.option-2.ensures.local ∙ ap₂ with_rule with_heap c.option-2.ensures.rule in
     let with_steps = c.in_ok-arg-4.ensures.shape c.option-3.ensures.local ∙ ap₂ with_rule with_stack c.option-3.ensures.rule in
     let with_leaks = c.in_ok-arg-5.ensures.shape c.flag.ensures.local ∙ ap₂ with_rule with_steps c.flag.ensures.rule in
-    IfOk-weaker c.arg-6.result _ _ (λ r h. h.shape c.flag-2.ensures.local ∙ ap₂ with_rule with_leaks c.flag-2.ensures.rule) c.arg-6.ensures
+    let with_explain = c.in_ok-arg-6.ensures.shape c.flag-2.ensures.local ∙ ap₂ with_rule with_leaks c.flag-2.ensures.rule in
+    IfOk-weaker c.arg-7.result _ _ (λ r h. h.shape c.flag-3.ensures.local ∙ ap₂ with_rule with_explain c.flag-3.ensures.rule) c.arg-7.ensures
 
 pub returns-clause-local : goal.returns-clause-local
 returns-clause-local c =
@@ -22,4 +23,5 @@ returns-clause-local c =
     let with_stack = c.in_ok-arg-3.ensures.globals ∙ ap₂ either with_heap c.option-2.ensures.local in
     let with_steps = c.in_ok-arg-4.ensures.globals ∙ ap₂ either with_stack c.option-3.ensures.local in
     let with_leaks = c.in_ok-arg-5.ensures.globals ∙ ap₂ either with_steps c.flag.ensures.local in
-    IfOk-weaker c.arg-6.result _ _ (λ r h. h.globals ∙ ap₂ either with_leaks c.flag-2.ensures.local) c.arg-6.ensures
+    let with_explain = c.in_ok-arg-6.ensures.globals ∙ ap₂ either with_leaks c.flag-2.ensures.local in
+    IfOk-weaker c.arg-7.result _ _ (λ r h. h.globals ∙ ap₂ either with_explain c.flag-3.ensures.local) c.arg-7.ensures

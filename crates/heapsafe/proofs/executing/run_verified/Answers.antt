@@ -29,8 +29,8 @@ returns-in-Ok g c =
     let ends : List ℕ → Option End = λ left. code_ends code left asked.steps asked.limits none none in
     let objects : List ℕ → List Object = λ left. (meaning code left asked.steps asked.limits.heap).state.state.objects in
     seen_from (λ b a r. Runs ⊤ (λ i s. AnswersCode file c.args.code.now i asked s) b a r) _ _ _ _ c.io.view_is
-    (serves_alike file names _ after result ⊤ (λ (i : Input). code_within asked.limits code i.bytes asked.steps asked.leaks) _ _ _ _ c.requires.text c.explains_run-explains.ensures
-    (serves_done file c.args.opened.now names c.explains_run-explains.result _ after result ⊤ c.in-Ok.end asked.leaks events ends objects
+    (serves_alike file names _ after result ⊤ (λ (i : Input). code_within asked.limits code i.bytes asked.steps asked.leaks) _ _ _ _ c.requires.text c.explains_run.ensures
+    (serves_done file c.args.opened.now names c.explains_run.result _ after result ⊤ c.in-Ok.end asked.leaks events ends objects
     (kept_counts _ _ keeps c.in-Ok.end _ _ c.in-Ok.ensures.faults)
     (λ left k.
     let p = (c.in-Ok.ensures.ran left k).told in
@@ -48,9 +48,9 @@ returns-in-Ok g c =
           (subst (λ (s : CodeState). Keeps c.in-Ok.machine.kept.memory image.2.places s.state.objects) (sym same) image.2.agrees.keeps) in
           record { says = told.says; all = told.all };
     })
-    c.finish_run.ensures.says c.finish_run.ensures.counts c.finish_run.ensures.own))
+    c.finish_run.ensures.says c.finish_run.ensures.counts c.finish_run.ensures.own keeps.form))
 
 pub returns-in-Err : goal.returns-in-Err
 returns-in-Err g c =
     seen_from (λ b a r. Runs ⊤ (λ i s. AnswersCode c.args.file.now c.args.code.now i c.args.asked s) b a r) _ _ _ _ c.io.view_is
-    (serves_none _ _ _ _ _ _ _ (said_behind _ _ _ _ _ (record { input = c.in-Err.ensures.input_stays; left = ap g.I.Source.left c.in-Err.ensures.input_stays; faults = ap g.I.Source.faults c.in-Err.ensures.input_stays }) (record { out = c.in-Err.ensures.out_stays; taken = ap g.O.Sink.taken c.in-Err.ensures.out_stays; faults = ap g.O.Sink.faults c.in-Err.ensures.out_stays }) refl refl c.refuse.ensures))
+    (serves_none _ _ _ _ _ _ _ (said_behind _ _ _ _ _ (record { input = c.in-Err.ensures.input_stays; left = ap g.I.Source.left c.in-Err.ensures.input_stays; faults = ap g.I.Source.faults c.in-Err.ensures.input_stays }) (record { out = c.in-Err.ensures.out_stays; taken = ap g.O.Sink.taken c.in-Err.ensures.out_stays; faults = ap g.O.Sink.faults c.in-Err.ensures.out_stays }) refl refl refl c.refuse.ensures))

@@ -7,8 +7,7 @@ use Rattle.core_tree.specs.declared.program.Core.{Core}
 use Rattle.bad_free_report.specs.declared.explanation.InForce.{InForce}
 use Rattle.flat_machine.specs.Running.{RunCounts}
 use Rattle.heapsafe.specs.declared.program.Way.TheVariants.{Mean}
-use Rattle.heapsafe.specs.Places.{told_end_of}
-use Rattle.heapsafe.specs.Program.{AnswersProgram, AnswersWay, Input, explains_mean, meant, status_of}
+use Rattle.heapsafe.specs.Program.{AnswersProgram, AnswersWay, Input, explains_mean, meant, status_of, told_notice}
 use Rattle.heapsafe.specs.Saying.{Puts, SaysEnd}
 use Rattle.heapsafe.specs.Serving.{Runs}
 use Rattle.heapsafe.specs.Shown.{Shown}
@@ -23,12 +22,12 @@ use Rattle.heapsafe.proofs.program.mean_core.Goals as goal
 serves_plain : {I O E : Type 0} (file : List ℕ) (opened : List Opened) (core : Core) (asked : Option InForce) (before after : Sight I O E) (result : ℕ) (x : End) (events : List ℕ → List Event) (ends : List ℕ → Option End) →
     RunCounts x before.input_faults after.input_faults before.out_faults after.out_faults →
     ((left : List ℕ) → before.left ≡ Some left → Puts (Makes (events left) (ends left) left x after.left) before.taken after.taken) →
-    SaysEnd file opened core asked x before after result →
+    SaysEnd (record { file = file; opened = opened; core = core; asked = asked }) x before after result → after.form ≡ before.form →
     Runs ⊥ (λ i a. AnswersProgram file opened core asked i.fails (done_of (events i.bytes) (ends i.bytes) [] false) a) before after result
-serves_plain file opened core asked before after result x events ends counts put said =
+serves_plain file opened core asked before after result x events ends counts put said form =
     serves_done file opened core asked before after result ⊥ x false events ends (λ left. []) counts put
     (λ left k. record { none = λ _. said; some = λ code (asks : IsTrue false) is. absurd cc })
-    (λ _. said) (counts_of before after result (status_of x) (told_end_of core file opened asked x) said) (own_of before after result file opened core asked x said)
+    (λ _. said) (counts_of before after result (status_of x) (told_notice file opened core asked x []) said) (own_of before after result file opened core asked x said) form
 
 pub returns-in-Ok : goal.returns-in-Ok
 returns-in-Ok g c =
@@ -51,10 +50,10 @@ returns-in-Ok g c =
     (λ left k.
     let p = c.in-Ok.ensures.told left k in
     kept_puts _ _ keeps (Makes (events left) (ends left) left c.in-Ok.end) _ (record { put = p.put; is = mean_makes core left steps heap _ _ c.in-Ok.end p.is; took = p.took }))
-    said)))
+    said keeps.form)))
 
 pub returns-in-Err : goal.returns-in-Err
 returns-in-Err g c =
     seen_from (λ b a r. Runs ⊥ (λ i s. AnswersWay c.args.file.now c.args.opened.now c.args.core.now i (Mean c.args.heap c.args.steps c.args.explain) s) b a r) _ _ _ _ c.io.view_is
     (serves_unfinished c.args.file.now c.args.opened.now c.args.core.now _ _ c.refuse.new.io c.refuse.result c.args.steps c.args.heap c.args.explain
-    (λ left k. c.in-Err.ensures.told left k) c.in-Err.ensures.faults.0 c.in-Err.ensures.faults.1 refl refl c.refuse.ensures)
+    (λ left k. c.in-Err.ensures.told left k) c.in-Err.ensures.faults.0 c.in-Err.ensures.faults.1 refl refl refl c.refuse.ensures)

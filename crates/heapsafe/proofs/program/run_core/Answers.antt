@@ -22,8 +22,8 @@ returns-in-Ok g c =
     let after = c.finish_run.new.io in
     let result = c.finish_run.result in
     seen_from (λ b a r. Runs ⊤ (λ i s. AnswersWay c.args.file.now c.args.opened.now core i (Run limits steps c.args.leaks c.args.explain) s) b a r) _ _ _ _ c.io.view_is
-    (serves_alike c.args.file.now core _ after result ⊤ (λ (i : Input). run_within limits core i.bytes steps c.args.leaks) _ _ _ _ refl c.explains_run-explains.ensures
-    (serves_done c.args.file.now c.args.opened.now core c.explains_run-explains.result _ after result ⊤ c.in-Ok.end c.args.leaks events ends (λ left. (cut_run core left steps limits).state.objects)
+    (serves_alike c.args.file.now core _ after result ⊤ (λ (i : Input). run_within limits core i.bytes steps c.args.leaks) _ _ _ _ refl c.explains_run.ensures
+    (serves_done c.args.file.now c.args.opened.now core c.explains_run.result _ after result ⊤ c.in-Ok.end c.args.leaks events ends (λ left. (cut_run core left steps limits).state.objects)
     (kept_counts _ _ keeps c.in-Ok.end _ _ c.in-Ok.ensures.faults)
     (λ left k.
     let p = (c.in-Ok.ensures.ran left k).2.told in
@@ -36,9 +36,9 @@ returns-in-Ok g c =
           let told = c.finish_run.ensures.leaks code asked is image.places (cut_run core left steps limits).state.objects image.agrees.keeps in
           record { says = told.says; all = told.all };
     })
-    c.finish_run.ensures.says c.finish_run.ensures.counts c.finish_run.ensures.own))
+    c.finish_run.ensures.says c.finish_run.ensures.counts c.finish_run.ensures.own keeps.form))
 
 pub returns-in-Err : goal.returns-in-Err
 returns-in-Err g c =
     seen_from (λ b a r. Runs ⊤ (λ i s. AnswersWay c.args.file.now c.args.opened.now c.args.core.now i (Run c.args.limits c.args.steps c.args.leaks c.args.explain) s) b a r) _ _ _ _ c.io.view_is
-    (serves_none _ _ _ _ _ _ _ (said_behind _ _ _ _ _ (record { input = c.in-Err.ensures.input_stays; left = ap g.I.Source.left c.in-Err.ensures.input_stays; faults = ap g.I.Source.faults c.in-Err.ensures.input_stays }) (record { out = c.in-Err.ensures.out_stays; taken = ap g.O.Sink.taken c.in-Err.ensures.out_stays; faults = ap g.O.Sink.faults c.in-Err.ensures.out_stays }) refl refl c.refuse.ensures))
+    (serves_none _ _ _ _ _ _ _ (said_behind _ _ _ _ _ (record { input = c.in-Err.ensures.input_stays; left = ap g.I.Source.left c.in-Err.ensures.input_stays; faults = ap g.I.Source.faults c.in-Err.ensures.input_stays }) (record { out = c.in-Err.ensures.out_stays; taken = ap g.O.Sink.taken c.in-Err.ensures.out_stays; faults = ap g.O.Sink.faults c.in-Err.ensures.out_stays }) refl refl refl c.refuse.ensures))

@@ -7,9 +7,9 @@ use Rattle.heapsafe.proofs.written.write_text.Goals as goal
 pub returns-in-Ok : goal.returns-in-Ok
 returns-in-Ok g c =
     seen_from (Writes (written c.args.text.now)) _ _ _ _ c.io.view_is
-    (serves_written _ _ _ c.args.text.now (record { input = refl; left = refl; faults = refl }) c.in-Ok.ensures.cause c.in-Ok.ensures.bytes refl refl refl)
+    (serves_written _ _ _ c.args.text.now (record { input = refl; left = refl; faults = refl }) refl c.in-Ok.ensures.cause c.in-Ok.ensures.bytes refl refl refl)
 
 pub returns-in-Err : goal.returns-in-Err
 returns-in-Err g c =
     seen_from (Writes (written c.args.text.now)) _ _ _ _ c.io.view_is
-    (serves_cut _ _ c.refuse.new.io c.refuse.result c.args.text.now (record { input = refl; left = refl; faults = refl }) c.in-Err.ensures.cause c.in-Err.ensures.bytes refl refl c.refuse.ensures)
+    (serves_cut _ _ c.refuse.new.io c.refuse.result c.args.text.now (record { input = refl; left = refl; faults = refl }) c.in-Err.ensures.cause c.in-Err.ensures.bytes refl refl refl c.refuse.ensures)
