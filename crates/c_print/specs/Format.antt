@@ -10,6 +10,10 @@ use Rattle.c_print.specs.Item.{ReadsItem}
 abbrev pub plain_byte : ℕ → List ℕ
 plain_byte b = cond (nat_eq b 37) (37 ∷ 37 ∷ []) (b ∷ [])
 
+-- a plain byte stands at the front, and this behind it
+abbrev pub BeginsPlain : List ℕ → ℕ → List ℕ → Type 0
+BeginsPlain bytes b rest = (b ≢ 0) × (bytes ≡ plain_byte b ++ rest)
+
 -- a plain byte stands at the front
 abbrev pub GoesOnPlain : List ℕ → Type 0
 GoesOnPlain bytes = (b : ℕ) × (rest : List ℕ) × (b ≢ 0) × (bytes ≡ plain_byte b ++ rest)
@@ -41,3 +45,14 @@ abbrev pub IsGiven : Piece → Type 0
 IsGiven (Plain text) = (text ≢ []) × All (λ b. b ≢ 0) text
 IsGiven (Item left zeros width conv kind) =
     HasKind conv kind × (width ≤ 4095) × (zeros && is_one_of (codes "cs") conv ≡ false)
+
+-- no percent sign stands at the front, and no piece
+abbrev pub HasNoPercent : List ℕ → Type 0
+HasNoPercent bytes = (item : List ℕ) → bytes ≢ 37 ∷ item
+
+abbrev pub HasNoPiece : List ℕ → Type 0
+HasNoPiece bytes = (piece : Piece) (rest : List ℕ) → ¬ ReadsPiece bytes piece rest
+
+-- bytes are a format in one way at most
+abbrev pub FormatsAreOne : Type 0
+FormatsAreOne = (bytes : List ℕ) (one other : List Piece) → IsFormat bytes one → IsFormat bytes other → one ≡ other

@@ -1,5 +1,5 @@
 -- How an item of a format is written behind its percent sign (C99 7.19.6.1 paragraph 4, narrowed).
-use Rattle.std.specs.Prelude.{◌≡◌, ◌≤◌, ℕ, Bool, true, false, cond, List, [], ◌∷◌, ◌++◌, Some, nat_eq, ◌&&◌, codes}
+use Rattle.std.specs.Prelude.{◌≡◌, ◌≢◌, ◌≤◌, ℕ, Bool, true, false, cond, List, [], ◌∷◌, ◌++◌, Some, nat_eq, ◌&&◌, codes}
 use Rattle.std.specs.List.{list_all}
 use Rattle.std.specs.Fmt.{decimal}
 use Rattle.hs_base.specs.declared.ends.IntKind.{IntKind}
@@ -36,3 +36,19 @@ pub record ReadsItem (bytes : List ℕ) (left zeros : Bool) (width conv : ℕ) (
   pub width_fits : width ≤ 4095
   pub conversion : ReadsConversion behind conv kind rest
   pub no_zeros_in_text : zeros && is_one_of (codes "cs") conv ≡ false
+
+-- digits write a width, and they write none that is not too great
+abbrev pub WritesWidth : List ℕ → ℕ → Type 0
+WritesWidth digits width = (width ≤ 4095) × (digits ≡ width_bytes width)
+
+abbrev pub WritesNoWidth : List ℕ → Type 0
+WritesNoWidth digits = (width : ℕ) → width ≤ 4095 → digits ≢ width_bytes width
+
+-- no conversion stands at the front, and no item
+abbrev pub HasNoConversion : List ℕ → Type 0
+HasNoConversion bytes = (conv : ℕ) (kind : IntKind) (rest : List ℕ) → ¬ ReadsConversion bytes conv kind rest
+
+abbrev pub HasNoItem : List ℕ → Type 0
+HasNoItem bytes =
+    (left zeros : Bool) (width conv : ℕ) (kind : IntKind) (rest : List ℕ) →
+    ¬ ReadsItem bytes left zeros width conv kind rest

@@ -1,5 +1,5 @@
 -- Lengths of an item, and the kinds of integers that they give with a conversion (C99 7.19.6.1 paragraphs 7 and 8).
-use Rattle.std.specs.Prelude.{◌≡◌, ℕ, Bool, cond, List, [], Option, Some, None, nat_eq, codes}
+use Rattle.std.specs.Prelude.{◌≡◌, ◌≢◌, ◌∷◌, ◌++◌, ℕ, Bool, cond, List, [], Option, Some, None, nat_eq, codes}
 use Rattle.std.specs.List.{list_any}
 use Rattle.hs_base.specs.declared.ends.IntKind.{IntKind}
 use Rattle.hs_base.specs.declared.ends.IntKind.TheVariants.{I8, U8, I16, U16, I32, U32, I64, U64}
@@ -49,3 +49,9 @@ kind_of length conv =
 -- a conversion has this kind with one of its lengths
 abbrev pub HasKind : ℕ → IntKind → Type 0
 HasKind conv kind = (length : Length) × (kind_of length conv ≡ Some kind)
+
+-- every length that a conversion can follow at the front of the bytes is this one, and this stands behind it
+abbrev pub IsOnlyLength : List ℕ → Length → List ℕ → Type 0
+IsOnlyLength bytes front behind =
+    (length : Length) (conv : ℕ) (rest : List ℕ) → kind_of length conv ≢ None →
+    bytes ≡ length_bytes length ++ conv ∷ rest → (length ≡ front) × (behind ≡ conv ∷ rest)

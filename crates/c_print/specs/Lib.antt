@@ -5,4 +5,5 @@ pub mod Format
 pub mod Print
 pub mod PutsEquations
 pub mod Filled
+pub mod Fields
 pub mod Pieces

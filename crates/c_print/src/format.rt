@@ -1,8 +1,8 @@
 //! Reading a whole format.
 
-ghost use Rattle.std.specs.Prelude.{◌≡◌, ◌≢◌, ◌∷◌, ℕ, List, Err, IfOk, MatchOption, All};
+ghost use Rattle.std.specs.Prelude.{◌≡◌, ◌∷◌, List, Err, IfOk, MatchOption, All};
 ghost use Rattle.c_print.specs.declared.piece.Piece.{Piece};
-ghost use Rattle.c_print.specs.Format.{ReadsPiece, IsFormat, IsGiven};
+ghost use Rattle.c_print.specs.Format.{ReadsPiece, HasNoPercent, HasNoPiece, IsFormat, IsGiven};
 ghost use Rattle.c_print.specs.Pieces.{pieces_of};
 
 use crate::item::read_item;
@@ -13,7 +13,7 @@ use std::alloc::Global;
 
 /// The bytes behind a percent sign at the front.
 fn after_percent(bytes: &[u8]) -> Option<&[u8]>
-    ensures { MatchOption result ((item : List ℕ) → bytes.now ≢ 37 ∷ item) (λ item. bytes.now ≡ 37 ∷ item.now) }
+    ensures { MatchOption result (HasNoPercent bytes.now) (λ item. bytes.now ≡ 37 ∷ item.now) }
 {
     match bytes {
         [b'%', item @ ..] => Some(item),
@@ -24,7 +24,7 @@ fn after_percent(bytes: &[u8]) -> Option<&[u8]>
 /// The piece at the front, and the bytes behind it.
 fn read_piece(alloc: Global, bytes: &[u8]) -> Result<(Piece, &[u8]), FormatError>
     ensures piece { IfOk result (λ r. ReadsPiece bytes.now r.0 r.1.now) }
-    ensures bad { result ≡ Err FormatError.Bad → (piece : Piece) (rest : List ℕ) → ¬ ReadsPiece bytes.now piece rest }
+    ensures bad { result ≡ Err FormatError.Bad → HasNoPiece bytes.now }
 {
     let (text, rest) = read_plain(alloc, bytes)?;
     if text.len() > 0 {

@@ -1,10 +1,9 @@
 //! Reading an item of a format.
 
-ghost use Rattle.std.specs.Prelude.{◌≡◌, ◌≢◌, ◌≤◌, ◌<◌, ◌∷◌, ◌++◌, ℕ, Bool, List, true, MatchOption, IfSome, IsNone, slice_index, codes};
+ghost use Rattle.std.specs.Prelude.{◌≡◌, ◌≢◌, ◌<◌, ◌∷◌, ◌++◌, true, MatchOption, IfSome, IsNone, slice_index, codes};
 ghost use Rattle.std.specs.List.{list_all, prefix_len};
 ghost use Rattle.std.specs.Char.{is_ascii_digit};
-ghost use Rattle.hs_base.specs.declared.ends.IntKind.{IntKind};
-ghost use Rattle.c_print.specs.Item.{is_flag, StartsOutside, width_bytes, ReadsConversion, ReadsItem};
+ghost use Rattle.c_print.specs.Item.{is_flag, StartsOutside, WritesWidth, WritesNoWidth, ReadsConversion, HasNoConversion, HasNoItem};
 ghost use Rattle.c_print.specs.Length.{is_one_of};
 ghost use Rattle.c_print.specs.Format.{ReadsPiece};
 
@@ -64,8 +63,7 @@ fn is_text(conv: u8) -> bool
 fn width_of(digits: &[u8]) -> Option<u32>
     requires digits { list_all is_ascii_digit digits.now ≡ true }
     requires no_leading_zero { slice_index digits.now 0 ≢ 48 }
-    ensures { MatchOption result ((width : ℕ) → width ≤ 4095 → digits.now ≢ width_bytes width)
-        (λ width. (width ≤ 4095) × (digits.now ≡ width_bytes width)) }
+    ensures { MatchOption result (WritesNoWidth digits.now) (WritesWidth digits.now) }
 {
     let mut width = 0;
     for digit in digits {
@@ -80,7 +78,7 @@ fn width_of(digits: &[u8]) -> Option<u32>
 /// The conversion at the front with the kind of its number, and the bytes behind it.
 fn read_conversion(bytes: &[u8]) -> Option<(u8, IntKind, &[u8])>
     ensures some { IfSome result (λ r. ReadsConversion bytes.now r.0 r.1 r.2.now) }
-    ensures none { IsNone result → (conv : ℕ) (kind : IntKind) (rest : List ℕ) → ¬ ReadsConversion bytes.now conv kind rest }
+    ensures none { IsNone result → HasNoConversion bytes.now }
 {
     let (length, rest) = split_length(bytes);
     let [conv, rest @ ..] = rest else {
@@ -93,8 +91,7 @@ fn read_conversion(bytes: &[u8]) -> Option<(u8, IntKind, &[u8])>
 /// The item at the front, behind its percent sign, and the bytes behind it.
 pub(crate) fn read_item(bytes: &[u8]) -> Option<(Piece, &[u8])>
     ensures some { IfSome result (λ r. ReadsPiece (37 ∷ bytes.now) r.0 r.1.now) }
-    ensures none { IsNone result → (left zeros : Bool) (width conv : ℕ) (kind : IntKind) (rest : List ℕ) →
-        ¬ ReadsItem bytes.now left zeros width conv kind rest }
+    ensures none { IsNone result → HasNoItem bytes.now }
 {
     let (flags, rest) = split_flags(bytes);
     let (digits, rest) = split_digits(rest);

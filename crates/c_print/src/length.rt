@@ -1,8 +1,7 @@
 //! Lengths of an item.
 
-ghost use Rattle.std.specs.Prelude.{◌≡◌, ◌≢◌, ◌++◌, ◌∷◌, ℕ, List, None};
-ghost use Rattle.c_print.specs.declared.length.Length.{Length};
-ghost use Rattle.c_print.specs.Length.{length_bytes, signed_kind, unsigned_kind, kind_of};
+ghost use Rattle.std.specs.Prelude.{◌≡◌, ◌++◌};
+ghost use Rattle.c_print.specs.Length.{length_bytes, signed_kind, unsigned_kind, kind_of, IsOnlyLength};
 
 use hs_base::IntKind;
 
@@ -59,8 +58,7 @@ impl Length {
 /// The length at the front, and the bytes behind it. It is the one that a conversion can follow.
 pub(crate) fn split_length(bytes: &[u8]) -> (Length, &[u8])
     ensures whole { bytes.now ≡ length_bytes result.0 ++ result.1.now }
-    ensures only { (length : Length) (conv : ℕ) (rest : List ℕ) → kind_of length conv ≢ None →
-        bytes.now ≡ length_bytes length ++ conv ∷ rest → (length ≡ result.0) × (result.1.now ≡ conv ∷ rest) }
+    ensures only { IsOnlyLength bytes.now result.0 result.1.now }
 {
     match bytes {
         [b'h', b'h', rest @ ..] => (Length::Hh, rest),

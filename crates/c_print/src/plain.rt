@@ -1,15 +1,14 @@
 //! Reading plain bytes of a format.
 
-ghost use Rattle.std.specs.Prelude.{◌≡◌, ◌≢◌, ◌++◌, MatchOption, IfOk};
-ghost use Rattle.c_print.specs.Format.{plain_byte, GoesOnPlain, ReadsPlain};
+ghost use Rattle.std.specs.Prelude.{MatchOption, IfOk};
+ghost use Rattle.c_print.specs.Format.{GoesOnPlain, BeginsPlain, ReadsPlain};
 
 use hs_base::{Items, NoMemory};
 use std::alloc::Global;
 
 /// The plain byte at the front, where there is one, and the bytes behind it.
 fn split_plain(bytes: &[u8]) -> Option<(u8, &[u8])>
-    ensures { MatchOption result (¬ GoesOnPlain bytes.now)
-        (λ r. (r.0 ≢ 0) × (bytes.now ≡ plain_byte r.0 ++ r.1.now)) }
+    ensures { MatchOption result (¬ GoesOnPlain bytes.now) (λ r. BeginsPlain bytes.now r.0 r.1.now) }
 {
     match bytes {
         [b'%', b'%', rest @ ..] => Some((b'%', rest)),

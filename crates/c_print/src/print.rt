@@ -1,12 +1,12 @@
 //! Writing an item's number.
 
-ghost use Rattle.std.specs.Prelude.{◌≡◌, ◌+◌, ◌-◌, ◌<◌, ◌^◌, ◌⊎◌, ◌++◌, ◌∷◌, [], ℕ, List, false, IfOk, length, replicate, unsigned_abs};
+ghost use Rattle.std.specs.Prelude.{◌≡◌, ◌+◌, ◌-◌, ◌<◌, ◌^◌, ◌⊎◌, false, IfOk, length, replicate, unsigned_abs};
 ghost use Rattle.std.specs.Int.{is_negative};
 ghost use Rattle.std.specs.Fmt.{sign_text};
 ghost use Rattle.hs_base.specs.Outside.{CountsFaults};
 ghost use Rattle.hs_base.specs.PutAll.{PutsAll};
-ghost use Rattle.c_print.specs.Filled.{filled};
-ghost use Rattle.c_print.specs.Print.{numeral, field, item_bytes, TakesNumber};
+ghost use Rattle.c_print.specs.Fields.{padded, shown, FillsWidth};
+ghost use Rattle.c_print.specs.Print.{item_bytes, TakesNumber};
 
 use crate::numeral::{LONGEST, write_numeral};
 use crate::piece::Piece;
@@ -56,8 +56,7 @@ struct Fills {
 impl Field {
     /// What fills a text of that length.
     fn fills(self, len: u32) -> Fills
-        ensures filled { (sign text : List ℕ) → length sign + length text ≡ len →
-            field self.left self.zeros self.width sign text ≡ filled result.before result.zeros result.after sign text }
+        ensures filled { FillsWidth self len result }
         ensures whole { result.before + result.zeros + result.after ≡ self.width - len }
     {
         let fill = self.width.saturating_sub(len);
@@ -86,8 +85,8 @@ impl Field {
     fn put<O: Sink>(self, out: &mut O, sign: &[u8], text: &[u8]) -> Result<u32, Failed>
         requires count { O.faults out.old + 1 < 2 ^ 64 }
         requires short { length sign.now + length text.now < 2 ^ 32 }
-        ensures bytes { PutsAll (O.taken out.old) (O.taken out.new) (field self.left self.zeros self.width sign.now text.now) result }
-        ensures len { IfOk result (λ n. n ≡ length (field self.left self.zeros self.width sign.now text.now)) }
+        ensures bytes { PutsAll (O.taken out.old) (O.taken out.new) (padded self sign.now text.now) result }
+        ensures len { IfOk result (λ n. n ≡ length (padded self sign.now text.now)) }
         ensures cause { CountsFaults (O.faults out.old) (O.faults out.new) result }
     {
         let len = (sign.len() + text.len()) as u32;
@@ -105,10 +104,8 @@ impl Field {
     fn put_decimal<O: Sink>(self, out: &mut O, value: i128) -> Result<u32, Failed>
         requires count { O.faults out.old + 1 < 2 ^ 64 }
         requires fits { unsigned_abs value < 2 ^ 64 }
-        ensures bytes { PutsAll (O.taken out.old) (O.taken out.new)
-            (field self.left self.zeros self.width (sign_text (is_negative value)) (numeral 10 false (unsigned_abs value))) result }
-        ensures len { IfOk result (λ n. n ≡ length (field self.left self.zeros self.width
-            (sign_text (is_negative value)) (numeral 10 false (unsigned_abs value)))) }
+        ensures bytes { PutsAll (O.taken out.old) (O.taken out.new) (shown self 10 false value) result }
+        ensures len { IfOk result (λ n. n ≡ length (shown self 10 false value)) }
         ensures cause { CountsFaults (O.faults out.old) (O.faults out.new) result }
     {
         let mut buffer = Buffer::new();
@@ -127,10 +124,8 @@ impl Field {
         requires count { O.faults out.old + 1 < 2 ^ 64 }
         requires base { (base ≡ 8) ⊎ (base ≡ 16) }
         requires fits { unsigned_abs value < 2 ^ 64 }
-        ensures bytes { PutsAll (O.taken out.old) (O.taken out.new)
-            (field self.left self.zeros self.width (sign_text (is_negative value)) (numeral base capital (unsigned_abs value))) result }
-        ensures len { IfOk result (λ n. n ≡ length (field self.left self.zeros self.width
-            (sign_text (is_negative value)) (numeral base capital (unsigned_abs value)))) }
+        ensures bytes { PutsAll (O.taken out.old) (O.taken out.new) (shown self base capital value) result }
+        ensures len { IfOk result (λ n. n ≡ length (shown self base capital value)) }
         ensures cause { CountsFaults (O.faults out.old) (O.faults out.new) result }
     {
         let mut buffer = [0; LONGEST];

@@ -1,5 +1,6 @@
 -- Sets of registers as words of 64 bits.
-use Rattle.std.specs.Prelude.{◌≡◌, ◌==◌, ◌<◌, ◌≤◌, ◌*◌, ◌/◌, ◌%◌, ◌&&◌, ◌||◌, ℕ, Bool, true, false, not, List, [], length, slice_index, slice_index_or}
+use Rattle.std.specs.Prelude.{◌≡◌, ◌==◌, ◌<◌, ◌≤◌, ◌*◌, ◌/◌, ◌%◌, ◌&&◌, ◌||◌, ℕ, Bool, true, false, not, List, [], length, Option, slice_index, slice_index_or}
+use Rattle.std.specs.Option.{option_map_or}
 use Rattle.std.specs.Int.{bit_at}
 use Rattle.local_liveness.specs.declared.register_set.Run.{Run}
 
@@ -16,6 +17,11 @@ pub record Adds (test : ℕ → Bool) (old new : List ℕ) : Type 0 where
 pub record Drops (test : ℕ → Bool) (old new : List ℕ) : Type 0 where
   pub words : length new ≡ length old
   pub bits : (r : ℕ) → r < 64 * length old → has new r ≡ (not (test r) && has old r)
+
+-- a set gets, in as many words, exactly the registers that pass a test
+pub record Becomes (test : ℕ → Bool) (old new : List ℕ) : Type 0 where
+  pub words : length new ≡ length old
+  pub bits : (r : ℕ) → r < 64 * length old → has new r ≡ test r
 
 -- no register from one on and below a bound is in a set
 abbrev pub HasNone : List ℕ → ℕ → ℕ → Type 0
@@ -40,3 +46,7 @@ pub record IsFirst (set : List ℕ) (member : Bool) (from until first : ℕ) : T
 -- the set of a point; past the last there is none
 abbrev pub set_at : List (List ℕ) → ℕ → List ℕ
 set_at sets point = slice_index_or sets point []
+
+-- whether a register is in the set of a target, if there is one
+abbrev pub has_target : List (List ℕ) → Option ℕ → ℕ → Bool
+has_target sets target r = option_map_or (λ point. has (set_at sets point) r) target false

@@ -4,7 +4,7 @@ ghost use Rattle.std.specs.Prelude.{◌≡◌, ◌==◌, ◌<◌, ◌≤◌, ◌
 ghost use Rattle.std.specs.Int.{bit_at, div_ceil};
 ghost use Rattle.std.specs.List.{list_any};
 ghost use Rattle.core_tree.specs.Statements.{is_register, reads, writes};
-ghost use Rattle.local_liveness.specs.Sets.{has, Adds, Drops, HasNone, IsFirst, IsRun};
+ghost use Rattle.local_liveness.specs.Sets.{has, Adds, Becomes, Drops, HasNone, IsFirst, IsRun};
 
 use core_tree::{Atom, StmKind};
 use hs_base::NoMemory;
@@ -118,8 +118,7 @@ impl RegisterSet {
     pub fn become_common(&mut self, one: &RegisterSet, other: &RegisterSet)
         requires one { length one.now ≡ length self.old }
         requires other { length other.now ≡ length self.old }
-        ensures words { length self.new ≡ length self.old }
-        ensures bits { (r : ℕ) → r < 64 * length self.old → has self.new r ≡ (has one.now r && has other.now r) }
+        ensures { Becomes (λ r. has one.now r && has other.now r) self.old self.new }
     {
         meet(&mut self.words, &one.words, &other.words);
     }
@@ -246,8 +245,7 @@ impl RegisterSet {
     /// From the registers that are live after a statement to those that are live in front of it: those that it reads, and
     /// those that it does not write.
     pub(crate) fn go_in_front(&mut self, kind: &StmKind)
-        ensures words { length self.new ≡ length self.old }
-        ensures bits { (r : ℕ) → r < 64 * length self.old → has self.new r ≡ (reads kind.now r || (not (writes kind.now r) && has self.old r)) }
+        ensures { Becomes (λ r. reads kind.now r || (not (writes kind.now r) && has self.old r)) self.old self.new }
     {
         self.remove_written(kind);
         self.insert_reads(kind);
@@ -283,8 +281,7 @@ fn join(words: &mut [u64], others: &[u64]) -> bool
 fn meet(words: &mut [u64], ones: &[u64], others: &[u64])
     requires one { length ones.now ≡ length words.old }
     requires other { length others.now ≡ length words.old }
-    ensures words { length words.new ≡ length words.old }
-    ensures bits { (r : ℕ) → r < 64 * length words.old → has words.new r ≡ (has ones.now r && has others.now r) }
+    ensures { Becomes (λ r. has ones.now r && has others.now r) words.old words.new }
 {
     for i in 0..words.len() {
         words[i] = ones[i] & others[i];

@@ -5,7 +5,7 @@
 ghost use Rattle.std.specs.Prelude.{◌≡◌, ◌<◌, ◌*◌, ◌&&◌, ◌||◌, ℕ, false, length};
 ghost use Rattle.std.specs.Option.{option_map_or};
 ghost use Rattle.core_tree.specs.declared.flow.Edges.{Edges};
-ghost use Rattle.local_liveness.specs.Sets.{has, set_at};
+ghost use Rattle.local_liveness.specs.Sets.{has, has_target, set_at, Becomes};
 ghost use Rattle.local_liveness.specs.Sweeps.{Fills, HasRoom, IsBlank, IsFilled};
 
 use crate::register_set::RegisterSet;
@@ -13,8 +13,7 @@ use core_tree::{Edges, Stm, live_by_paths};
 
 /// From the registers that are live in front of the next point to those that are live after a statement, by its edges.
 pub(crate) fn follow(live: &mut RegisterSet, fronts: &[RegisterSet], edges: Edges)
-    ensures words { length live.new ≡ length live.old }
-    ensures bits { (r : ℕ) → r < 64 * length live.old → has live.new r ≡ ((edges.next && has live.old r) || option_map_or (λ target. has (set_at fronts.now target) r) edges.target false) }
+    ensures { Becomes (λ r. (edges.next && has live.old r) || has_target fronts.now edges.target r) live.old live.new }
 {
     keep_if(live, edges.next);
     match edges.target {
@@ -25,8 +24,7 @@ pub(crate) fn follow(live: &mut RegisterSet, fronts: &[RegisterSet], edges: Edge
 
 /// Takes out all registers where the run does not go on to the next point.
 fn keep_if(live: &mut RegisterSet, goes_on: bool)
-    ensures words { length live.new ≡ length live.old }
-    ensures bits { (r : ℕ) → r < 64 * length live.old → has live.new r ≡ (goes_on && has live.old r) }
+    ensures { Becomes (λ r. goes_on && has live.old r) live.old live.new }
 {
     if !goes_on {
         live.clear();
@@ -35,8 +33,7 @@ fn keep_if(live: &mut RegisterSet, goes_on: bool)
 
 /// Adds the registers that are live in front of a target.
 fn follow_target(live: &mut RegisterSet, fronts: &[RegisterSet], target: usize)
-    ensures words { length live.new ≡ length live.old }
-    ensures bits { (r : ℕ) → r < 64 * length live.old → has live.new r ≡ (has (set_at fronts.now target) r || has live.old r) }
+    ensures { Becomes (λ r. has (set_at fronts.now target) r || has live.old r) live.old live.new }
 {
     if target < fronts.len() {
         live.join(&fronts[target]);

@@ -3,7 +3,7 @@
 ghost use Rattle.std.specs.Prelude.{◌≡◌, ◌<◌, ◌+◌, ◌*◌, ◌&&◌, ◌||◌, ℕ, not, [], IfOk, length, replicate};
 ghost use Rattle.std.specs.Int.{div_ceil};
 ghost use Rattle.core_tree.specs.Statements.{reads_at, writes_at};
-ghost use Rattle.local_liveness.specs.Sets.{has};
+ghost use Rattle.local_liveness.specs.Sets.{has, Becomes};
 ghost use Rattle.local_liveness.specs.Sweeps.{GivesRoom, IsBlank};
 ghost use Rattle.local_liveness.specs.Tables.{IsTableOf, HasLive};
 
@@ -47,8 +47,7 @@ impl LiveTable {
 
 /// From the registers that are live after a point to those that are live in front of it. Past the last point there are as many.
 fn go_in_front_at(live: &mut RegisterSet, body: &[Stm], point: usize)
-    ensures words { length live.new ≡ length live.old }
-    ensures bits { (r : ℕ) → r < 64 * length live.old → has live.new r ≡ (reads_at body.now point r || (not (writes_at body.now point r) && has live.old r)) }
+    ensures { Becomes (λ r. reads_at body.now point r || (not (writes_at body.now point r) && has live.old r)) live.old live.new }
 {
     if point < body.len() {
         live.go_in_front(&body[point].kind);
