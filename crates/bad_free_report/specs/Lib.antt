@@ -5,3 +5,4 @@ pub mod Notice
 pub mod Parts
 pub mod Pieces
 pub mod Told
+pub mod Putting

@@ -2,8 +2,8 @@
 
 ghost use Rattle.std.specs.Prelude.{◌+◌, ◌<◌, ◌^◌};
 ghost use Rattle.hs_base.specs.Outside.{CountsFaults};
-ghost use Rattle.hs_base.specs.PutAll.{PutsAll};
 ghost use Rattle.bad_free_report.specs.Report.{bad_free_text, end_report, holder_line};
+ghost use Rattle.bad_free_report.specs.Putting.{Puts};
 
 use crate::holders::put_holder;
 use crate::lines::{complain, complain_at, complain_labelled};
@@ -25,7 +25,7 @@ pub(crate) fn report<E: Sink>(
     err: &mut E,
 ) -> Result<(), Failed>
     requires { E.faults err.old + 1 < 2 ^ 64 }
-    ensures bytes { PutsAll (E.taken err.old) (E.taken err.new) (end_report core.now name.now text.now end.now) result }
+    ensures bytes { Puts E.Sink err.old err.new (end_report core.now name.now text.now end.now) result }
     ensures cause { CountsFaults (E.faults err.old) (E.faults err.new) result }
 {
     match *end {
@@ -66,7 +66,7 @@ fn report_bad_free<E: Sink>(
     holder: Option<Holder>,
 ) -> Result<(), Failed>
     requires { E.faults err.old + 1 < 2 ^ 64 }
-    ensures bytes { PutsAll (E.taken err.old) (E.taken err.new) (bad_free_text core.now name.now text.now free holder) result }
+    ensures bytes { Puts E.Sink err.old err.new (bad_free_text core.now name.now text.now free holder) result }
     ensures cause { CountsFaults (E.faults err.old) (E.faults err.new) result }
 {
     let words = reason_words(free.reason);
@@ -82,7 +82,7 @@ fn put_first_holder<E: Sink>(
     holder: Option<Holder>,
 ) -> Result<(), Failed>
     requires { E.faults err.old + 1 < 2 ^ 64 }
-    ensures bytes { PutsAll (E.taken err.old) (E.taken err.new) (holder_line core.now reason holder) result }
+    ensures bytes { Puts E.Sink err.old err.new (holder_line core.now reason holder) result }
     ensures cause { CountsFaults (E.faults err.old) (E.faults err.new) result }
 {
     match (reason, holder) {

@@ -1,9 +1,9 @@
 //! What explains how a run ended.
 
-ghost use Rattle.std.specs.Prelude.{◌≡◌, ◌++◌, ◌+◌, ◌<◌, ◌^◌, option_copied};
+ghost use Rattle.std.specs.Prelude.{◌≡◌, ◌+◌, ◌<◌, ◌^◌};
 ghost use Rattle.hs_base.specs.Outside.{CountsFaults};
-ghost use Rattle.hs_base.specs.PutAll.{PutsAll};
 ghost use Rattle.bad_free_report.specs.Explanation.{explained, explanation, free_help, help_line, holder_help, limit_line, trap_help};
+ghost use Rattle.bad_free_report.specs.Putting.{Puts};
 
 use crate::parts::put_parts;
 use hs_base::{End, Failed, Holder, Reason, Sink, TrapKind};
@@ -79,7 +79,7 @@ pub(crate) fn trap_help(kind: TrapKind) -> &'static [u8]
 /// Writes the line that says what to mend.
 fn put_help<E: Sink>(err: &mut E, words: &[u8]) -> Result<(), Failed>
     requires { E.faults err.old + 1 < 2 ^ 64 }
-    ensures bytes { PutsAll (E.taken err.old) (E.taken err.new) (help_line words.now) result }
+    ensures bytes { Puts E.Sink err.old err.new (help_line words.now) result }
     ensures cause { CountsFaults (E.faults err.old) (E.faults err.new) result }
 {
     put_parts(err, &[b"    help: ", words, b"\n"])
@@ -88,7 +88,7 @@ fn put_help<E: Sink>(err: &mut E, words: &[u8]) -> Result<(), Failed>
 /// Writes the line that says a limit, and what raises it.
 fn put_limit<E: Sink>(err: &mut E, limit: u64, words: &[u8]) -> Result<(), Failed>
     requires { E.faults err.old + 1 < 2 ^ 64 }
-    ensures bytes { PutsAll (E.taken err.old) (E.taken err.new) (limit_line limit words.now) result }
+    ensures bytes { Puts E.Sink err.old err.new (limit_line limit words.now) result }
     ensures cause { CountsFaults (E.faults err.old) (E.faults err.new) result }
 {
     let mut digits = Buffer::new();
@@ -99,7 +99,7 @@ fn put_limit<E: Sink>(err: &mut E, limit: u64, words: &[u8]) -> Result<(), Faile
 /// Writes what to mend where a run made all of its steps.
 fn put_spent<E: Sink>(err: &mut E, limits: InForce) -> Result<(), Failed>
     requires { E.faults err.old + 1 < 2 ^ 64 }
-    ensures bytes { PutsAll (E.taken err.old) (E.taken err.new) (explained limits End.Spent) result }
+    ensures bytes { Puts E.Sink err.old err.new (explained limits End.Spent) result }
     ensures cause { CountsFaults (E.faults err.old) (E.faults err.new) result }
 {
     put_help(err, STEPS_HELP)?;
@@ -109,7 +109,7 @@ fn put_spent<E: Sink>(err: &mut E, limits: InForce) -> Result<(), Failed>
 /// Writes what to mend where the stack had no room for a call.
 fn put_out_of_stack<E: Sink>(err: &mut E, limits: InForce) -> Result<(), Failed>
     requires { E.faults err.old + 1 < 2 ^ 64 }
-    ensures bytes { PutsAll (E.taken err.old) (E.taken err.new) (explained limits (End.OutOfStack 0)) result }
+    ensures bytes { Puts E.Sink err.old err.new (explained limits (End.OutOfStack 0)) result }
     ensures cause { CountsFaults (E.faults err.old) (E.faults err.new) result }
 {
     put_help(err, STACK_HELP)?;
@@ -126,7 +126,7 @@ fn put_out_of_stack<E: Sink>(err: &mut E, limits: InForce) -> Result<(), Failed>
 /// the last call on the sink, a prefix was taken.
 pub(crate) fn explain<E: Sink>(end: &End, asked: Option<InForce>, err: &mut E) -> Result<(), Failed>
     requires { E.faults err.old + 1 < 2 ^ 64 }
-    ensures bytes { PutsAll (E.taken err.old) (E.taken err.new) (explanation end.now asked) result }
+    ensures bytes { Puts E.Sink err.old err.new (explanation end.now asked) result }
     ensures cause { CountsFaults (E.faults err.old) (E.faults err.new) result }
 {
     let Some(limits) = asked else {

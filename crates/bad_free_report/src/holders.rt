@@ -2,8 +2,8 @@
 
 ghost use Rattle.std.specs.Prelude.{◌+◌, ◌<◌, ◌^◌, option_copied};
 ghost use Rattle.hs_base.specs.Outside.{CountsFaults};
-ghost use Rattle.hs_base.specs.PutAll.{PutsAll};
 ghost use Rattle.bad_free_report.specs.Report.{func_name, holder_text, register_name, register_text};
+ghost use Rattle.bad_free_report.specs.Putting.{Puts};
 
 use crate::names::{func_name, local_name, register_name, static_name};
 use crate::parts::put_parts;
@@ -14,7 +14,7 @@ use itoa::Buffer;
 /// Writes where the first pointer stands that holds a freed object, and a line feed.
 pub(crate) fn put_holder<E: Sink>(err: &mut E, core: &Core, holder: Holder) -> Result<(), Failed>
     requires { E.faults err.old + 1 < 2 ^ 64 }
-    ensures bytes { PutsAll (E.taken err.old) (E.taken err.new) (holder_text core.now holder) result }
+    ensures bytes { Puts E.Sink err.old err.new (holder_text core.now holder) result }
     ensures cause { CountsFaults (E.faults err.old) (E.faults err.new) result }
 {
     match holder {
@@ -73,7 +73,7 @@ pub(crate) fn put_holder<E: Sink>(err: &mut E, core: &Core, holder: Holder) -> R
 /// Writes that a local holds a freed object, or a value without a name.
 fn put_register<E: Sink>(err: &mut E, name: Option<&[u8]>, func: &[u8]) -> Result<(), Failed>
     requires { E.faults err.old + 1 < 2 ^ 64 }
-    ensures bytes { PutsAll (E.taken err.old) (E.taken err.new) (register_text (option_copied name.entry) func.now) result }
+    ensures bytes { Puts E.Sink err.old err.new (register_text (option_copied name.entry) func.now) result }
     ensures cause { CountsFaults (E.faults err.old) (E.faults err.new) result }
 {
     match name {

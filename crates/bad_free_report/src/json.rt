@@ -3,10 +3,10 @@
 ghost use Rattle.std.specs.Prelude.{◌≡◌, ◌+◌, ◌<◌, ◌^◌, option_copied};
 ghost use Rattle.std.specs.List.{flat_map};
 ghost use Rattle.hs_base.specs.Outside.{CountsFaults};
-ghost use Rattle.hs_base.specs.PutAll.{PutsAll};
 ghost use Rattle.bad_free_report.specs.Json.{control, escaped, hex_digit, number_or_null, quoted, text_or_null, written};
 ghost use Rattle.bstr.specs.Utf8.{lossy_chars};
 ghost use Rattle.bad_free_report.specs.Pieces.{piece_text};
+ghost use Rattle.bad_free_report.specs.Putting.{Puts};
 
 use bstr::ByteSlice;
 use hs_base::{Failed, Sink, put_all};
@@ -60,7 +60,7 @@ fn hex_digit(digit: u8) -> u8
 fn put_control<E: Sink>(err: &mut E, number: u8) -> Result<(), Failed>
     requires low { number < 32 }
     requires room { E.faults err.old + 1 < 2 ^ 64 }
-    ensures bytes { PutsAll (E.taken err.old) (E.taken err.new) (control number) result }
+    ensures bytes { Puts E.Sink err.old err.new (control number) result }
     ensures cause { CountsFaults (E.faults err.old) (E.faults err.new) result }
 {
     if number < 16 {
@@ -76,7 +76,7 @@ fn put_control<E: Sink>(err: &mut E, number: u8) -> Result<(), Failed>
 /// Writes a character within a string.
 fn put_char<E: Sink>(err: &mut E, c: char) -> Result<(), Failed>
     requires { E.faults err.old + 1 < 2 ^ 64 }
-    ensures bytes { PutsAll (E.taken err.old) (E.taken err.new) (escaped c) result }
+    ensures bytes { Puts E.Sink err.old err.new (escaped c) result }
     ensures cause { CountsFaults (E.faults err.old) (E.faults err.new) result }
 {
     let number = c as u32;
@@ -96,7 +96,7 @@ fn put_char<E: Sink>(err: &mut E, c: char) -> Result<(), Failed>
 /// Writes the characters of a string.
 fn put_chars<E: Sink>(err: &mut E, text: &[u8]) -> Result<(), Failed>
     requires { E.faults err.old + 1 < 2 ^ 64 }
-    ensures bytes { PutsAll (E.taken err.old) (E.taken err.new)
+    ensures bytes { Puts E.Sink err.old err.new
         (flat_map escaped (lossy_chars text.now)) result }
     ensures cause { CountsFaults (E.faults err.old) (E.faults err.new) result }
 {
@@ -110,7 +110,7 @@ fn put_chars<E: Sink>(err: &mut E, text: &[u8]) -> Result<(), Failed>
 /// Writes a string.
 fn put_text<E: Sink>(err: &mut E, text: &[u8]) -> Result<(), Failed>
     requires { E.faults err.old + 1 < 2 ^ 64 }
-    ensures bytes { PutsAll (E.taken err.old) (E.taken err.new) (quoted text.now) result }
+    ensures bytes { Puts E.Sink err.old err.new (quoted text.now) result }
     ensures cause { CountsFaults (E.faults err.old) (E.faults err.new) result }
 {
     put_all(err, b"\"")?;
@@ -121,7 +121,7 @@ fn put_text<E: Sink>(err: &mut E, text: &[u8]) -> Result<(), Failed>
 /// Writes a piece of an object.
 fn put_piece<E: Sink>(err: &mut E, piece: Piece<'_>) -> Result<(), Failed>
     requires { E.faults err.old + 1 < 2 ^ 64 }
-    ensures bytes { PutsAll (E.taken err.old) (E.taken err.new) (piece_text piece.entry) result }
+    ensures bytes { Puts E.Sink err.old err.new (piece_text piece.entry) result }
     ensures cause { CountsFaults (E.faults err.old) (E.faults err.new) result }
 {
     match piece {
@@ -141,7 +141,7 @@ fn put_piece<E: Sink>(err: &mut E, piece: Piece<'_>) -> Result<(), Failed>
 /// their bytes was taken.
 pub(crate) fn put_pieces<E: Sink>(err: &mut E, pieces: &[Piece<'_>]) -> Result<(), Failed>
     requires { E.faults err.old + 1 < 2 ^ 64 }
-    ensures bytes { PutsAll (E.taken err.old) (E.taken err.new)
+    ensures bytes { Puts E.Sink err.old err.new
         (flat_map piece_text pieces.now) result }
     ensures cause { CountsFaults (E.faults err.old) (E.faults err.new) result }
 {

@@ -2,8 +2,8 @@
 
 ghost use Rattle.std.specs.Prelude.{◌+◌, ◌<◌, ◌^◌};
 ghost use Rattle.hs_base.specs.Outside.{CountsFaults};
-ghost use Rattle.hs_base.specs.PutAll.{PutsAll};
 ghost use Rattle.bad_free_report.specs.Report.{leak_text};
+ghost use Rattle.bad_free_report.specs.Putting.{Puts};
 
 use crate::parts::put_parts;
 use hs_base::{Failed, Leak, Sink};
@@ -13,7 +13,7 @@ use itoa::Buffer;
 /// and the sum of their sizes in bytes. After a failure, which is the last call on the sink, a prefix was taken.
 pub(crate) fn leak_line<E: Sink>(leak: &Leak, err: &mut E) -> Result<(), Failed>
     requires { E.faults err.old + 1 < 2 ^ 64 }
-    ensures bytes { PutsAll (E.taken err.old) (E.taken err.new) (leak_text leak.now) result }
+    ensures bytes { Puts E.Sink err.old err.new (leak_text leak.now) result }
     ensures cause { CountsFaults (E.faults err.old) (E.faults err.new) result }
 {
     let (mut line, mut blocks, mut bytes) = (Buffer::new(), Buffer::new(), Buffer::new());

@@ -2,10 +2,10 @@
 
 ghost use Rattle.std.specs.Prelude.{◌≡◌, ◌++◌, ◌+◌, ◌<◌, ◌^◌, option_copied};
 ghost use Rattle.hs_base.specs.Outside.{CountsFaults};
-ghost use Rattle.hs_base.specs.PutAll.{PutsAll};
 ghost use Rattle.bad_free_report.specs.Notice.{lines, name_of, word_text};
 ghost use Rattle.bad_free_report.specs.Told.{refused_of};
 ghost use Rattle.bad_free_report.specs.Report.{complaint, complaint_at, heading, source_line, shown_part, whole_line};
+ghost use Rattle.bad_free_report.specs.Putting.{Puts};
 
 use crate::facts::{Refused, Spot};
 use crate::parts::put_parts;
@@ -30,7 +30,7 @@ pub(crate) fn shown_part(text: &[u8], line: Line) -> Option<&[u8]>
 /// byte there.
 fn put_source_line<E: Sink>(err: &mut E, line: Line, text: &[u8]) -> Result<(), Failed>
     requires { E.faults err.old + 1 < 2 ^ 64 }
-    ensures bytes { PutsAll (E.taken err.old) (E.taken err.new) (source_line text.now line) result }
+    ensures bytes { Puts E.Sink err.old err.new (source_line text.now line) result }
     ensures cause { CountsFaults (E.faults err.old) (E.faults err.new) result }
 {
     match shown_part(text, line) {
@@ -42,7 +42,7 @@ fn put_source_line<E: Sink>(err: &mut E, line: Line, text: &[u8]) -> Result<(), 
 /// Writes `NAME: WORDS` and a line feed. After a failure, which is the last call on the sink, a prefix was taken.
 pub(crate) fn complain<E: Sink>(err: &mut E, name: &[u8], words: &[u8]) -> Result<(), Failed>
     requires { E.faults err.old + 1 < 2 ^ 64 }
-    ensures bytes { PutsAll (E.taken err.old) (E.taken err.new) (complaint name.now words.now) result }
+    ensures bytes { Puts E.Sink err.old err.new (complaint name.now words.now) result }
     ensures cause { CountsFaults (E.faults err.old) (E.faults err.new) result }
 {
     put_parts(err, &[name, b": ", words, b"\n"])
@@ -57,7 +57,7 @@ fn put_heading<'a, E: Sink>(
     words: &'a [u8],
 ) -> Result<(), Failed>
     requires { E.faults err.old + 1 < 2 ^ 64 }
-    ensures bytes { PutsAll (E.taken err.old) (E.taken err.new) (heading name.now line (label.now ++ words.now)) result }
+    ensures bytes { Puts E.Sink err.old err.new (heading name.now line (label.now ++ words.now)) result }
     ensures cause { CountsFaults (E.faults err.old) (E.faults err.new) result }
 {
     let mut digits = Buffer::new();
@@ -75,7 +75,7 @@ pub(crate) fn complain_labelled<E: Sink>(
     text: &[u8],
 ) -> Result<(), Failed>
     requires { E.faults err.old + 1 < 2 ^ 64 }
-    ensures bytes { PutsAll (E.taken err.old) (E.taken err.new) (complaint_at name.now line (label.now ++ words.now) text.now) result }
+    ensures bytes { Puts E.Sink err.old err.new (complaint_at name.now line (label.now ++ words.now) text.now) result }
     ensures cause { CountsFaults (E.faults err.old) (E.faults err.new) result }
 {
     put_heading(err, name, line, label, words)?;
@@ -94,7 +94,7 @@ pub(crate) fn complain_at<E: Sink>(
     text: &[u8],
 ) -> Result<(), Failed>
     requires { E.faults err.old + 1 < 2 ^ 64 }
-    ensures bytes { PutsAll (E.taken err.old) (E.taken err.new) (complaint_at name.now line words.now text.now) result }
+    ensures bytes { Puts E.Sink err.old err.new (complaint_at name.now line words.now text.now) result }
     ensures cause { CountsFaults (E.faults err.old) (E.faults err.new) result }
 {
     complain_labelled(err, name, line, b"", words, text)
@@ -129,7 +129,7 @@ fn put_refusal_line<'a, E: Sink>(
     word: &'a [u8],
 ) -> Result<(), Failed>
     requires { E.faults err.old + 1 < 2 ^ 64 }
-    ensures bytes { PutsAll (E.taken err.old) (E.taken err.new)
+    ensures bytes { Puts E.Sink err.old err.new
         (complaint name.now (kind.now ++ (colon.now ++ word.now))) result }
     ensures cause { CountsFaults (E.faults err.old) (E.faults err.new) result }
 {
@@ -146,7 +146,7 @@ fn put_refusal_heading<'a, E: Sink>(
     word: &'a [u8],
 ) -> Result<(), Failed>
     requires { E.faults err.old + 1 < 2 ^ 64 }
-    ensures bytes { PutsAll (E.taken err.old) (E.taken err.new)
+    ensures bytes { Puts E.Sink err.old err.new
         (heading name.now line (kind.now ++ (colon.now ++ word.now))) result }
     ensures cause { CountsFaults (E.faults err.old) (E.faults err.new) result }
 {
@@ -165,7 +165,7 @@ fn put_refusal_at<'a, E: Sink>(
     spot: Spot<'_>,
 ) -> Result<(), Failed>
     requires { E.faults err.old + 1 < 2 ^ 64 }
-    ensures bytes { PutsAll (E.taken err.old) (E.taken err.new)
+    ensures bytes { Puts E.Sink err.old err.new
         (complaint_at name.now spot.entry.line (kind.now ++ (colon.now ++ word.now)) spot.entry.text.now) result }
     ensures cause { CountsFaults (E.faults err.old) (E.faults err.new) result }
 {
@@ -176,7 +176,7 @@ fn put_refusal_at<'a, E: Sink>(
 /// Writes the line of a refusal, and below it the line of the text, if it is at one.
 pub(crate) fn put_refusal_lines<E: Sink>(err: &mut E, refused: &Refused<'_>) -> Result<(), Failed>
     requires { E.faults err.old + 1 < 2 ^ 64 }
-    ensures bytes { PutsAll (E.taken err.old) (E.taken err.new)
+    ensures bytes { Puts E.Sink err.old err.new
         (lines (refused_of refused.now)) result }
     ensures cause { CountsFaults (E.faults err.old) (E.faults err.new) result }
 {

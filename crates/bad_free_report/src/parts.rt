@@ -3,7 +3,7 @@
 ghost use Rattle.std.specs.Prelude.{◌+◌, ◌<◌, ◌^◌};
 ghost use Rattle.std.specs.List.{flat_map};
 ghost use Rattle.hs_base.specs.Outside.{CountsFaults};
-ghost use Rattle.hs_base.specs.PutAll.{PutsAll};
+ghost use Rattle.bad_free_report.specs.Putting.{Puts};
 
 use hs_base::{Failed, Sink, put_all};
 
@@ -11,7 +11,7 @@ use hs_base::{Failed, Sink, put_all};
 /// their bytes was taken.
 pub(crate) fn put_parts<E: Sink>(err: &mut E, parts: &[&[u8]]) -> Result<(), Failed>
     requires { E.faults err.old + 1 < 2 ^ 64 }
-    ensures bytes { PutsAll (E.taken err.old) (E.taken err.new) (flat_map (λ part. part.now) parts.now) result }
+    ensures bytes { Puts E.Sink err.old err.new (flat_map (λ part. part.now) parts.now) result }
     ensures cause { CountsFaults (E.faults err.old) (E.faults err.new) result }
 {
     for part in parts {

@@ -2,11 +2,11 @@
 
 ghost use Rattle.std.specs.Prelude.{◌≡◌, ◌+◌, ◌<◌, ◌^◌, [], option_copied, option_map};
 ghost use Rattle.hs_base.specs.Outside.{CountsFaults};
-ghost use Rattle.hs_base.specs.PutAll.{PutsAll};
 ghost use Rattle.bad_free_report.specs.Json.{comma_if};
 ghost use Rattle.bad_free_report.specs.Notice.{Ended, as_object, end_lines, said};
 ghost use Rattle.bad_free_report.specs.Parts.{AreParts, before_leaks, behind_leaks, front, help_text, leak_said, limit_text, members_before, place_text};
 ghost use Rattle.bad_free_report.specs.Told.{ending_of, refused_of, told_facts, told_limit, told_place};
+ghost use Rattle.bad_free_report.specs.Putting.{Puts};
 
 use crate::ends::report;
 use crate::explanation::explain;
@@ -20,7 +20,7 @@ use hs_base::{Failed, Leak, Sink, put_all};
 /// Writes what an object says happened, and where, up to its first holder.
 fn put_before<E: Sink>(err: &mut E, facts: &Facts<'_>) -> Result<(), Failed>
     requires { E.faults err.old + 1 < 2 ^ 64 }
-    ensures bytes { PutsAll (E.taken err.old) (E.taken err.new)
+    ensures bytes { Puts E.Sink err.old err.new
         (members_before (told_facts facts.now)) result }
     ensures cause { CountsFaults (E.faults err.old) (E.faults err.new) result }
 {
@@ -53,7 +53,7 @@ fn put_before<E: Sink>(err: &mut E, facts: &Facts<'_>) -> Result<(), Failed>
 /// Writes the first holder, up to what to mend.
 fn put_place<E: Sink>(err: &mut E, place: Option<Place<'_>>) -> Result<(), Failed>
     requires { E.faults err.old + 1 < 2 ^ 64 }
-    ensures bytes { PutsAll (E.taken err.old) (E.taken err.new)
+    ensures bytes { Puts E.Sink err.old err.new
         (place_text (option_map told_place place.entry)) result }
     ensures cause { CountsFaults (E.faults err.old) (E.faults err.new) result }
 {
@@ -85,7 +85,7 @@ fn put_place<E: Sink>(err: &mut E, place: Option<Place<'_>>) -> Result<(), Faile
 /// Writes what to mend, up to the limit.
 fn put_help<E: Sink>(err: &mut E, help: Option<&[u8]>) -> Result<(), Failed>
     requires { E.faults err.old + 1 < 2 ^ 64 }
-    ensures bytes { PutsAll (E.taken err.old) (E.taken err.new)
+    ensures bytes { Puts E.Sink err.old err.new
         (help_text (option_copied help.entry)) result }
     ensures cause { CountsFaults (E.faults err.old) (E.faults err.new) result }
 {
@@ -96,7 +96,7 @@ fn put_help<E: Sink>(err: &mut E, help: Option<&[u8]>) -> Result<(), Failed>
 /// Writes the limit, up to the leaks.
 fn put_limit<E: Sink>(err: &mut E, limit: Option<Limit>) -> Result<(), Failed>
     requires { E.faults err.old + 1 < 2 ^ 64 }
-    ensures bytes { PutsAll (E.taken err.old) (E.taken err.new)
+    ensures bytes { Puts E.Sink err.old err.new
         (limit_text (option_map told_limit limit)) result }
     ensures cause { CountsFaults (E.faults err.old) (E.faults err.new) result }
 {
@@ -120,7 +120,7 @@ fn put_limit<E: Sink>(err: &mut E, limit: Option<Limit>) -> Result<(), Failed>
 /// Writes an object up to its leaks.
 fn put_front<E: Sink>(err: &mut E, facts: &Facts<'_>) -> Result<(), Failed>
     requires { E.faults err.old + 1 < 2 ^ 64 }
-    ensures bytes { PutsAll (E.taken err.old) (E.taken err.new)
+    ensures bytes { Puts E.Sink err.old err.new
         (front (told_facts facts.now)) result }
     ensures cause { CountsFaults (E.faults err.old) (E.faults err.new) result }
 {
@@ -133,7 +133,7 @@ fn put_front<E: Sink>(err: &mut E, facts: &Facts<'_>) -> Result<(), Failed>
 /// Writes the object of a refusal.
 fn put_refusal_object<E: Sink>(err: &mut E, refused: &Refused<'_>) -> Result<(), Failed>
     requires { E.faults err.old + 1 < 2 ^ 64 }
-    ensures bytes { PutsAll (E.taken err.old) (E.taken err.new)
+    ensures bytes { Puts E.Sink err.old err.new
         (as_object (refused_of refused.now)) result }
     ensures cause { CountsFaults (E.faults err.old) (E.faults err.new) result }
 {
@@ -145,7 +145,7 @@ fn put_refusal_object<E: Sink>(err: &mut E, refused: &Refused<'_>) -> Result<(),
 /// a failure, which is the last call on the sink, a prefix was taken.
 pub fn say_refused<E: Sink>(err: &mut E, form: Form, refused: &Refused<'_>) -> Result<(), Failed>
     requires { E.faults err.old + 1 < 2 ^ 64 }
-    ensures bytes { PutsAll (E.taken err.old) (E.taken err.new)
+    ensures bytes { Puts E.Sink err.old err.new
         (said form (refused_of refused.now)) result }
     ensures cause { CountsFaults (E.faults err.old) (E.faults err.new) result }
 {
@@ -158,7 +158,7 @@ pub fn say_refused<E: Sink>(err: &mut E, form: Form, refused: &Refused<'_>) -> R
 /// Writes the report of an end, and behind it what explains it, where its limits are given.
 fn put_end_lines<E: Sink>(err: &mut E, ending: &Ending<'_>) -> Result<(), Failed>
     requires { E.faults err.old + 1 < 2 ^ 64 }
-    ensures bytes { PutsAll (E.taken err.old) (E.taken err.new)
+    ensures bytes { Puts E.Sink err.old err.new
         (end_lines (ending_of ending.now)) result }
     ensures cause { CountsFaults (E.faults err.old) (E.faults err.new) result }
 {
@@ -174,7 +174,7 @@ pub fn say_before_leaks<E: Sink>(
     status: u8,
 ) -> Result<(), Failed>
     requires { E.faults err.old + 1 < 2 ^ 64 }
-    ensures bytes { PutsAll (E.taken err.old) (E.taken err.new)
+    ensures bytes { Puts E.Sink err.old err.new
         (before_leaks form (ending_of ending.now) status) result }
     ensures cause { CountsFaults (E.faults err.old) (E.faults err.new) result }
 {
@@ -194,7 +194,7 @@ fn comma_if(later: bool) -> &'static [u8]
 /// Writes the object of a leak.
 fn put_leak<E: Sink>(err: &mut E, later: bool, leak: &Leak) -> Result<(), Failed>
     requires { E.faults err.old + 1 < 2 ^ 64 }
-    ensures bytes { PutsAll (E.taken err.old) (E.taken err.new)
+    ensures bytes { Puts E.Sink err.old err.new
         (leak_said Form.Json later leak.now) result }
     ensures cause { CountsFaults (E.faults err.old) (E.faults err.new) result }
 {
@@ -217,7 +217,7 @@ fn put_leak<E: Sink>(err: &mut E, later: bool, leak: &Leak) -> Result<(), Failed
 /// taken.
 pub fn say_leak<E: Sink>(err: &mut E, form: Form, later: bool, leak: &Leak) -> Result<(), Failed>
     requires { E.faults err.old + 1 < 2 ^ 64 }
-    ensures bytes { PutsAll (E.taken err.old) (E.taken err.new)
+    ensures bytes { Puts E.Sink err.old err.new
         (leak_said form later leak.now) result }
     ensures cause { CountsFaults (E.faults err.old) (E.faults err.new) result }
 {
@@ -230,7 +230,7 @@ pub fn say_leak<E: Sink>(err: &mut E, form: Form, later: bool, leak: &Leak) -> R
 /// Writes what stands behind the leaks. After a failure, which is the last call on the sink, a prefix was taken.
 pub fn say_behind_leaks<E: Sink>(err: &mut E, form: Form) -> Result<(), Failed>
     requires { E.faults err.old + 1 < 2 ^ 64 }
-    ensures bytes { PutsAll (E.taken err.old) (E.taken err.new) (behind_leaks form) result }
+    ensures bytes { Puts E.Sink err.old err.new (behind_leaks form) result }
     ensures cause { CountsFaults (E.faults err.old) (E.faults err.new) result }
 {
     match form {
@@ -247,7 +247,7 @@ pub fn say_ended<E: Sink>(
     status: u8,
 ) -> Result<(), Failed>
     requires { E.faults err.old + 1 < 2 ^ 64 }
-    ensures bytes { PutsAll (E.taken err.old) (E.taken err.new)
+    ensures bytes { Puts E.Sink err.old err.new
         (said form (Ended (ending_of ending.now) [] status)) result }
     ensures cause { CountsFaults (E.faults err.old) (E.faults err.new) result }
 {

@@ -7,7 +7,7 @@ use Rattle.flat_code.specs.declared.instructions.Op.TheVariants as op
 use Rattle.flat_code.specs.declared.program.Code.{Code}
 use Rattle.flat_code.specs.declared.program.Entry.{Entry}
 use Rattle.flat_code.specs.declared.program.Site.{Site}
-use Rattle.flat_code.specs.Sites.{Counts, answered, has_site, site_of}
+use Rattle.flat_code.specs.Sites.{Counts, answered, has_site, site_of, HasSite}
 use Rattle.flat_code.specs.Table.{chosen, register_sort}
 use Rattle.flat_code.specs.WellFormed.{EachInstr, GivesTo, IsAt, handed_before}
 use Rattle.code_rules.specs.Lively.{marked}
@@ -87,6 +87,10 @@ abbrev pub PinsExact : Code → ℕ → Entry → ℕ → Instr → Bool → Typ
 PinsExact code r entry point i true = MatchOption (site_of code.sites point) (Unit {0}) (λ pins. Counts code entry point i r ↔ Contains pins r)
 PinsExact code r entry point i false = Unit {0}
 
+-- so it is at each instruction
+abbrev pub ArePinsExact : Code → ℕ → Type 0
+ArePinsExact code r = EachInstr code (λ f entry point i. PinsExact code r entry point i (has_site i.op))
+
 -- pins ascend, and are registers
 pub record AreRegisters (entry : Entry) (pins : List ℕ) : Type 0 where
   pub inside : All (λ r. r < length entry.kinds) pins
@@ -100,3 +104,7 @@ ListsSite code entry point false = site_of code.sites point ≡ None
 -- each instruction has its site
 abbrev pub AreListed : Code → Type 0
 AreListed code = EachInstr code (λ f entry point i. ListsSite code entry point (has_site i.op))
+
+-- and with the registers that count there
+abbrev pub HaveSites : Code → Type 0
+HaveSites code = EachInstr code (λ f entry point i. HasSite code entry point i (has_site i.op))

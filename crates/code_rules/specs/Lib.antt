@@ -1,5 +1,6 @@
 pub mod Lively
 pub mod Rules
+pub mod Deciding
 pub mod Operands
 pub mod Answers
 pub mod Scopes

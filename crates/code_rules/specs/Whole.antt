@@ -1,5 +1,5 @@
 -- Well formed code in parts, each of which is decided by itself.
-use Rattle.std.specs.Prelude.{◌≡◌, ◌<◌, ◌≤◌, ℕ, pos, Bool, List, Option, Some, None, length, slice_get, slice_index_or, All, AllPairs, IsSomeAnd, MatchOption}
+use Rattle.std.specs.Prelude.{◌≡◌, ◌+◌, unwrap_or, ◌<◌, ◌≤◌, ℕ, pos, Bool, List, Option, Some, None, length, slice_get, slice_index_or, All, AllPairs, IsSomeAnd, MatchOption}
 use Rattle.std.specs.List.{sum_by}
 use Rattle.hs_base.specs.Place.{block_size}
 use Rattle.c_print.specs.Format.{IsFormat}
@@ -12,9 +12,29 @@ use Rattle.flat_code.specs.declared.program.Entry.{Entry}
 use Rattle.flat_code.specs.declared.program.Site.{Site}
 use Rattle.flat_code.specs.declared.program.StaticInit.{StaticInit}
 use Rattle.flat_code.specs.Table.{edges, hands}
-use Rattle.flat_code.specs.WellFormed.{AreShort, EachEntry, EachInstr, IsFirst, IsLayout, LeadsOn, NamesWhatIsThere, StartsAfresh, end_of, static_size}
+use Rattle.flat_code.specs.WellFormed.{AreShort, IsShort, EachEntry, EachInstr, IsFirst, IsLayout, LeadsOn, NamesWhatIsThere, StartsAfresh, end_of, static_size}
 use Rattle.code_rules.specs.Functions.{IsFramed, IsOfFunction}
 use Rattle.code_rules.specs.Operands.{HasOperands, HasRegister, sort_told}
+
+-- the bytes in a slot are zero
+abbrev pub IsZeroSlot : List ℕ → ℕ → Type 0
+IsZeroSlot bytes slot = (k : ℕ) → k < 4 → unwrap_or (slice_get bytes (slot + k)) 0 ≡ 0
+
+-- a static has a layout, and keeps the rules of what it holds first
+abbrev pub IsStatic : Code → StaticInit → Type 0
+IsStatic code static = IsSomeAnd (slice_get code.layouts static.layout) (IsFirst code static)
+
+-- the bytes of the blocks of all statics
+abbrev pub bytes_of_statics : Code → ℕ
+bytes_of_statics code = sum_by (λ (s : StaticInit). block_size (static_size code s)) code.statics
+
+-- each format is one
+abbrev pub AreFormats : Code → Type 0
+AreFormats code = All (λ format. IsFormat format (pieces_of format)) code.formats
+
+-- the tables of statics, layouts and formats are short
+abbrev pub HasShortTables : Code → Type 0
+HasShortTables code = IsShort code.statics × IsShort code.layouts × IsShort code.formats × All IsShort code.formats
 
 -- the tables but for those of functions and instructions
 pub record KeepsTables (code : Code) : Type 0 where
@@ -22,9 +42,9 @@ pub record KeepsTables (code : Code) : Type 0 where
   pub lines : length code.lines ≡ length code.instrs
   pub lines_from_one : All (λ line. 1 ≤ line) code.lines
   pub layouts : All IsLayout code.layouts
-  pub statics : All (λ (s : StaticInit). IsSomeAnd (slice_get code.layouts s.layout) (IsFirst code s)) code.statics
-  pub static_bytes : sum_by (λ (s : StaticInit). block_size (static_size code s)) code.statics ≤ 67108864
-  pub formats : All (λ format. IsFormat format (pieces_of format)) code.formats
+  pub statics : All (IsStatic code) code.statics
+  pub static_bytes : bytes_of_statics code ≤ 67108864
+  pub formats : AreFormats code
   pub sites_ascend : AllPairs (λ (one other : Site). one.instr < other.instr) code.sites
   pub sites_inside : All (λ (site : Site). IsOfFunction code site.instr) code.sites
   pub framed : EachEntry code (IsFramed code)

@@ -3,6 +3,7 @@
 ghost use Rattle.std.specs.Prelude.{◌≡◌, ◌↔◌, ◌<◌, ◌+◌, ◌^◌, IfOk, IsTrue, MatchOption, None, Some, slice_get, slice_index_or};
 ghost use Rattle.flat_code.specs.declared.program.Entry.{Entry};
 ghost use Rattle.code_rules.specs.Answers.{AnswersAlike, AreAnswers, IsAnswer, TakesAnswer, answer_at, answer_told};
+ghost use Rattle.code_rules.specs.Functions.{OfEntry};
 
 use crate::instrs::chosen;
 use crate::operands::{gives_to, handed_before};
@@ -55,7 +56,7 @@ fn first_answer(
 
 /// The first answer of the function of a number.
 fn answer_of(alloc: Global, code: &Code, function: usize) -> Result<Option<Option<bool>>, NoMemory>
-    ensures { IfOk result (λ told. (entry : Entry) → slice_get code.now.funcs function ≡ Some entry → IsAnswer code.now function entry told) }
+    ensures { IfOk result (λ told. OfEntry code.now (λ f entry. IsAnswer code.now f entry told) function) }
 {
     match code.funcs.get(function) {
         Some(entry) => first_answer(alloc, code, function, entry),

@@ -1,10 +1,11 @@
 //! The rules of functions.
 
-ghost use Rattle.std.specs.Prelude.{◌≡◌, ◌↔◌, ◌<◌, ◌≤◌, ◌+◌, ◌^◌, All, IfOk, IsSome, IsTrue, length, slice_get};
+ghost use Rattle.std.specs.Prelude.{◌↔◌, ◌<◌, ◌≤◌, ◌+◌, ◌^◌, All, IsSome, IsTrue, length, slice_get};
 ghost use Rattle.flat_code.specs.declared.program.Site.{Site};
 ghost use Rattle.flat_code.specs.WellFormed.{EachEntry, HasScopes, end_of};
 ghost use Rattle.code_rules.specs.Functions.{IsFramed, IsOfFunction, OfEntry};
 ghost use Rattle.code_rules.specs.Scopes.{StaysInside};
+ghost use Rattle.code_rules.specs.Deciding.{Decides};
 
 use crate::flow::nothing_is_handed_before;
 use crate::rules::end_of;
@@ -88,7 +89,7 @@ fn has_scopes_at(alloc: Global, code: &Code, function: usize) -> Result<bool, No
     requires some { EachEntry code.now (λ f e. e.first < end_of code.now f) }
     requires end { EachEntry code.now (λ f e. end_of code.now f ≤ length code.now.instrs) }
     requires short { length code.now.instrs < 2 ^ 32 }
-    ensures { IfOk result (λ b. IsTrue b ↔ OfEntry code.now (HasScopes code.now) function) }
+    ensures { Decides (OfEntry code.now (HasScopes code.now) function) result }
 {
     match code.funcs.get(function) {
         Some(entry) => has_scopes(alloc, code, function, entry),
@@ -102,7 +103,7 @@ pub(crate) fn have_scopes(alloc: Global, code: &Code) -> Result<bool, NoMemory>
     requires some { EachEntry code.now (λ f e. e.first < end_of code.now f) }
     requires end { EachEntry code.now (λ f e. end_of code.now f ≤ length code.now.instrs) }
     requires short { length code.now.instrs < 2 ^ 32 }
-    ensures { IfOk result (λ b. IsTrue b ↔ EachEntry code.now (HasScopes code.now)) }
+    ensures { Decides (EachEntry code.now (HasScopes code.now)) result }
 {
     for function in 0..code.funcs.len() {
         if !has_scopes_at(alloc, code, function)? {

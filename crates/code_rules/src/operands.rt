@@ -1,14 +1,13 @@
 //! What is handed over and what is taken.
 
-ghost use Rattle.std.specs.Prelude.{◌≡◌, ◌↔◌, ◌<◌, ◌≤◌, ◌+◌, ◌^◌, ℕ, [], ◌∷◌, map, All, IfOk, IfSome, IsTrue, slice_get};
+ghost use Rattle.std.specs.Prelude.{◌≡◌, ◌↔◌, ◌<◌, ◌≤◌, ◌+◌, ◌^◌, [], ◌∷◌, map, All, IfOk, IsTrue, slice_get};
 ghost use Rattle.std.specs.List.{flat_map};
-ghost use Rattle.c_print.specs.Format.{IsFormat};
-ghost use Rattle.c_print.specs.Pieces.{pieces_of};
 ghost use Rattle.core_tree.specs.Sorts.{Sort, lib_gives, lib_takes, piece_takes};
 ghost use Rattle.core_tree.specs.Statements.{leads_to};
-ghost use Rattle.flat_code.specs.Table.{all_there, call_takes, format_takes, gives, handed_sort, hands, sort_of, takes};
-ghost use Rattle.flat_code.specs.WellFormed.{GivesTo, StartsAfresh, Takes, handed_before};
-ghost use Rattle.code_rules.specs.Operands.{HasOperands, HasRegister, NamesFormat, sort_told, sorts_told};
+ghost use Rattle.flat_code.specs.Table.{all_there, call_takes, gives, handed_sort, hands, sort_of};
+ghost use Rattle.flat_code.specs.WellFormed.{GivesTo, StartsAfresh, handed_before};
+ghost use Rattle.code_rules.specs.Operands.{HasOperands, HasRegister, sort_told, sorts_told, TakesTold, FormatTakes};
+ghost use Rattle.code_rules.specs.Deciding.{Decides};
 
 use crate::flow::{hands, nothing_is_handed_before};
 use crate::instrs::{chosen, edges, written};
@@ -198,7 +197,7 @@ fn takes_handed(
     instr: Instr,
     told: &[Option<bool>],
 ) -> Result<bool, NoMemory>
-    ensures { IfOk result (λ b. IsTrue b ↔ (NamesFormat code.now instr instr.op × Takes code.now entry.now instr instr.op (sorts_told told.now))) }
+    ensures { Decides (TakesTold code.now entry.now instr told.now) result }
 {
     Ok(match instr.op {
         Op::Set => are_sorts(told, &[entry.kinds.get(instr.a as usize).copied()]),
@@ -230,8 +229,7 @@ fn format_takes_handed(
     format: u32,
     told: &[Option<bool>],
 ) -> Result<bool, NoMemory>
-    ensures { IfOk result (λ b. IsTrue b ↔
-        (IfSome (slice_get code.now.formats format) (λ f. IsFormat f (pieces_of f)) × (sorts_told told.now ≡ all_there (format_takes (slice_get code.now.formats format))))) }
+    ensures { Decides (FormatTakes (slice_get code.now.formats format) told.now) result }
 {
     let Some(bytes) = code.formats.get(format as usize) else {
         return Ok(told.is_empty());

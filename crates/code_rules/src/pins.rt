@@ -1,13 +1,13 @@
 //! The sites of code, and their pins.
 
-ghost use Rattle.std.specs.Prelude.{◌≡◌, ◌↔◌, ◌<◌, ◌≤◌, ◌≢◌, ◌+◌, ◌^◌, ℕ, All, AllPairs, Contains, IfOk, IsTrue, Some, length, option_map, true};
+ghost use Rattle.std.specs.Prelude.{◌≡◌, ◌↔◌, ◌<◌, ◌≤◌, ◌≢◌, ◌+◌, ◌^◌, ℕ, All, IfOk, IsTrue, Some, length, option_map, true};
 ghost use Rattle.core_tree.specs.Sorts.{Pointer};
 ghost use Rattle.flat_code.specs.Table.{register_sort};
 ghost use Rattle.code_rules.specs.Lively.{marked};
-ghost use Rattle.flat_code.specs.Sites.{HasSite, answered, has_site, site_of};
+ghost use Rattle.flat_code.specs.Sites.{answered, has_site, site_of};
 ghost use Rattle.flat_code.specs.declared.program.Entry.{Entry};
-ghost use Rattle.flat_code.specs.WellFormed.{EachInstr};
-ghost use Rattle.code_rules.specs.Answers.{AreListed, ArePlaces, ArePlacesUpTo, AreRegisters, ListsSite, PinsAgree, PinsExact};
+ghost use Rattle.code_rules.specs.Answers.{AreListed, ArePlaces, ArePlacesUpTo, AreRegisters, ListsSite, PinsAgree, ArePinsExact, HaveSites};
+ghost use Rattle.code_rules.specs.Deciding.{Decides};
 
 use crate::instrs::chosen;
 use crate::live::live_points;
@@ -168,7 +168,7 @@ fn pins_are_exact_of(
 ) -> Result<bool, NoMemory>
     requires places { ArePlaces code.now places.now }
     requires listed { AreListed code.now }
-    ensures { IfOk result (λ b. IsTrue b ↔ EachInstr code.now (λ f entry point i. PinsExact code.now register entry point i (has_site i.op))) }
+    ensures { Decides (ArePinsExact code.now register) result }
 {
     let marks = live_points(alloc, code, register)?;
     let rule = Pins {
@@ -188,8 +188,7 @@ fn pins_are_exact(
 ) -> Result<bool, NoMemory>
     requires places { ArePlaces code.now places.now }
     requires listed { AreListed code.now }
-    ensures { IfOk result (λ b. IsTrue b ↔
-        ((r : ℕ) → r < most → EachInstr code.now (λ f entry point i. PinsExact code.now r entry point i (has_site i.op)))) }
+    ensures { Decides ((r : ℕ) → r < most → ArePinsExact code.now r) result }
 {
     for register in 0..most {
         if !pins_are_exact_of(alloc, code, places, register)? {
@@ -223,7 +222,7 @@ fn most_registers(funcs: &[Entry]) -> u32
 /// count there, and otherwise none.
 pub fn sites_are_right(alloc: Global, code: &Code) -> Result<bool, NoMemory>
     requires { All (λ (e : Entry). length e.kinds < 2 ^ 32) code.now.funcs }
-    ensures { IfOk result (λ b. IsTrue b ↔ EachInstr code.now (λ f entry point i. HasSite code.now entry point i (has_site i.op))) }
+    ensures { Decides (HaveSites code.now) result }
 {
     let found = site_places(alloc, code)?;
     let places = found.as_slice();

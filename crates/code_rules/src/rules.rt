@@ -1,11 +1,12 @@
 //! Rules of each instruction.
 
-ghost use Rattle.std.specs.Prelude.{◌≡◌, ◌↔◌, ◌<◌, ◌+◌, ◌^◌, ℕ, IfOk, IsTrue, slice_get, Some};
+ghost use Rattle.std.specs.Prelude.{◌≡◌, ◌<◌, ◌+◌, ◌^◌, ℕ, slice_get, Some};
 ghost use Rattle.flat_code.specs.declared.program.Code.{Code};
 ghost use Rattle.flat_code.specs.declared.program.Entry.{Entry};
 ghost use Rattle.flat_code.specs.declared.instructions.Instr.{Instr};
 ghost use Rattle.flat_code.specs.WellFormed.{EachInstr, IsAt, end_of};
 ghost use Rattle.code_rules.specs.Rules.{OfFunction};
+ghost use Rattle.code_rules.specs.Deciding.{Decides};
 
 use flat_code::{Code, Entry, Instr};
 use hs_base::NoMemory;
@@ -33,7 +34,7 @@ pub(crate) trait Rule {
         requires here { IsAt code.now function entry.now point instr }
         requires next { point + 1 < 2 ^ 64 }
         requires following { function + 1 < 2 ^ 64 }
-        ensures { IfOk result (λ b. IsTrue b ↔ holds self.now code.now function entry.now point instr) };
+        ensures { Decides (holds self.now code.now function entry.now point instr) result };
 }
 
 /// Where a function ends.
@@ -58,7 +59,7 @@ fn each_of_function<R: Rule>(
     requires suits { R.suits rule.now code.now }
     requires here { slice_get code.now.funcs function ≡ Some entry.now }
     requires next { function + 1 < 2 ^ 64 }
-    ensures { IfOk result (λ b. IsTrue b ↔ OfFunction code.now (R.holds rule.now code.now) function entry.now) }
+    ensures { Decides (OfFunction code.now (R.holds rule.now code.now) function entry.now) result }
 {
     for point in entry.first as usize..end_of(code, function) {
         if let Some(instr) = code.instrs.get(point) {
@@ -73,7 +74,7 @@ fn each_of_function<R: Rule>(
 /// Says whether each instruction keeps a rule.
 pub(crate) fn each_instr<R: Rule>(alloc: Global, code: &Code, rule: &R) -> Result<bool, NoMemory>
     requires { R.suits rule.now code.now }
-    ensures { IfOk result (λ b. IsTrue b ↔ EachInstr code.now (R.holds rule.now code.now)) }
+    ensures { Decides (EachInstr code.now (R.holds rule.now code.now)) result }
 {
     for function in 0..code.funcs.len() {
         if let Some(entry) = code.funcs.get(function) {

@@ -4,6 +4,7 @@ ghost use Rattle.std.specs.Prelude.{◌≡◌, ◌↔◌, ◌<◌, ◌≤◌, �
 ghost use Rattle.flat_code.specs.Table.{scopes_after};
 ghost use Rattle.flat_code.specs.WellFormed.{ClosesWhatIsOpen, HasScopes, end_of};
 ghost use Rattle.code_rules.specs.Scopes.{AreReached, AreSmall, Close, ClosesAt, Fills, Moves, Puts, PutsAt, StaysInside, joined};
+ghost use Rattle.code_rules.specs.Deciding.{Decides};
 
 use crate::instrs::edges;
 use crate::rules::end_of;
@@ -221,7 +222,7 @@ pub(crate) fn has_scopes(
     requires some { entry.now.first < end_of code.now function }
     requires end { end_of code.now function ≤ length code.now.instrs }
     requires short { length code.now.instrs < 2 ^ 32 }
-    ensures { IfOk result (λ b. IsTrue b ↔ HasScopes code.now function entry.now) }
+    ensures { Decides (HasScopes code.now function entry.now) result }
 {
     let count = end_of(code, function) - entry.first as usize;
     let mut depths = start(alloc, count)?;

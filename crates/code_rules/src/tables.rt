@@ -1,16 +1,18 @@
 //! The rules of the tables of code.
 
-ghost use Rattle.std.specs.Prelude.{◌≡◌, ◌≢◌, ◌≤◌, ◌<◌, ◌↔◌, ◌+◌, ◌^◌, ℕ, All, AllPairs, Contains, IfOk, IsSomeAnd, IsTrue, length, map, nat_eq, slice_get, unwrap_or};
-ghost use Rattle.std.specs.List.{IsDistinct, sum_by};
+ghost use Rattle.std.specs.Prelude.{◌≡◌, ◌≢◌, ◌≤◌, ◌<◌, ◌↔◌, ◌+◌, ◌^◌, ℕ, All, AllPairs, Contains, IsTrue, map, nat_eq, slice_get, unwrap_or};
+ghost use Rattle.std.specs.List.{IsDistinct};
 ghost use Rattle.hs_base.specs.Place.{block_size};
 ghost use Rattle.c_types.specs.declared.layouts.Layout.{Layout};
-ghost use Rattle.c_types.specs.Layouts.{AreSlots, IsAlignment, IsSound};
+ghost use Rattle.c_types.specs.Layouts.{AreSlots, IsAlignment};
 ghost use Rattle.c_print.specs.Format.{IsFormat};
 ghost use Rattle.c_print.specs.Pieces.{pieces_of};
 ghost use Rattle.flat_code.specs.declared.program.Entry.{Entry};
 ghost use Rattle.flat_code.specs.declared.program.Site.{Site};
 ghost use Rattle.flat_code.specs.declared.program.StaticInit.{StaticInit};
 ghost use Rattle.flat_code.specs.WellFormed.{AreShort, EachEntry, IsFirst, IsLayout, IsShort, IsTarget, static_size};
+ghost use Rattle.code_rules.specs.Deciding.{Decides};
+ghost use Rattle.code_rules.specs.Whole.{IsZeroSlot, IsStatic, AreFormats, bytes_of_statics, HasShortTables};
 
 use c_print::{FormatError, read_format};
 use c_types::Layout;
@@ -88,7 +90,7 @@ pub fn is_layout(layout: &Layout) -> bool
 
 /// Says whether bytes are a format.
 pub fn is_format(alloc: Global, bytes: &[u8]) -> Result<bool, NoMemory>
-    ensures { IfOk result (λ b. IsTrue b ↔ IsFormat bytes.now (pieces_of bytes.now)) }
+    ensures { Decides (IsFormat bytes.now (pieces_of bytes.now)) result }
 {
     match read_format(alloc, bytes) {
         Ok(_) => Ok(true),
@@ -129,7 +131,7 @@ fn byte_at(bytes: &[u8], place: usize) -> u8
 
 /// Says whether the bytes of a slot are zero.
 fn is_zero_slot(bytes: &[u8], slot: u32) -> bool
-    ensures { IsTrue result ↔ ((k : ℕ) → k < 4 → unwrap_or (slice_get bytes.now (slot + k)) 0 ≡ 0) }
+    ensures { IsTrue result ↔ IsZeroSlot bytes.now slot }
 {
     let place = slot as usize;
     byte_at(bytes, place) == 0
@@ -140,7 +142,7 @@ fn is_zero_slot(bytes: &[u8], slot: u32) -> bool
 
 /// Says whether the bytes of all slots are zero.
 fn are_zero_slots(bytes: &[u8], slots: &[u32]) -> bool
-    ensures { IsTrue result ↔ All (λ slot. (k : ℕ) → k < 4 → unwrap_or (slice_get bytes.now (slot + k)) 0 ≡ 0) slots.now }
+    ensures { IsTrue result ↔ All (IsZeroSlot bytes.now) slots.now }
 {
     slots.iter().all(|slot| is_zero_slot(bytes, *slot))
 }
@@ -224,7 +226,7 @@ fn is_first(code: &Code, item: &StaticInit, layout: &Layout) -> bool
 
 /// Says whether a static has a layout, and keeps the rules of what it holds first.
 fn is_static(code: &Code, item: &StaticInit) -> bool
-    ensures { IsTrue result ↔ IsSomeAnd (slice_get code.now.layouts item.now.layout) (IsFirst code.now item.now) }
+    ensures { IsTrue result ↔ IsStatic code.now item.now }
 {
     match code.layouts.get(item.layout as usize) {
         Some(layout) => is_first(code, item, layout),
@@ -234,7 +236,7 @@ fn is_static(code: &Code, item: &StaticInit) -> bool
 
 /// Says whether all statics have a layout, and keep the rules of what they hold first.
 pub fn are_statics(code: &Code) -> bool
-    ensures { IsTrue result ↔ All (λ (s : StaticInit). IsSomeAnd (slice_get code.now.layouts s.layout) (IsFirst code.now s)) code.now.statics }
+    ensures { IsTrue result ↔ All (IsStatic code.now) code.now.statics }
 {
     code.statics
         .as_slice()
@@ -254,7 +256,7 @@ pub fn are_layouts(code: &Code) -> bool
 
 /// Says whether all formats are formats.
 pub fn are_formats(alloc: Global, code: &Code) -> Result<bool, NoMemory>
-    ensures { IfOk result (λ b. IsTrue b ↔ All (λ format. IsFormat format (pieces_of format)) code.now.formats) }
+    ensures { Decides (AreFormats code.now) result }
 {
     for format in code.formats.as_slice() {
         if !is_format(alloc, format.as_slice())? {
@@ -274,7 +276,7 @@ fn static_block(code: &Code, item: &StaticInit) -> u64
 
 /// Says whether the blocks of the statics sum to at most so many bytes.
 pub fn are_static_blocks_small(code: &Code) -> bool
-    ensures { IsTrue result ↔ (sum_by (λ (s : StaticInit). block_size (static_size code.now s)) code.now.statics ≤ 67108864) }
+    ensures { IsTrue result ↔ (bytes_of_statics code.now ≤ 67108864) }
 {
     let mut sum: u64 = 0;
     for item in code.statics.as_slice() {
@@ -289,7 +291,7 @@ pub fn are_static_blocks_small(code: &Code) -> bool
 
 /// Says whether the tables of code are short.
 fn are_short_tables(code: &Code) -> bool
-    ensures { IsTrue result ↔ (IsShort code.now.statics × IsShort code.now.layouts × IsShort code.now.formats × All IsShort code.now.formats) }
+    ensures { IsTrue result ↔ HasShortTables code.now }
 {
     code.statics.len() < SHORT
         && code.layouts.len() < SHORT

@@ -1,8 +1,9 @@
 //! Well formed code.
 
-ghost use Rattle.std.specs.Prelude.{◌↔◌, IfOk, IsSomeAnd, IsTrue, slice_get};
+ghost use Rattle.std.specs.Prelude.{◌↔◌, IsSomeAnd, IsTrue, slice_get};
 ghost use Rattle.flat_code.specs.WellFormed.{IsWellFormed};
 ghost use Rattle.code_rules.specs.Whole.{CallsMain, GivesInteger, IsMain, KeepsFlow, KeepsTables};
+ghost use Rattle.code_rules.specs.Deciding.{Decides};
 
 use crate::answers::{Alike, Taken, answers, told_at};
 use crate::flow::{Ahead, Inside, Names};
@@ -61,7 +62,7 @@ fn starts(code: &Code, told: &[Option<Option<bool>>]) -> bool
 
 /// Says whether the tables keep their rules.
 fn keeps_tables(alloc: Global, code: &Code) -> Result<bool, NoMemory>
-    ensures { IfOk result (λ b. IsTrue b ↔ KeepsTables code.now) }
+    ensures { Decides (KeepsTables code.now) result }
 {
     if !are_short(code) {
         return Ok(false);
@@ -95,7 +96,7 @@ fn keeps_tables(alloc: Global, code: &Code) -> Result<bool, NoMemory>
 
 /// Says whether the instructions keep their rules, but for those of answers and sites.
 fn keeps_flow(alloc: Global, code: &Code) -> Result<bool, NoMemory>
-    ensures { IfOk result (λ b. IsTrue b ↔ KeepsFlow code.now) }
+    ensures { Decides (KeepsFlow code.now) result }
 {
     if !each_instr(alloc, code, &Inside)? {
         return Ok(false);
@@ -121,7 +122,7 @@ fn keeps_flow(alloc: Global, code: &Code) -> Result<bool, NoMemory>
 ///
 /// [`NoMemory`], where there is none to work in.
 pub fn is_well_formed(alloc: Global, code: &Code) -> Result<bool, NoMemory>
-    ensures { IfOk result (λ b. IsTrue b ↔ IsWellFormed code.now) }
+    ensures { Decides (IsWellFormed code.now) result }
 {
     if !keeps_tables(alloc, code)? {
         return Ok(false);
@@ -137,7 +138,7 @@ pub fn is_well_formed(alloc: Global, code: &Code) -> Result<bool, NoMemory>
 fn keeps_rest(alloc: Global, code: &Code) -> Result<bool, NoMemory>
     requires tables { KeepsTables code.now }
     requires flow { KeepsFlow code.now }
-    ensures { IfOk result (λ b. IsTrue b ↔ IsWellFormed code.now) }
+    ensures { Decides (IsWellFormed code.now) result }
 {
     let found = answers(alloc, code)?;
     let told = found.as_slice();

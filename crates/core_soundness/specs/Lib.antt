@@ -7,3 +7,4 @@ pub mod Worlds
 pub mod Spoken
 pub mod Written
 pub mod Texts
+pub mod Elaborated

@@ -12,8 +12,7 @@ ghost use Rattle.elaboration.specs.Context.{Context, asked};
 ghost use Rattle.elaboration.specs.Conversions.{Found};
 ghost use Rattle.elaboration.specs.Expressions.{found};
 ghost use Rattle.core_tree.specs.declared.program.Core.{Core};
-ghost use Rattle.core_tree.specs.declared.program.Static.{Static};
-ghost use Rattle.core_tree.specs.Sound.{EachFunc, IsFunction, IsMain, IsShort, IsSound, IsStatic, IsTarget, is_main, main_of};
+ghost use Rattle.core_tree.specs.Sound.{EachFunc, IsFunction, IsMain, IsShort, IsSound, IsStatic, is_main, main_of};
 ghost use Rattle.c_lexer.specs.Tokens.{HasTokens, IsLexed};
 ghost use Rattle.c_lexer.specs.declared.token.Token.{Token};
 ghost use Rattle.c_tree.specs.HasTree.{HasTree};
@@ -25,6 +24,7 @@ ghost use Rattle.core_soundness.specs.Whole.{Whole};
 ghost use Rattle.core_soundness.specs.Texts.{AllNames, IsMadeOf, IsOfTexts, IsSmall};
 ghost use Rattle.core_soundness.specs.Written.{AreWritten, Written};
 ghost use Rattle.core_soundness.specs.Laws.{AreWithin, CallsInside, HasFlow, HasLayouts, HasRanges, HasShortLists, HasSizes, HasTypes};
+ghost use Rattle.core_soundness.specs.Elaborated.{ForCores, ForCoresOf, ForMade, ForMadeCores, HaveShortTokens, HasTargets};
 
 use c_lexer::constants_fit;
 use c_types::layouts_are_sound;
@@ -32,12 +32,12 @@ use c_types::layouts_are_sound;
 /// In each function of the core of a text every edge leads to a statement, only a loop goes back, and scopes are opened
 /// and closed in the same way on all paths.
 pub fn control_flows()
-    ensures { (unit : Trees) (core : Core) (tags : TagTable) → elaborated unit ≡ Ok (core, tags) → EachFunc core HasFlow }
+    ensures { ForCores (λ core. EachFunc core HasFlow) }
 {}
 
 /// The core of a text keeps the bounds on its statics and on its code, and so its lists are short.
 pub fn sizes_are_kept()
-    ensures { (unit : Trees) (core : Core) (tags : TagTable) → elaborated unit ≡ Ok (core, tags) → HasSizes core }
+    ensures { ForCores HasSizes }
 {}
 
 /// An expression that is elaborated has the type, and the tags behind it, that its types alone give it (C99 6.5).
@@ -47,27 +47,27 @@ pub fn types_agree()
 
 /// Exactly one function of the core of texts is named `main` (C99 5.1.2.2.1).
 pub fn one_main()
-    ensures { (texts : List (List Token)) (units : List Trees) (unit : Trees) (core : Core) (tags : TagTable) → IsMadeOf texts units unit → elaborated unit ≡ Ok (core, tags) → count_by is_main core.funcs ≡ 1 }
+    ensures { ForMadeCores (λ core. count_by is_main core.funcs ≡ 1) }
 {
     constants_fit();
 }
 
 /// Each call of the core of a text names one of its functions (C99 6.5.2.2).
 pub fn calls_are_inside()
-    ensures { (unit : Trees) (core : Core) (tags : TagTable) → elaborated unit ≡ Ok (core, tags) → EachFunc core (CallsInside core) }
+    ensures { ForCores (λ core. EachFunc core (CallsInside core)) }
 {}
 
 /// In each function of the core of a text each statement has a line and names what is there, with operands, arguments and
 /// results of its sorts.
 pub fn statements_are_typed()
-    ensures { (texts : List (List Token)) (units : List Trees) (unit : Trees) (core : Core) (tags : TagTable) → IsMadeOf texts units unit → elaborated unit ≡ Ok (core, tags) → EachFunc core (HasTypes core) }
+    ensures { ForMadeCores (λ core. EachFunc core (HasTypes core)) }
 {
     constants_fit();
 }
 
 /// The function named `main` of the core of a text has no parameters, and its returns have integers (C99 5.1.2.2.1).
 pub fn main_answers()
-    ensures { (texts : List (List Token)) (units : List Trees) (unit : Trees) (core : Core) (tags : TagTable) → IsMadeOf texts units unit → elaborated unit ≡ Ok (core, tags) → ForSome (slice_get core.funcs (main_of core)) (IsMain core) }
+    ensures { ForMadeCores (λ core. ForSome (slice_get core.funcs (main_of core)) (IsMain core)) }
 {
     constants_fit();
 }
@@ -87,7 +87,7 @@ pub fn texts_are_made_of_themselves()
 
 /// Names with a suffix are shorter than 2 to the 32, where no token has more than 268,435,456 bytes.
 pub fn names_stay_short()
-    ensures { (texts : List (List Token)) (units : List Trees) (unit : Trees) → IsMadeOf texts units unit → All (λ tokens. All (λ token. length token.bytes ≤ 268435456) tokens) texts → AllNames IsShort unit }
+    ensures { ForMade (λ texts unit. HaveShortTokens texts → AllNames IsShort unit) }
 {
     constants_fit();
 }
@@ -95,14 +95,14 @@ pub fn names_stay_short()
 /// A tree made of those of texts has lines from 1 on and constants of at most 64 bits; members and initializers stand where braces
 /// are; and each definition of a function has a parameter list.
 pub fn trees_are_written()
-    ensures { (texts : List (List Token)) (units : List Trees) (unit : Trees) → IsMadeOf texts units unit → AreWritten unit }
+    ensures { ForMade (λ texts unit. AreWritten unit) }
 {
     constants_fit();
 }
 
 /// Memory locals and statics of the core of a text have the layouts of types (C99 6.2.5, 6.7.2.1).
 pub fn layouts_are_of_types()
-    ensures { (unit : Trees) (core : Core) (tags : TagTable) → AreWritten unit → elaborated unit ≡ Ok (core, tags) → HasLayouts core }
+    ensures { ForCoresOf AreWritten HasLayouts }
 {}
 
 /// What is known behind a text has whole types: arrays of at least one element that are no larger than an object may be, and
@@ -120,12 +120,12 @@ pub fn numbers_are_kept()
 /// In each function of the core of a text every integer is one that a register holds, sizes of elements are from 1 to that of
 /// the largest object, and layouts of elements are those of types.
 pub fn numbers_are_in_range()
-    ensures { (unit : Trees) (core : Core) (tags : TagTable) → AreWritten unit → elaborated unit ≡ Ok (core, tags) → EachFunc core HasRanges }
+    ensures { ForCoresOf AreWritten (λ core. EachFunc core HasRanges) }
 {}
 
 /// Each function of the core of a text is sound.
 pub fn functions_are_sound()
-    ensures { (texts : List (List Token)) (units : List Trees) (unit : Trees) (core : Core) (tags : TagTable) → IsMadeOf texts units unit → elaborated unit ≡ Ok (core, tags) → EachFunc core (IsFunction core) }
+    ensures { ForMadeCores (λ core. EachFunc core (IsFunction core)) }
 {
     constants_fit();
 }
@@ -133,14 +133,14 @@ pub fn functions_are_sound()
 /// Each pointer that a static of the core of a text holds first names a static of the core, and an offset in it up to its end
 /// (C99 6.6, 6.7.8).
 pub fn static_pointers_are_inside()
-    ensures { (unit : Trees) (core : Core) (tags : TagTable) → elaborated unit ≡ Ok (core, tags) → All (λ (static : Static). All (IsTarget core) static.start.pointers) core.statics }
+    ensures { ForCores HasTargets }
 {}
 
 /// Each static of the core of a text is sound: it has the layout of a type, its first bytes lie in it and are zero in its slots,
 /// and the pointers that it holds first are at different slots of it, and name statics of the core and offsets up to their
 /// ends (C99 6.6, 6.7.8).
 pub fn statics_are_sound()
-    ensures { (unit : Trees) (core : Core) (tags : TagTable) → AreWritten unit → elaborated unit ≡ Ok (core, tags) → All (IsStatic core) core.statics }
+    ensures { ForCoresOf AreWritten (λ core. All (IsStatic core) core.statics) }
 {
     layouts_are_sound();
 }
@@ -159,7 +159,7 @@ pub fn lists_are_short()
 /// The core of texts is sound, where they have at most 268,435,456 tokens together, and the names of their tree are shorter
 /// than 2 to the 32.
 pub fn cores_are_sound()
-    ensures { (unit : Trees) (core : Core) (tags : TagTable) → IsOfTexts unit → elaborated unit ≡ Ok (core, tags) → IsSound core }
+    ensures { ForCoresOf IsOfTexts IsSound }
 {
     constants_fit();
     layouts_are_sound();

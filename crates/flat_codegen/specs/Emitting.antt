@@ -1,6 +1,6 @@
 -- What each step adds to the code that stands so far.
-use Rattle.std.specs.Prelude.{◌+◌, ◌++◌, ◌∷◌, [], ℕ, ℤ, pos, cond, List, Option, Some, None, length, map, fold, unwrap_or, take}
-use Rattle.std.specs.List.{enumerate_from, range_with_len}
+use Rattle.std.specs.Prelude.{◌+◌, ◌*◌, ◌++◌, ◌∷◌, [], ℕ, ℤ, pos, cond, List, Option, Some, None, length, map, fold, unwrap_or, take}
+use Rattle.std.specs.List.{enumerate_from, range_with_len, sum_by}
 use Rattle.std.specs.Option.{option_to_list}
 use Rattle.c_types.specs.declared.layouts.Layout.{Layout}
 use Rattle.core_tree.specs.declared.program.Func.{Func}
@@ -9,8 +9,8 @@ use Rattle.core_tree.specs.declared.program.Reg.{Reg}
 use Rattle.core_tree.specs.declared.statements.Stm.{Stm}
 use Rattle.core_tree.specs.declared.statements.StmKind.{StmKind}
 use Rattle.core_tree.specs.declared.statements.StmKind.TheVariants as stm
-use Rattle.core_tree.specs.Statements.{written}
-use Rattle.core_tree.specs.Sound.{element_layouts}
+use Rattle.core_tree.specs.Statements.{written, operands}
+use Rattle.core_tree.specs.Sound.{element_layouts, EachStatement, HasNumbers, code_size}
 use Rattle.flat_code.specs.declared.instructions.Instr.{Instr}
 use Rattle.flat_code.specs.declared.instructions.Op.{Op}
 use Rattle.flat_code.specs.declared.instructions.Op.TheVariants as op
@@ -24,6 +24,12 @@ use Rattle.object_meaning.specs.compiled.Handing.{hand_of, handed_atoms}
 use Rattle.object_meaning.specs.compiled.Places.{body_length}
 use Rattle.object_meaning.specs.compiled.Compiled.{format_of}
 use Rattle.object_meaning.specs.compiled.Sites.{may_free, site_at}
+use Rattle.core_tree.specs.declared.program.Core.{Core}
+
+-- no more instructions than these are emitted for a core: 14 for each statement and each operand, one for each function, and one
+-- that starts
+abbrev pub most_instrs : Core → ℕ
+most_instrs core = 14 * sum_by code_size core.funcs + length core.funcs + 1
 
 -- the code with its statics and their layouts alone
 abbrev pub before_functions : List StaticInit → List Layout → Code
@@ -43,6 +49,17 @@ with_formats code formats = record code { formats = code.formats ++ formats }
 
 abbrev pub with_sites : Code → List Site → Code
 with_sites code sites = record code { sites = code.sites ++ sites }
+
+-- the numbers that stand in a function's statements fit in instructions
+abbrev pub HasNumbersIn : Func → Type 0
+HasNumbersIn func = EachStatement func.body (λ point stm. HasNumbers stm.kind)
+
+-- the instructions that hand the operands of a statement over, and all that it hands over
+abbrev pub handing : StmKind → List Instr
+handing kind = map hand_of (operands kind)
+
+abbrev pub handing_all : StmKind → List Instr
+handing_all kind = map hand_of (handed_atoms kind)
 
 -- what an instruction does for a statement
 abbrev pub op_of : StmKind → Op
@@ -117,11 +134,15 @@ doing place layout format kind =
 
 -- the instructions of a statement
 abbrev pub block : (ℕ → ℕ) → ℕ → ℕ → StmKind → List Instr
-block place layout format kind = map hand_of (handed_atoms kind) ++ doing place layout format kind ∷ []
+block place layout format kind = handing_all kind ++ doing place layout format kind ∷ []
 
 -- the site of a statement whose operands are handed over, so that what it does comes next
 abbrev pub next_site : Code → StmKind → List ℕ → List Site
 next_site code kind pins = cond (may_free kind) (record { instr = length code.instrs; pins = pins } ∷ []) []
+
+-- the code with that site
+abbrev pub with_site : Code → StmKind → List ℕ → Code
+with_site code kind pins = with_sites code (next_site code kind pins)
 
 -- the code with a statement at its end, its layout and its format, and its site with these pins
 abbrev pub with_statement : (ℕ → ℕ) → Func → Code → Stm → List ℕ → Code
@@ -132,21 +153,32 @@ with_statement place func code stm pins =
 abbrev pub with_point : (ℕ → ℕ) → Func → Code → ℕ × Stm → Code
 with_point place func code at = with_statement place func code at.1 (pins_in (func_pins func) at.0)
 
+-- the code with the statements of a function at its end, one after another
+abbrev pub emitted : (ℕ → ℕ) → Func → Code → Code
+emitted place func code = fold (with_point place func) code (enumerate_from 0 func.body)
+
 -- the place of a point in a body that begins at an instruction
 abbrev pub place_from : ℕ → List Stm → ℕ → ℕ
 place_from first body point = first + body_length (take point body)
 
+-- the layouts of memory locals, and the numbers that they get
+abbrev pub layouts_of : List Mem → List Layout
+layouts_of mems = map (λ (m : Mem). m.layout) mems
+
+abbrev pub mem_numbers : Code → List Mem → List ℕ
+mem_numbers code mems = range_with_len (length code.layouts) (length mems)
+
 -- the entry of a function that comes next
 abbrev pub entry_of : Code → Func → Entry
 entry_of code func =
-    record { first = length code.instrs; params = func.params; kinds = map (λ (r : Reg). r.pointer) func.regs; mems = range_with_len (length code.layouts) (length func.mems) }
+    record { first = length code.instrs; params = func.params; kinds = map (λ (r : Reg). r.pointer) func.regs; mems = mem_numbers code func.mems }
 
 -- the code with the entry of a function and the layouts of its memory locals
 abbrev pub with_entry : Code → Func → Code
 with_entry code func =
-    record code { layouts = code.layouts ++ map (λ (m : Mem). m.layout) func.mems; funcs = code.funcs ++ entry_of code func ∷ [] }
+    record code { layouts = code.layouts ++ layouts_of func.mems; funcs = code.funcs ++ entry_of code func ∷ [] }
 
 -- the code with a function
 abbrev pub with_function : Code → Func → Code
 with_function code func =
-    fold (with_point (place_from (length code.instrs) func.body) func) (with_entry code func) (enumerate_from 0 func.body)
+    emitted (place_from (length code.instrs) func.body) func (with_entry code func)

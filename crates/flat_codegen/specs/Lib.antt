@@ -4,3 +4,5 @@ pub mod Statics
 pub mod Running
 pub mod Lasting
 pub mod Laws
+pub mod Executed
+pub mod Alike

@@ -1,15 +1,12 @@
 //! The functions of a core.
 
 ghost use Rattle.std.specs.Prelude.{◌≡◌, IfOk, All, fold, length, map, option_copied};
-ghost use Rattle.std.specs.List.{enumerate_from, range_with_len};
 ghost use Rattle.std.specs.Option.{option_to_list};
-ghost use Rattle.core_tree.specs.declared.program.Func.{Func as CoreFunc};
-ghost use Rattle.core_tree.specs.declared.program.Mem.{Mem as CoreMem};
 ghost use Rattle.core_tree.specs.declared.program.Reg.{Reg as CoreReg};
-ghost use Rattle.core_tree.specs.Sound.{HasNumbers, EachStatement, element_layouts};
+ghost use Rattle.core_tree.specs.Sound.{HasNumbers, element_layouts};
 ghost use Rattle.object_meaning.specs.compiled.Compiled.{format_of};
 ghost use Rattle.count_insertion.specs.Inserted.{func_pins};
-ghost use Rattle.flat_codegen.specs.Emitting.{with_layouts, with_statement, with_point, with_entry, with_function};
+ghost use Rattle.flat_codegen.specs.Emitting.{with_layouts, with_statement, with_entry, with_function, HasNumbersIn, emitted, layouts_of, mem_numbers};
 ghost use Rattle.flat_codegen.specs.Placing.{place_in};
 
 use crate::doing::Names;
@@ -58,8 +55,8 @@ fn kinds_of(alloc: Global, registers: &[Reg]) -> Result<Items<bool>, NoMemory>
 impl Emitter {
     /// Adds the layouts of memory locals, and gives their numbers.
     fn mems(&mut self, mems: &[Mem]) -> Result<Items<u32>, NoMemory>
-        ensures code { IfOk result (λ _. self.new.code ≡ with_layouts self.old.code (map (λ (m : CoreMem). m.layout) mems.now)) }
-        ensures numbers { IfOk result (λ numbers. numbers ≡ range_with_len (length self.old.code.layouts) (length mems.now)) }
+        ensures code { IfOk result (λ _. self.new.code ≡ with_layouts self.old.code (layouts_of mems.now)) }
+        ensures numbers { IfOk result (λ numbers. numbers ≡ mem_numbers self.old.code mems.now) }
     {
         let mut numbers = Items::new(self.alloc);
         for mem in mems {
@@ -115,9 +112,9 @@ impl Emitter {
     /// Adds the statements of a function. Its pins stand in the order of its points, so those of each point are the first
     /// that are left.
     fn body(&mut self, func: &Func, places: &Places, pins: &FuncPins) -> Result<(), NoMemory>
-        requires numbers { EachStatement func.now.body (λ point stm. HasNumbers stm.kind) }
+        requires numbers { HasNumbersIn func.now }
         requires listed { pins.now ≡ func_pins func.now }
-        ensures { IfOk result (λ _. self.new.code ≡ fold (with_point (place_in places.now) func.now) self.old.code (enumerate_from 0 func.now.body)) }
+        ensures { IfOk result (λ _. self.new.code ≡ emitted (place_in places.now) func.now self.old.code) }
     {
         listed_pins_are_exact();
         let mut left = pins.left();
@@ -130,7 +127,7 @@ impl Emitter {
 
     /// Adds a function with its pins.
     fn function(&mut self, func: &Func, pins: &FuncPins) -> Result<(), NoMemory>
-        requires numbers { EachStatement func.now.body (λ point stm. HasNumbers stm.kind) }
+        requires numbers { HasNumbersIn func.now }
         requires listed { pins.now ≡ func_pins func.now }
         ensures { IfOk result (λ _. self.new.code ≡ with_function self.old.code func.now) }
     {
@@ -142,7 +139,7 @@ impl Emitter {
 
     /// Adds functions, each with its pins.
     pub(crate) fn functions(&mut self, funcs: &[Func], pins: &[FuncPins]) -> Result<(), NoMemory>
-        requires numbers { All (λ (func : CoreFunc). EachStatement func.body (λ point stm. HasNumbers stm.kind)) funcs.now }
+        requires numbers { All HasNumbersIn funcs.now }
         requires listed { pins.now ≡ map func_pins funcs.now }
         ensures { IfOk result (λ _. self.new.code ≡ fold with_function self.old.code funcs.now) }
     {

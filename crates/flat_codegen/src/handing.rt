@@ -1,11 +1,11 @@
 //! What a statement hands over.
 
-ghost use Rattle.std.specs.Prelude.{◌≡◌, ◌∷◌, [], IfOk, All, flat_map, length, map};
+ghost use Rattle.std.specs.Prelude.{◌≡◌, ◌∷◌, [], IfOk, All, flat_map, length};
 ghost use Rattle.std.specs.Option.{option_to_list};
 ghost use Rattle.core_tree.specs.Statements.{operands};
 ghost use Rattle.core_tree.specs.Sound.{IsNumber, HasNumbers, atom_numbers, own_numbers};
-ghost use Rattle.object_meaning.specs.compiled.Handing.{hand_integer, hand_of, handed_atoms, code_length, instr};
-ghost use Rattle.flat_codegen.specs.Emitting.{with_instrs};
+ghost use Rattle.object_meaning.specs.compiled.Handing.{hand_integer, hand_of, code_length, instr};
+ghost use Rattle.flat_codegen.specs.Emitting.{with_instrs, handing, handing_all};
 
 use crate::emitter::{Emitter, fit};
 use core_tree::{Atom, StmKind};
@@ -131,7 +131,7 @@ impl Emitter {
     /// Adds the instructions that hand the operands of a statement over.
     fn hand_operands(&mut self, line: Line, kind: &StmKind) -> Result<(), NoMemory>
         requires { All IsNumber (flat_map atom_numbers (operands kind.now)) }
-        ensures { IfOk result (λ _. self.new.code ≡ with_instrs self.old.code line (map hand_of (operands kind.now))) }
+        ensures { IfOk result (λ _. self.new.code ≡ with_instrs self.old.code line (handing kind.now)) }
     {
         for place in 0..operand_count(kind) {
             if let Some(atom) = kind.operand(place) {
@@ -144,7 +144,7 @@ impl Emitter {
     /// Adds the instructions that hand over all that a statement hands over.
     pub(crate) fn hand_all(&mut self, line: Line, kind: &StmKind) -> Result<(), NoMemory>
         requires { HasNumbers kind.now }
-        ensures { IfOk result (λ _. self.new.code ≡ with_instrs self.old.code line (map hand_of (handed_atoms kind.now))) }
+        ensures { IfOk result (λ _. self.new.code ≡ with_instrs self.old.code line (handing_all kind.now)) }
     {
         self.hand_operands(line, kind)?;
         if let Some(number) = own_number(kind) {

@@ -1,8 +1,7 @@
 //! Where the statements of a function stand.
 
-ghost use Rattle.std.specs.Prelude.{◌≡◌, ℕ, IfOk};
-ghost use Rattle.flat_codegen.specs.Emitting.{place_from};
-ghost use Rattle.flat_codegen.specs.Placing.{place_in};
+ghost use Rattle.std.specs.Prelude.{◌≡◌, IfOk};
+ghost use Rattle.flat_codegen.specs.Placing.{place_in, ArePlaces};
 
 use crate::handing::code_length;
 use core_tree::Stm;
@@ -19,7 +18,7 @@ pub(crate) struct Places {
 impl Places {
     /// The places of the points of a body that begins at an instruction.
     pub(crate) fn of_body(alloc: Global, first: u32, body: &[Stm]) -> Result<Places, NoMemory>
-        ensures { IfOk result (λ places. (point : ℕ) → place_in places point ≡ place_from first body.now point) }
+        ensures { IfOk result (ArePlaces first body.now) }
     {
         let mut points = Vec::new(alloc);
         let mut end = first;

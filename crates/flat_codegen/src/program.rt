@@ -1,19 +1,15 @@
 //! The code of a core as a whole.
 
-ghost use Rattle.std.specs.Prelude.{◌≡◌, ◌<◌, ◌≤◌, ◌+◌, ◌*◌, ◌^◌, ℕ, Bool, List, length, map, pos, IfOk, slice_get};
-ghost use Rattle.std.specs.List.{sum_by};
-ghost use Rattle.hs_base.specs.Trace.{Ending, Event};
+ghost use Rattle.std.specs.Prelude.{◌≡◌, ◌<◌, ◌≤◌, ◌+◌, ◌^◌, length, map, pos, IfOk, slice_get};
 ghost use Rattle.meaning_laws.specs.code.Laws.{HoldsBytes};
-ghost use Rattle.core_tree.specs.Sound.{IsSound, code_size, is_main, main_of};
+ghost use Rattle.core_tree.specs.Sound.{IsSound, is_main, main_of};
 ghost use Rattle.object_meaning.specs.objects.Meaning.{line_of};
-ghost use Rattle.object_meaning.specs.counted.CountedMeaning.{meaning as core_meaning};
 ghost use Rattle.count_insertion.specs.Inserted.{func_pins};
-ghost use Rattle.object_meaning.specs.code.CodeMeaning.{meaning as code_meaning};
 ghost use Rattle.object_meaning.specs.compiled.Handing.{instr};
 ghost use Rattle.object_meaning.specs.compiled.Compiled.{IsCompiled};
-ghost use Rattle.meaning_laws.specs.compiled.SameRun.{SameRun};
-ghost use Rattle.meaning_laws.specs.compiled.Testing.{tested_code, tested_core};
 ghost use Rattle.flat_code.specs.WellFormed.{AreShort, IsWellFormed};
+ghost use Rattle.flat_codegen.specs.Alike.{RunsAs, RunsAsTested};
+ghost use Rattle.flat_codegen.specs.Emitting.{most_instrs};
 
 use crate::emitter::Emitter;
 use crate::handing::instr;
@@ -97,9 +93,9 @@ pub fn compile(alloc: Global, counted: &Counted) -> Result<Code, NoMemory>
     ensures compiled { IfOk result (λ code. IsCompiled counted.now.core counted.now.pins code) }
     ensures formed { IfOk result IsWellFormed }
     ensures bytes { IfOk result HoldsBytes }
-    ensures few { IfOk result (λ code. length code.instrs ≤ 14 * sum_by code_size counted.now.core.funcs + length counted.now.core.funcs + 1) }
-    ensures means { IfOk result (λ code. (input : List ℕ) (n heap : ℕ) → SameRun (core_meaning counted.now.core counted.now.pins input n heap) (code_meaning code input n heap)) }
-    ensures tested { IfOk result (λ code. (fits : List Event → Event → Bool) (refused : Event → Ending) (input : List ℕ) (n heap : ℕ) → SameRun (tested_core counted.now.core counted.now.pins fits refused input n heap) (tested_code code fits refused input n heap)) }
+    ensures few { IfOk result (λ code. length code.instrs ≤ most_instrs counted.now.core) }
+    ensures means { IfOk result (RunsAs counted.now.core counted.now.pins) }
+    ensures tested { IfOk result (RunsAsTested counted.now.core counted.now.pins) }
 {
     codes_are_well_formed();
     codes_are_few();

@@ -1,18 +1,12 @@
 //! Running the code of a core.
 
-ghost use Rattle.std.specs.Prelude.{◌≡◌, ◌+◌, ◌<◌, ◌≤◌, ◌^◌, ℕ, List, IfSome, None, Some};
+ghost use Rattle.std.specs.Prelude.{◌≡◌, ◌+◌, ◌<◌, ◌≤◌, ◌^◌, IfSome, None, Some};
 ghost use Rattle.meaning_laws.specs.code.Laws.{HoldsBytes};
-ghost use Rattle.object_meaning.specs.compiled.Compiled.{IsCompiled};
-ghost use Rattle.object_meaning.specs.compiled.Sites.{AreAscending};
-ghost use Rattle.core_tree.specs.Sound.{IsSound};
-ghost use Rattle.core_tree.specs.declared.program.Core.{Core};
-ghost use Rattle.object_meaning.specs.counted.Pinning.{AreExact, Pins};
 ghost use Rattle.flat_code.specs.WellFormed.{IsWellFormed};
-ghost use Rattle.flat_codegen.specs.Lasting.{LeavesImage, MakesSteps};
-ghost use Rattle.flat_codegen.specs.Running.{RunAnswers};
 ghost use Rattle.flat_objects.specs.Leaks.{KeepsSome};
 ghost use Rattle.flat_machine.specs.Machined.{IsOf, steps_made};
 ghost use Rattle.flat_machine.specs.Running.{RunCounts};
+ghost use Rattle.flat_codegen.specs.Executed.{AnswersCore, MakesStepsOfCore, LeavesImageOfCore};
 
 use flat_code::Code;
 use flat_machine::Machine;
@@ -42,10 +36,10 @@ pub fn execute<I: Source, O: Sink>(
     requires budget { budget ≤ 1000000000 }
     requires input { I.faults input.old + 1 < 2 ^ 64 }
     requires out { O.faults out.old + 1 < 2 ^ 64 }
-    ensures told { machine.old.ended ≡ None → (core : Core) (pins : Pins) → IsSound core → AreExact core pins → AreAscending pins → IsCompiled core pins code.now → (left taken : List ℕ) → I.left input.old ≡ Some left → O.taken out.old ≡ Some taken → RunAnswers core left budget (record { heap = machine.old.kept.memory.heap.len; stack = machine.old.stack }) taken result (I.left input.new) (O.taken out.new) }
-    ensures made { machine.old.ended ≡ None → (core : Core) (pins : Pins) → IsSound core → AreExact core pins → AreAscending pins → IsCompiled core pins code.now → (left taken : List ℕ) → I.left input.old ≡ Some left → O.taken out.old ≡ Some taken → MakesSteps core left budget (record { heap = machine.old.kept.memory.heap.len; stack = machine.old.stack }) result (steps_made machine.new) }
+    ensures told { AnswersCore code.now machine.old budget (I.left input.old) (O.taken out.old) result (I.left input.new) (O.taken out.new) }
+    ensures made { MakesStepsOfCore code.now machine.old budget (I.left input.old) (O.taken out.old) result (steps_made machine.new) }
     ensures kept { machine.old.ended ≡ None → KeepsSome machine.new.kept.memory }
-    ensures left { machine.old.ended ≡ None → (core : Core) (pins : Pins) → IsSound core → AreExact core pins → AreAscending pins → IsCompiled core pins code.now → (left taken : List ℕ) → I.left input.old ≡ Some left → O.taken out.old ≡ Some taken → LeavesImage core pins left budget (record { heap = machine.old.kept.memory.heap.len; stack = machine.old.stack }) result machine.new.kept }
+    ensures left { LeavesImageOfCore code.now machine.old budget (I.left input.old) (O.taken out.old) result machine.new.kept }
     ensures faults { machine.old.ended ≡ None → RunCounts result (I.faults input.old) (I.faults input.new) (O.faults out.old) (O.faults out.new) }
     ensures ends { machine.new.ended ≡ Some result }
     ensures loaded { IsOf code.now machine.new }

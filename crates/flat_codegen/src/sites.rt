@@ -2,7 +2,7 @@
 
 ghost use Rattle.std.specs.Prelude.{◌≡◌, IfOk};
 ghost use Rattle.object_meaning.specs.compiled.Sites.{may_free};
-ghost use Rattle.flat_codegen.specs.Emitting.{next_site, with_sites};
+ghost use Rattle.flat_codegen.specs.Emitting.{with_site};
 
 use crate::emitter::{Emitter, fit};
 use core_tree::StmKind;
@@ -22,7 +22,7 @@ fn may_free(kind: &StmKind) -> bool
 impl Emitter {
     /// Adds the site of the instruction that comes next and does what a statement does, where objects may be freed there.
     pub(crate) fn site(&mut self, kind: &StmKind, pins: Registers) -> Result<(), NoMemory>
-        ensures { IfOk result (λ _. self.new.code ≡ with_sites self.old.code (next_site self.old.code kind.now pins)) }
+        ensures { IfOk result (λ _. self.new.code ≡ with_site self.old.code kind.now pins) }
     {
         if may_free(kind) {
             let instr = fit(self.code.instrs.len())?;

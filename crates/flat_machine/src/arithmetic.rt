@@ -1,14 +1,11 @@
 //! Instructions that work on integers and registers (C99 6.3.1.3, 6.5.3.3, 6.5.5 to 6.5.14).
 
-ghost use Rattle.std.specs.Prelude.{◌≡◌, ◌+◌, ◌<◌, ◌^◌, ℕ, Bool, IfErr, not, nat_eq};
+ghost use Rattle.std.specs.Prelude.{◌≡◌, ◌+◌, ◌<◌, ◌^◌, IfErr, not, nat_eq};
 ghost use Rattle.object_meaning.specs.objects.Arithmetic.{on_two, is_zero};
-ghost use Rattle.flat_code.specs.declared.program.Code.{Code as Program};
-ghost use Rattle.object_meaning.specs.code.CodeState.{CodeState};
-ghost use Rattle.object_meaning.specs.code.CodeMeaning.{act};
 ghost use Rattle.flat_machine.specs.Words.{truth_word};
-ghost use Rattle.flat_machine.specs.Standing.{Stands};
 ghost use Rattle.flat_machine.specs.Groups.{IsValues};
-ghost use Rattle.flat_machine.specs.Leading.{Alone, Operates};
+ghost use Rattle.flat_machine.specs.Instructions.{ActsAlone};
+ghost use Rattle.flat_machine.specs.Leading.{Operates};
 
 use crate::state::State;
 use core_tree::BinOp;
@@ -65,7 +62,7 @@ impl State {
     /// A register takes the result of an operation on two integers.
     fn operate(&mut self, line: Line, instr: Instr, op: BinOp, kind: IntKind) -> Result<(), End>
         requires { self.old.calls.running.point + 1 < 2 ^ 64 }
-        ensures alone { (code : Program) (fits : ℕ → Bool) (places : ℕ → ℕ) (c : CodeState) → Stands places c self.old → Alone places c self.old (act code fits line instr (Op.Bin op kind) c.handed c.numbers c.state) self.new result }
+        ensures alone { ActsAlone self.old self.new line instr (Op.Bin op kind) result }
         ensures unchanged { IfErr result (λ _. self.new ≡ self.old) }
     {
         match on_two(op, kind, self.integer(0), self.integer(1)) {
@@ -81,7 +78,7 @@ impl State {
     pub(crate) fn act_values(&mut self, line: Line, instr: Instr, op: Op) -> Result<(), End>
         requires point { self.old.calls.running.point + 1 < 2 ^ 64 }
         requires values { IsValues op }
-        ensures alone { (code : Program) (fits : ℕ → Bool) (places : ℕ → ℕ) (c : CodeState) → Stands places c self.old → Alone places c self.old (act code fits line instr op c.handed c.numbers c.state) self.new result }
+        ensures alone { ActsAlone self.old self.new line instr op result }
         ensures unchanged { IfErr result (λ _. self.new ≡ self.old) }
     {
         match op {

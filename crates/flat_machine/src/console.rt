@@ -1,7 +1,7 @@
 //! The input and the output of a run. What is put waits until the source has no byte at hand, or the run ends.
 
 ghost use Rattle.std.specs.Prelude.{◌≡◌, ◌≤◌, ◌<◌, ◌^◌, ◌+◌, ◌++◌, ◌⊎◌, [], ℕ, List, Option, Some, None, Ok, Err, IfOk, IfErr, IsTrue, false, drop, take, length};
-ghost use Rattle.hs_base.specs.Outside.{CountsFaults, TakesByte};
+ghost use Rattle.hs_base.specs.Outside.{CountsFaults};
 ghost use Rattle.flat_machine.specs.Noting.{IsAtByte, bytes_put, marks_of, reads_in, ReadsOn};
 ghost use Rattle.hs_base.specs.declared.ends.End.TheVariants as end;
 ghost use Rattle.flat_machine.specs.declared.fault.Fault.TheVariants as fault;
@@ -75,7 +75,7 @@ fn pass<I: Source>(page: &mut Page, input: &mut I, done: &Log, put: usize) -> Lo
 }
 
 impl<'i, 'o, I: Source, O: Sink, K: Lent> Console<'i, 'o, I, O, K> {
-    ghost use Rattle.flat_machine.specs.Consoles.{CountsFinish, CountsReadOf, Settles, bytes_waiting, input_left, noted};
+    ghost use Rattle.flat_machine.specs.Consoles.{CountsFinish, CountsReadOf, Settles, TakesByteOf, bytes_waiting, input_left, noted};
 
     /// An input and an output as they were lent: nothing is noted.
     pub(crate) fn new(input: &'i mut I, out: &'o mut O) -> Console<'i, 'o, I, O, K>
@@ -153,7 +153,7 @@ impl<'i, 'o, I: Source, O: Sink, K: Lent> Console<'i, 'o, I, O, K> {
     fn fetch(&mut self) -> Result<Option<u8>, Fault>
         requires input { I.faults self.old.input.now + 1 < 2 ^ 64 }
         requires out { O.faults self.old.out.now + 1 < 2 ^ 64 }
-        ensures bytes { IfOk result (λ byte. TakesByte (input_left self.old) (input_left self.new) (Ok byte)) }
+        ensures bytes { TakesByteOf self.old self.new result }
         ensures notes { IfOk result (λ byte. noted self.new ≡ noted self.old ++ marks_of byte) }
         ensures failed { IfErr result (λ _. noted self.new ≡ noted self.old) }
         ensures settled { result ≡ Err fault.Input → self.new.page.notes ≡ [] }
@@ -178,7 +178,7 @@ impl<'i, 'o, I: Source, O: Sink, K: Lent> Console<'i, 'o, I, O, K> {
     pub(crate) fn next(&mut self) -> Result<Option<u8>, Fault>
         requires input { I.faults self.old.input.now + 1 < 2 ^ 64 }
         requires out { O.faults self.old.out.now + 1 < 2 ^ 64 }
-        ensures bytes { IfOk result (λ byte. TakesByte (input_left self.old) (input_left self.new) (Ok byte)) }
+        ensures bytes { TakesByteOf self.old self.new result }
         ensures notes { IfOk result (λ byte. noted self.new ≡ noted self.old ++ marks_of byte) }
         ensures failed { IfErr result (λ _. noted self.new ≡ noted self.old) }
         ensures settled { result ≡ Err fault.Input → self.new.page.notes ≡ [] }

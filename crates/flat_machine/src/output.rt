@@ -11,6 +11,7 @@ ghost use Rattle.flat_machine.specs.Leading.{Counted};
 ghost use Rattle.flat_machine.specs.Consoles.{CountsStep};
 ghost use Rattle.flat_machine.specs.Instructions.{ForStates, get_next, plain_next, put_next};
 ghost use Rattle.flat_machine.specs.Telling.{MovesOn, MovesSomehow, Puts, Tells};
+ghost use Rattle.flat_machine.specs.StateMemory.{KeepsHanded};
 
 use crate::calling::byte_in;
 use crate::console::{Console, Lent};
@@ -105,7 +106,7 @@ impl State {
     ) -> Result<(), End>
         requires point { self.old.calls.running.point + 1 < 2 ^ 64 }
         requires name { IsPlainLib name }
-        requires kept { (k : ℕ) → IsKept self.old.memory (address_at self.old.handed k) }
+        requires kept { KeepsHanded self.old }
         requires input { I.faults console.old.input.now + 1 < 2 ^ 64 }
         requires out { O.faults console.old.out.now + 1 < 2 ^ 64 }
         ensures told { Tells console.old console.new self.old self.new (plain_next line name r) result }

@@ -1,18 +1,15 @@
 //! Pointers in registers that are counted.
 
-ghost use Rattle.std.specs.Prelude.{◌≡◌, ◌++◌, [], ℕ, List, slice_index_or};
-ghost use Rattle.hs_base.specs.Object.{Object};
+ghost use Rattle.std.specs.Prelude.{◌≡◌, [], slice_index_or};
 ghost use Rattle.flat_objects.specs.Memory.{SameFrame};
-ghost use Rattle.flat_objects.specs.Keeping.{Keeps};
-ghost use Rattle.flat_objects.specs.Counting.{Frees, Tracks};
-ghost use Rattle.flat_machine.specs.Pinning.{DoesCount, IsCountable, IsCounted, MayCount};
+ghost use Rattle.flat_objects.specs.Keeping.{StillKeeps};
+ghost use Rattle.flat_machine.specs.Pinning.{IsCountable, IsCounted, PinsIn, UnpinsIn};
 
 use crate::calls::Calls;
 use crate::words::address_in;
 use byte_memory::Steps;
 use flat_code::{RegisterIter, Registers};
 use flat_objects::FlatObjects;
-use hs_base::Pointer;
 use std::sync::ledger::Ledger;
 
 /// The registers that count at an instruction, and none where it has no site.
@@ -34,8 +31,8 @@ pub(crate) fn pin_registers<L: Ledger>(
     steps: &mut Steps<L>,
 )
     requires { IsCountable objects.old calls.now.running.words registers }
-    ensures keeps { (places : ℕ → ℕ) (all : List Object) → Keeps objects.old places all → Keeps objects.new places all }
-    ensures tracks { (places : ℕ → ℕ) (all : List Object) (frees : Frees) (pointers : List Pointer) → MayCount objects.old places all frees calls.now.running.words registers.entry pointers → Tracks objects.new places all (record frees { pins = pointers ++ frees.pins }) }
+    ensures keeps { StillKeeps objects.old objects.new }
+    ensures tracks { PinsIn objects.old objects.new calls.now.running.words registers.entry }
     ensures frame { SameFrame objects.old objects.new }
 {
     for register in registers {
@@ -51,8 +48,8 @@ pub(crate) fn unpin_registers<L: Ledger>(
     steps: &mut Steps<L>,
 )
     requires { IsCounted objects.old calls.now.running.words registers }
-    ensures keeps { (places : ℕ → ℕ) (all : List Object) → Keeps objects.old places all → Keeps objects.new places all }
-    ensures tracks { (places : ℕ → ℕ) (all : List Object) (frees : Frees) (pointers others : List Pointer) → DoesCount objects.old places all frees calls.now.running.words registers.entry pointers others → Tracks objects.new places all (record frees { pins = others }) }
+    ensures keeps { StillKeeps objects.old objects.new }
+    ensures tracks { UnpinsIn objects.old objects.new calls.now.running.words registers.entry }
     ensures frame { SameFrame objects.old objects.new }
 {
     for register in registers {

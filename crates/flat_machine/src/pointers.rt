@@ -1,11 +1,10 @@
 //! Instructions that move, subtract and compare pointers (C99 6.5.6, 6.5.8, 6.5.9).
 
-ghost use Rattle.std.specs.Prelude.{◌≡◌, ◌+◌, ◌<◌, ◌<ℤ◌, ◌^◌, ℕ, IfErr, pos};
+ghost use Rattle.std.specs.Prelude.{◌≡◌, ◌+◌, ◌<◌, ◌<ℤ◌, ◌^◌, IfErr, pos};
 ghost use Rattle.flat_code.specs.declared.instructions.Op.TheVariants as ops;
-ghost use Rattle.flat_objects.specs.Keeping.{IsKept};
-ghost use Rattle.flat_machine.specs.Words.{address_at};
 ghost use Rattle.flat_machine.specs.Groups.{IsPointers};
 ghost use Rattle.flat_machine.specs.Instructions.{ActsAlone};
+ghost use Rattle.flat_machine.specs.StateMemory.{KeepsHanded};
 
 use crate::state::State;
 use byte_memory::Steps;
@@ -25,7 +24,7 @@ impl State {
     ) -> Result<(), End>
         requires point { self.old.calls.running.point + 1 < 2 ^ 64 }
         requires pointers { IsPointers op }
-        requires kept { (k : ℕ) → IsKept self.old.memory (address_at self.old.handed k) }
+        requires kept { KeepsHanded self.old }
         requires element { op ≡ ops.Diff → pos 0 <ℤ instr.imm }
         ensures alone { ActsAlone self.old self.new line instr op result }
         ensures unchanged { IfErr result (λ _. self.new ≡ self.old) }

@@ -7,12 +7,13 @@ ghost use Rattle.hs_base.specs.declared.values.Value as spec;
 ghost use Rattle.c_print.specs.Format.{IsGiven};
 ghost use Rattle.object_meaning.specs.objects.Printing.{arguments_behind};
 ghost use Rattle.meaning_state.specs.Printing.{piece_text, PrintsNoString};
-ghost use Rattle.flat_objects.specs.Keeping.{IsKept, ForPointer};
+ghost use Rattle.flat_objects.specs.Keeping.{IsKept};
 ghost use Rattle.flat_machine.specs.Words.{address_at};
 ghost use Rattle.flat_machine.specs.Leading.{Counted};
-ghost use Rattle.flat_machine.specs.Putting.{CountsPut, IsLengthOf};
-ghost use Rattle.flat_machine.specs.Writing.{padded_at, text_at, HasString, PrintsString};
-ghost use Rattle.flat_machine.specs.Telling.{ForHanded, IsPaddedLength, MovesPrinting, Prints, PutsField, PutsPadded, PutsPiece, PutsPieces};
+ghost use Rattle.flat_machine.specs.Putting.{CountsPut};
+ghost use Rattle.flat_machine.specs.Writing.{HasString, PrintsString};
+ghost use Rattle.flat_machine.specs.Telling.{IsPaddedLength, MovesPrinting, Prints, PutsField, PutsPadded, PutsPiece, PutsPieces, CountsField, CountsPiece};
+ghost use Rattle.flat_machine.specs.StateMemory.{KeepsHanded};
 
 use crate::put_error::PutError;
 use crate::state::State;
@@ -128,7 +129,7 @@ impl State {
         requires count { O.faults out.old + 1 < 2 ^ 64 }
         requires kept { IsKept self.now.memory addr }
         ensures puts { PutsField (O.taken out.old) (O.taken out.new) self.now.memory addr field result }
-        ensures len { ForPointer self.now.memory addr (λ _ all p. IfOk result (IsLengthOf (padded_at all p field))) }
+        ensures len { CountsField self.now.memory addr field result }
         ensures cause { CountsPut (O.faults out.old) (O.faults out.new) result }
     {
         match self.string_length(addr, steps) {
@@ -149,7 +150,7 @@ impl State {
         requires given { IsGiven piece.now }
         requires kept { IsKept self.now.memory (address_at self.now.handed place) }
         ensures puts { PutsPiece (O.taken out.old) (O.taken out.new) self.now piece.now place result }
-        ensures len { ForHanded self.now (λ all vs. IfOk result (IsLengthOf (text_at all piece.now vs place))) }
+        ensures len { CountsPiece self.now piece.now place result }
         ensures cause { CountsPut (O.faults out.old) (O.faults out.new) result }
     {
         match string_field(piece) {
@@ -196,7 +197,7 @@ impl State {
         requires point { self.old.calls.running.point + 1 < 2 ^ 64 }
         requires count { O.faults out.old + 1 < 2 ^ 64 }
         requires given { All IsGiven pieces.now }
-        requires kept { (k : ℕ) → IsKept self.old.memory (address_at self.old.handed k) }
+        requires kept { KeepsHanded self.old }
         ensures told { Prints (O.taken out.old) (O.taken out.new) self.old self.new line r pieces.now result }
         ensures faults { (i : ℕ) → Counted result i i (O.faults out.old) (O.faults out.new) }
         ensures unchanged { IfErr result (λ _. self.new ≡ self.old) }

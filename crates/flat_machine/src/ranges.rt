@@ -5,14 +5,13 @@ ghost use Rattle.hs_base.specs.declared.ends.End.TheVariants as end;
 ghost use Rattle.core_tree.specs.declared.statements.LibName.TheVariants as libs;
 ghost use Rattle.flat_code.specs.declared.instructions.Op.TheVariants as ops;
 ghost use Rattle.object_meaning.specs.objects.Values.{bytes_in};
-ghost use Rattle.flat_objects.specs.Keeping.{IsKept};
 ghost use Rattle.flat_objects.specs.Ranges.{IsSettable};
 ghost use Rattle.flat_machine.specs.Words.{address_at, integer_at};
 ghost use Rattle.flat_machine.specs.Groups.{IsRanges, IsRangeLib};
 ghost use Rattle.flat_machine.specs.Leading.{Counted};
 ghost use Rattle.flat_machine.specs.Consoles.{CountsStep};
 ghost use Rattle.flat_machine.specs.Instructions.{ActsAnyhow, ForStates, LeadsAlone, lib_next};
-ghost use Rattle.flat_machine.specs.StateMemory.{MayStoreHanded};
+ghost use Rattle.flat_machine.specs.StateMemory.{MayStoreHanded, KeepsHanded};
 ghost use Rattle.flat_machine.specs.Telling.{MovesSomehow, Tells};
 
 use crate::calling::byte_in;
@@ -178,7 +177,7 @@ impl State {
         steps: &mut Steps<L>,
     ) -> Result<(), End>
         requires point { self.old.calls.running.point + 1 < 2 ^ 64 }
-        requires kept { (k : ℕ) → IsKept self.old.memory (address_at self.old.handed k) }
+        requires kept { KeepsHanded self.old }
         requires storable { MayStoreHanded self.old }
         requires settable { IsSettable self.old.memory (address_at self.old.handed 0) }
         requires input { I.faults console.old.input.now + 1 < 2 ^ 64 }

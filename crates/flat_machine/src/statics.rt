@@ -8,7 +8,7 @@ ghost use Rattle.flat_objects.specs.Memory.{SameFrame, pin_room};
 ghost use Rattle.flat_objects.specs.Keeping.{Keeps};
 ghost use Rattle.flat_objects.specs.Counting.{Tracks};
 ghost use Rattle.object_meaning.specs.code.Entering.{layout_in};
-ghost use Rattle.flat_machine.specs.Loading.{HasPlaced, HasRoom, HasStarted, blocks_length, no_frees};
+ghost use Rattle.flat_machine.specs.Loading.{HasPlaced, HasRoom, HasStarted, blocks_length, no_frees, AreAllPlaced, HaveAllStarted};
 
 use byte_memory::{CountRight, Steps};
 use c_types::Layout;
@@ -88,7 +88,7 @@ fn place_statics<L: Ledger>(
     requires room { HasRoom code.now objects.old }
     requires empty { (places : ℕ → ℕ) → Keeps objects.old places [] }
     requires fresh { (places : ℕ → ℕ) → Tracks objects.old places [] no_frees }
-    ensures placed { IfOk result (λ addrs. HasPlaced code.now objects.new addrs.items (length code.now.statics)) }
+    ensures placed { IfOk result (λ addrs. AreAllPlaced code.now objects.new addrs.items) }
     ensures frame { SameFrame objects.old objects.new }
 {
     let mut addrs = Vec::new(alloc);
@@ -128,8 +128,8 @@ fn start_statics<L: Ledger>(
     steps: &mut Steps<L>,
 )
     requires formed { IsWellFormed code.now }
-    requires placed { HasPlaced code.now objects.old addrs.now (length code.now.statics) }
-    ensures started { HasStarted code.now objects.new addrs.now (length code.now.statics) }
+    requires placed { AreAllPlaced code.now objects.old addrs.now }
+    ensures started { HaveAllStarted code.now objects.new addrs.now }
     ensures frame { SameFrame objects.old objects.new }
 {
     for k in 0..code.statics.len() {
@@ -151,7 +151,7 @@ fn memory_with<L: Ledger>(
     requires heap { limits.heap ≤ 268435456 }
     requires stack { limits.stack ≤ 67108864 }
     requires pins { pins < 2 ^ 31 }
-    ensures started { IfOk result (λ made. HasStarted code.now made.0 made.1.items (length code.now.statics)) }
+    ensures started { IfOk result (λ made. HaveAllStarted code.now made.0 made.1.items) }
     ensures heap { IfOk result (λ made. made.0.heap.len ≡ limits.heap) }
     ensures locals { IfOk result (λ made. limits.stack ≤ made.0.locals.len) }
     ensures forms { IfOk result (λ made. made.0.forms ≡ map element_of code.now.layouts) }
@@ -185,7 +185,7 @@ pub(crate) fn memory(
     requires heap { limits.heap ≤ 268435456 }
     requires stack { limits.stack ≤ 67108864 }
     requires pins { pins < 2 ^ 31 }
-    ensures started { IfOk result (λ made. HasStarted code.now made.0 made.1.items (length code.now.statics)) }
+    ensures started { IfOk result (λ made. HaveAllStarted code.now made.0 made.1.items) }
     ensures heap { IfOk result (λ made. made.0.heap.len ≡ limits.heap) }
     ensures locals { IfOk result (λ made. limits.stack ≤ made.0.locals.len) }
     ensures forms { IfOk result (λ made. made.0.forms ≡ map element_of code.now.layouts) }

@@ -16,6 +16,7 @@ ghost use Rattle.flat_machine.specs.Leading.{WaitsAtCall, HasAllLocals, MayHand,
 ghost use Rattle.flat_machine.specs.Consoles.{CountsStep};
 ghost use Rattle.flat_machine.specs.Instructions.{CallsStep, StepsAlone, StopsAtCallStep, StopsAtStep};
 ghost use Rattle.flat_machine.specs.Telling.{MovesStep, StopsAfter, TellsStep};
+ghost use Rattle.flat_machine.specs.StateMemory.{KeepsHanded};
 
 use crate::calling::chosen;
 use crate::console::{Console, Lent};
@@ -84,7 +85,7 @@ fn act_alone<L: Ledger>(
     requires loaded { IsLoaded code.now loaded.now }
     requires hands { IsHanding op → MayHand instr op state.old }
     requires kept { IsMemory op → IsKept state.old.memory (address_at state.old.handed 0) }
-    requires pointers { IsPointers op → (k : ℕ) → IsKept state.old.memory (address_at state.old.handed k) }
+    requires pointers { IsPointers op → KeepsHanded state.old }
     requires element { op ≡ ops.Diff → pos 0 <ℤ instr.imm }
     requires makes { IsMaking op → MayMake code.now instr state.old }
     requires grows { op ≡ ops.Realloc → MayMake code.now instr state.old }

@@ -3,13 +3,13 @@
 ghost use Rattle.std.specs.Prelude.{◌≡◌, ◌+◌, ◌<◌, ◌≤◌, ◌^◌, ℕ, IfErr};
 ghost use Rattle.hs_base.specs.Outside.{CountsFaults};
 ghost use Rattle.flat_objects.specs.Keeping.{IsKept};
-ghost use Rattle.flat_machine.specs.Words.{address_at};
 ghost use Rattle.flat_machine.specs.Groups.{IsStringLib};
 ghost use Rattle.flat_machine.specs.Leading.{Counted};
 ghost use Rattle.flat_machine.specs.Putting.{CountsPut};
 ghost use Rattle.flat_machine.specs.Writing.{HasString};
 ghost use Rattle.flat_machine.specs.Instructions.{LeadsAlone, plain_next};
 ghost use Rattle.flat_machine.specs.Telling.{IsChunk, PutsLine, PutsString};
+ghost use Rattle.flat_machine.specs.StateMemory.{KeepsHanded};
 
 use crate::put_error::PutError;
 use crate::state::State;
@@ -98,7 +98,7 @@ impl State {
     ) -> Result<(), End>
         requires point { self.old.calls.running.point + 1 < 2 ^ 64 }
         requires name { IsStringLib name }
-        requires kept { (k : ℕ) → IsKept self.old.memory (address_at self.old.handed k) }
+        requires kept { KeepsHanded self.old }
         ensures leads { LeadsAlone self.old self.new (plain_next line name r) result }
         ensures faults { (i o : ℕ) → Counted result i i o o }
         ensures unchanged { IfErr result (λ _. self.new ≡ self.old) }
