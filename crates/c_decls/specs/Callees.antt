@@ -23,7 +23,7 @@ use Rattle.c_decls.specs.Named as n
 use Rattle.c_decls.specs.Named.{PlainNamed}
 use Rattle.c_decls.specs.Refusals.{Checked, refused, then, unless}
 use Rattle.c_decls.specs.declared.typed.Folded.TheVariants.{Varies}
-use Rattle.c_decls.specs.Typed.{PlainTyped, place, value, constant, wanted_value}
+use Rattle.c_decls.specs.Typed.{PlainTyped, place, same, value, constant, wanted_value}
 use Rattle.c_decls.specs.PlaceRules.{length_of, all_convert}
 
 abbrev void_pointer : PlainType
@@ -109,6 +109,16 @@ built_in_called line tags name callee = Ok callee
 abbrev pub callee_at : Option BuiltIn → Callee
 callee_at None = NoFunction
 callee_at (Some name) = built_in_callee name
+
+-- a type is that of a built-in function, which may be declared by hand (C99 7.1.4)
+abbrev pub has_type : PlainType → Callee → Bool
+has_type type (Takes answer params) = same type (Function answer params)
+has_type type Prints = false
+has_type type NoFunction = false
+
+abbrev pub is_built_in : PlainType → Option PlainNamed → Bool
+is_built_in type (Some (n.BuiltIn index)) = has_type type (callee_at (slice_get built_ins index))
+is_built_in type other = false
 
 -- a name that is called
 abbrev pub called : ℕ → TagTable → Option PlainNamed → Checked Callee

@@ -11,7 +11,7 @@ ghost use Rattle.c_typing.specs.Callee.{plain_callee, plain_basic, plain_basics,
 
 use crate::formats::suits_format;
 use crate::places::unconverted;
-use c_decls::{BuiltIn, Constant, Folded, Named, TypeError, TypeKind, Typed, refused};
+use c_decls::{BuiltIn, Constant, Folded, Named, TypeError, TypeKind, Typed, is_same, refused};
 use c_types::{CType, IntType, Signature, Tags};
 use hs_base::{Items, Line, NoMemory};
 use std::alloc::Global;
@@ -198,6 +198,27 @@ fn built_in_called(
     match callee {
         Callee::NoFunction => no_function(line, tags, built_in_named(alloc, line, name)?),
         other => Ok(other),
+    }
+}
+
+/// Whether a type is that of the built-in function that a name stands for, so that a declaration by hand may stand (C99 7.1.4).
+/// `printf` has no such type, since the language writes no parameters by a format.
+///
+/// # Errors
+///
+/// [`NoMemory`], where there is none for the type of the built-in function.
+pub fn is_built_in(alloc: Global, ty: &CType, name: Option<&Named>) -> Result<bool, NoMemory>
+    ensures { IfOk result (λ is. is ≡ rules.is_built_in (plain ty.now) (option_map (λ n. plain_named n.now) name.entry)) }
+{
+    let Some(Named::BuiltIn { index }) = name else {
+        return Ok(false);
+    };
+    let Some(name) = BuiltIn::numbered(*index) else {
+        return Ok(false);
+    };
+    match built_in_callee(alloc, name)? {
+        Callee::Takes(signature) => Ok(is_same(ty, &CType::function_of(alloc, signature)?)),
+        Callee::Prints | Callee::NoFunction => Ok(false),
     }
 }
 

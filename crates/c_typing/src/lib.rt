@@ -25,7 +25,7 @@ mod walk;
 mod words;
 
 pub use api::{constant, constant_from, special_type, typed, typename, value_ahead};
-pub use callees::{Callee, call, called, named, no_function};
+pub use callees::{Callee, call, called, is_built_in, named, no_function};
 pub use layers::{Layer, adjusted, array_length, with_layers, with_param_layers};
 pub use lent::Around;
 pub use literals::{char_constant, first_literal, int_constant, joined, string};

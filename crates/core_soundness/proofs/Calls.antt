@@ -12,8 +12,6 @@ use Rattle.core_soundness.proofs.Words.Facts.{is_register, NoRegister, TakesAddr
 use Rattle.c_types.specs.Types as types
 use Rattle.c_types.specs.declared.types.IntType.TheVariants as i
 use Rattle.c_print.specs.declared.piece.Piece.TheVariants as p
-use Rattle.c_tree.specs.Forms as f
-use Rattle.c_tree.specs.declared.operator.UnaryOp.TheVariants as u
 use Rattle.c_decls.specs.Named as n
 use Rattle.c_decls.specs.PlaceRules as places
 use Rattle.c_decls.specs.declared.built_in.BuiltIn.TheVariants as b

@@ -1,7 +1,7 @@
 -- One walk over what writes the code of expressions, and what it leaves as it was.
 use Rattle.std.proofs.Common.{◌≡◌, ◌≤◌, ◌+◌, refl, sym, subst, ℕ, pos, Bool, true, false, cond, List, [], ◌∷◌, ◌++◌, length, drop, Option, Some, None, unwrap_or, arith, Ok}
 use Rattle.core_soundness.proofs.Words.Trees.{Tree, AssignOp, BinaryOp, UnaryOp}
-use Rattle.core_soundness.proofs.Words.Types.{PlainType, PlainTypes, Int, Pointer, first, kind_of, IntType, line_of, promoted, common_type, PlainNamed, choice, element, assigned, result_type, PlainTyped, Operand, Number, PointerTo, operand, BuiltIn}
+use Rattle.core_soundness.proofs.Words.Types.{PlainType, PlainTypes, Int, Pointer, kind_of, IntType, line_of, promoted, common_type, PlainNamed, choice, element, assigned, result_type, PlainTyped, Operand, Number, PointerTo, operand, BuiltIn}
 use Rattle.core_soundness.proofs.Words.Core.{IsShort, Atom, StmKind, Copy, Jump, Free, Enter, Leave, Set, Conv, Zero, Load, Loadp, Test, Un, Bin, Cmp, Add, Sub, Off, Diff, Pcmp, Call, Malloc, Calloc, Realloc, Lib, Printf}
 use Rattle.core_soundness.proofs.Words.Elaborating.{record_assigned, set_to, scalar_assigned, old_value, change_place, changed_answer, changed_by, one_found, stepped, Argument, argument_from, atom_at, atoms_of, element_layout, built_in_at, lib_name, result_by, printing, with_format, call_built_in, call_of_built_in, call_named, Context, With, emit, here, pointer_by, new_label, with_labels, integer_by, Code, asked, Found, Spot, Local, Memory, read_spot, code_line, valued_from, valued, atom_in, holds_all, convert_integer, convert_to, convert, tested, tested_value, write, size_or_zero, unused, working, Working, Calculates, Shifts, Compares, Branches, convert_both, work, on_integers, before_integer, move_pointer, between_pointers, pointer_beside, beside_integer, combine, combined, change, changed_to, member_address, set_again, compare_again, indexed, dotted, pointed, before_number, apply, applied, left_operand, between, cast_to, and_then, and_ends, and_ended, or_else, or_ends, or_ended, chosen_by, choose_first, choose_last, chosen, with_literal}
 use Rattle.core_tree.specs.declared.statements.Atom.TheVariants as atom

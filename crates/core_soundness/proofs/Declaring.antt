@@ -3,7 +3,7 @@ use Rattle.std.proofs.Common.{◌≡◌, ℕ, suc, Bool, true, false, cond, is_s
 use Rattle.std.proofs.lemmas.List.Sums.{sum_by-append, sum_by-cons}
 use Rattle.std.specs.Prelude.{nat_lt}
 use Rattle.core_soundness.proofs.Words.Trees.{name_of, Tree, Trees, At, Node, none, ◌▹◌, count, Leaf}
-use Rattle.core_soundness.proofs.Words.Types.{no_layout, TagTable, PlainType, Int, Array, Layout, line_of, PlainNamed, unconverted, Checked, refused, then, unless, ScopeList, Table, named_in, innermost, with_name, tag_name, after_declaration, tag_named, is_function, has_no_size, TypeKind, DeclaredTwice, Assignment, Incomplete, LeftOut}
+use Rattle.core_soundness.proofs.Words.Types.{no_layout, TagTable, PlainType, Int, Array, Layout, line_of, PlainNamed, unconverted, Checked, refused, then, unless, ScopeList, Table, named_in, innermost, with_name, tag_name, after_declaration, tag_named, is_function, has_no_size, TypeKind, DeclaredTwice, Assignment, Incomplete, LeftOut, is_built_in}
 use Rattle.core_soundness.proofs.Words.Core.{block_size, Start, Atom, Off, Copy, Enter, Set, Clear}
 use Rattle.core_soundness.proofs.Words.Elaborating.{Context, Running, asked, told, entered, local_register, emit, anew, Declared, Walked, Variable, Memory, Found, Local, code_line, atom_in, valued, convert, write, size_or_zero, Spot, function_number, function_number_of, with_function, declared_function, Storage, Typedef, Outside, Plain, storage_of, specs_alone, specs_before, zero_of, cleared, fill_memory, fill_register, fill_at, local_object, local_name, no_initializer, variable_number_of, with_new_variable, with_variable, start_of, started_variable, started, fill_variable, file_object, file_function, file_value, file_name, name_in, entry, entries, declaration, constant, with_type, left_params, specs, layers, param, suffix_layer, found, Target, InRegister, InMemory, InStatic, static_scalar, member_place, store_at, fill_scalar, scalar, copy_to, fill_record, whole, fill_text, is_character, text, by_text, by_expression, parts_of, takes_braces, is_scalar_type, all_surplus, initialize, initialize_parts, surplus, no_start, with_init_layers, is_twice, declared_as, next_is_memory, with_register, with_memory, counted, with_named, memory_param, register_param, function_param, prototype_param, is_prototype, with_param, local_in, with_local, is_twice_in, reallocates, opened, closed, with_literal}
 use Rattle.c_types.specs.declared.types.IntType.TheVariants as i
@@ -529,7 +529,9 @@ file_function_stays line name type inits c s flat =
     (λ d h x e. let one = (introduced line name type c s flat d h).passes.stays in stays_trans c d x one (no_initializer_stays inits d one.safe x e))
 
 file_value_stays : (line : ℕ) (name : List ℕ) (type : PlainType) (inits : Trees) (c : Context) → Safe c.scopes → length c.scopes.inner ≡ 0 → Led (Stays c) (file_value line name type inits c)
-file_value_stays line name type inits c s flat = either_way (Led (Stays c)) (is_function type) (file_function_stays line name type inits c s flat) (file_object_stays line name type inits c s flat)
+file_value_stays line name type inits c s flat =
+    either_way (Led (Stays c)) (is_built_in type (named_in name c.scopes.file)) (no_initializer_stays inits c s)
+    (either_way (Led (Stays c)) (is_function type) (file_function_stays line name type inits c s flat) (file_object_stays line name type inits c s flat))
 
 file_name_stays : (line : ℕ) (storage : Storage) (name : List ℕ) (type : PlainType) (inits : Trees) (c : Context) → Safe c.scopes → length c.scopes.inner ≡ 0 → Led (Stays c) (file_name line storage name type inits c)
 file_name_stays line Typedef name type inits c s flat = λ d h. (declared_passes line name (n.Typedef type) c c refl tt (passes_refl c s) d h).stays

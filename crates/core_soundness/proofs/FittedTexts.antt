@@ -3,12 +3,11 @@ use Rattle.std.proofs.Common.{◌≡◌, ◌≤◌, ◌+◌, ◌*◌, not, ℕ, 
 use Rattle.std.proofs.lemmas.Bool.{ltb-true, ltb-false, eqb-true}
 use Rattle.std.specs.List.{find}
 use Rattle.core_soundness.proofs.Words.Trees.{name_of, Tree, Trees, At, Node, none, ◌▹◌, count}
-use Rattle.core_soundness.proofs.Words.Types.{layout_of, number_layout, pointer_layout, array_layout, Known, no_layout, CompletedTag, known, TagTable, layout_in, PlainType, Void, Int, Pointer, Array, Struct, Union, Function, width_of, Layout, TagInfo, IntType, built_ins, numbered_from, line_of, typed, string, PlainNamed, unconverted, refused, then, unless, Table, named_in, is_null_constant, is_function, has_no_size, same, BuiltIn, Assignment, DeclaredTwice, Incomplete, StaticTooLarge, Folded, Is}
+use Rattle.core_soundness.proofs.Words.Types.{layout_of, number_layout, pointer_layout, array_layout, Known, no_layout, CompletedTag, known, TagTable, layout_in, PlainType, Void, Int, Pointer, Array, Struct, Union, Function, width_of, Layout, TagInfo, IntType, built_ins, numbered_from, line_of, typed, string, PlainNamed, unconverted, refused, then, unless, Table, named_in, is_null_constant, is_function, has_no_size, same, BuiltIn, Assignment, DeclaredTwice, Incomplete, StaticTooLarge, Folded, Is, is_built_in}
 use Rattle.core_soundness.proofs.Words.Core.{low_bits, block_size, IsStatic, Core, Start}
 use Rattle.core_soundness.proofs.Words.Elaborating.{addressed_in, Code, Context, asked, Variable, first_context, Found, Fixed, Unknown, Nowhere, Inside, valued, size_or_zero, Storage, Typedef, storage_of, specs_before, declared_function, no_initializer, variable_number_of, with_new_variable, with_variable, start_of, start_in, started_variable, fill_variable, file_object, file_function, file_name, name_in, entry, entries, declaration, layers, walked, elaborated, found, begun, external, externals, Target, InRegister, InMemory, InStatic, bytes_of, static_integer, static_address, static_pointer, static_scalar, fill_scalar, scalar, whole, fill_text, is_character, text, by_text, by_expression, parts_of, takes_braces, is_scalar_type, all_surplus, initialize, initialize_parts, no_start, with_init_layers, is_twice_in, declared_as, reallocates, opened, core_of, with_static}
 use Rattle.core_soundness.proofs.Words.Facts.{HasLayouts, Solid, TableFits, Whole, Written, AllWritten, AreWritten}
 use Rattle.c_types.specs.TagTableEquations.{some_array, Extends, layout_stays}
-use Rattle.c_types.specs.declared.types.IntType.TheVariants as i
 use Rattle.c_tree.specs.Forms as f
 use Rattle.c_decls.specs.TypedEquations.{same_equal}
 use Rattle.c_decls.specs.BuiltIns as names
@@ -399,10 +398,11 @@ no_initializer_fitted inits c h = search (arith, led_ok, led_after, led_refused)
 file_name_fitted : (line : ℕ) (storage : Storage) (name : List ℕ) (type : PlainType) (inits : Trees) (c : Context) → length c.scopes.inner ≡ 0 → Solid c → Whole (K c) type → Sorts c → SortedType c.tags.made type → Fitted c → Led Fitted (file_name line storage name type inits c)
 file_name_fitted line Typedef name type inits c flat h w ks st fit = λ d q. fitted_on c d (declared_levels line name (n.Typedef type) c c tt (levels_refl c) d q).settled (typedef_rises c c (rises_refl c h) line name type w (λ x. st) d q).more fit
 file_name_fitted line other name type inits c flat h w ks st fit =
-    led_cond Fitted (is_function type) (file_function line name type inits c) (file_object line name type inits c)
+    led_cond Fitted (is_built_in type (named_in name c.scopes.file)) (no_initializer inits c) _ (no_initializer_fitted inits c fit)
+    (led_cond Fitted (is_function type) (file_function line name type inits c) (file_object line name type inits c)
     (led_after Fitted (declared_function line name type c)
     (λ d q. no_initializer_fitted inits d (fitted_on c d (function_settled line name type c d q) (declared_function_rises line name type c h w d q).more fit)))
-    (object_fitted line name type inits c flat h w ks st fit)
+    (object_fitted line name type inits c flat h w ks st fit))
 
 name_fitted : (line : ℕ) (storage : Storage) (name : Option (List ℕ)) (type : PlainType) (inits : Trees) (c : Context) → length c.scopes.inner ≡ 0 → Solid c → Whole (K c) type → Sorts c → SortedType c.tags.made type → Fitted c → Led Fitted (name_in true line storage name type inits c)
 name_fitted line storage None type inits c flat h w ks st fit = led_ok Fitted fit

@@ -1,6 +1,6 @@
 -- How control flows through code: marks of labels, bodies, and fragments that are put one behind another.
-use Rattle.std.proofs.Common.{◌≡◌, ◌⊎◌, ◌≤◌, ◌<◌, ◌+◌, ℕ, false, cond, nat_eq, List, [], ◌∷◌, ◌++◌, refl, sym, ap, ◌∙◌, subst, arith, inl, inr, eq-eqb, ne_eqb, ◌-◌, zero, suc, Bool, true, length, Option, Some, option_map, slice_get, slice_index_or, All, Contains, ⊎_elim, eqb-true, true≢false}
-use Rattle.std.proofs.lemmas.Bool.{false≢true, eqb-false}
+use Rattle.std.proofs.Common.{◌≡◌, ◌⊎◌, ◌≤◌, ◌<◌, ◌+◌, ℕ, false, cond, nat_eq, List, [], ◌∷◌, ◌++◌, refl, sym, ap, ◌∙◌, subst, arith, inl, inr, eq-eqb, ne_eqb, zero, suc, Bool, true, length, Option, Some, option_map, slice_get, slice_index_or, All, Contains, ⊎_elim, eqb-true, true≢false}
+use Rattle.std.proofs.lemmas.Bool.{eqb-false}
 use Rattle.std.proofs.lemmas.List.Elements.{All-nil, All-cons}
 use Rattle.core_soundness.proofs.Words.Core.{EachStatement, LeadsOn, HasScopes, Opens, start, goes, scopes_after, edges, edges_of_lib, Atom, LibName, Stm, StmKind, Jump, Zero, Case, Loop, Enter, Leave, Return}
 use Rattle.core_soundness.proofs.Words.Elaborating.{Piece, Does, Here, Numbers, numbered, atom_by, point_in, body_of}

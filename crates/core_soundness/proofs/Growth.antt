@@ -6,7 +6,6 @@ use Rattle.core_soundness.proofs.Words.Types.{PlainType, wanted, string, PlainNa
 use Rattle.core_soundness.proofs.Words.Core.{block_size, Atom, Stm, StmKind, Free, Enter, Leave, Jump, Zero}
 use Rattle.core_soundness.proofs.Words.Elaborating.{with_format, asked, Piece, Does, Code, Context, Variable, told, emit, integer_by, pointer_by, With, Here, here, with_labels, anew, Found, unused, valued, cast_operand, calls_realloc, reallocates, any_reallocates, opened, closed, with_literal}
 use Rattle.c_tree.specs.Forms as f
-use Rattle.c_tree.specs.Words as w
 use Rattle.c_decls.specs.Expressions as types
 use Rattle.c_decls.specs.Named as n
 use Rattle.c_decls.specs.TypeNames as names

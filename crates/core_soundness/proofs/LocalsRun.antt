@@ -3,7 +3,7 @@ use Rattle.std.proofs.Common.{◌≡◌, ◌≤◌, ◌<◌, ◌+◌, ℕ, pos, 
 use Rattle.std.proofs.lemmas.Bool.{ltb-true}
 use Rattle.std.specs.Option.{option_or}
 use Rattle.core_soundness.proofs.Words.Trees.{name_of, Tree, Trees, At, Node, none, ◌▹◌, count, Leaf}
-use Rattle.core_soundness.proofs.Words.Types.{no_layout, layout_in, PlainType, Array, Struct, Union, line_of, PlainNamed, unconverted, Checked, refused, then, unless, ScopeList, Table, named_in, innermost, with_name, after_declaration, tag_name, Layer, tag_named, is_function, has_no_size, Assignment, DeclaredTwice, Incomplete, LeftOut, StaticTooLarge}
+use Rattle.core_soundness.proofs.Words.Types.{no_layout, layout_in, PlainType, Array, Struct, Union, line_of, PlainNamed, unconverted, Checked, refused, then, unless, ScopeList, Table, named_in, innermost, with_name, after_declaration, tag_name, Layer, tag_named, is_function, has_no_size, Assignment, DeclaredTwice, Incomplete, LeftOut, StaticTooLarge, is_built_in}
 use Rattle.core_soundness.proofs.Words.Core.{block_size, Pointer, Sort, Integer, Start, Atom, Off, Copy, Set, Clear}
 use Rattle.core_soundness.proofs.Words.Elaborating.{Context, emit, Variable, asked, Found, Local, Memory, atom_in, code_line, valued, convert, write, size_or_zero, Spot, Storage, storage_of, specs_before, fill_local, entry, Typedef, Outside, specs_alone, zero_of, cleared, fill_memory, fill_register, fill_at, local_name, function_number, with_function, declared_function, no_initializer, variable_number_of, with_new_variable, with_variable, start_of, start_in, started_variable, started, fill_variable, file_object, file_function, file_value, file_name, name_in, entries, declaration, layers, found, Target, InRegister, InMemory, InStatic, static_scalar, member_place, store_at, fill_scalar, copy_to, fill_record, is_same_place, whole, fill_text, is_character, text, by_text, by_expression, parts_of, takes_braces, is_scalar_type, all_surplus, initialize, initialize_parts, with_bytes, with_init_layers, surplus, no_start, with_local, is_twice, declared_as, opened, closed, with_literal, with_static}
 use Rattle.core_soundness.proofs.Words.Facts.{Spoken, AllSpoken, World, world, Holds, StandsAs, Stands, NamesFit, InnerFits, FileFits, Written, AllWritten, TablesFit}
@@ -369,7 +369,7 @@ file_object_runs answer line name type inits c z p g flat q =
     runs_trans answer c v.value z one (fill_variable_runs answer line index type inits v.value z p one.fine (one.depth ∙ flat) v.last)
 
 file_value_runs : (answer : Option Sort) (line : ℕ) (name : List ℕ) (type : PlainType) (inits : Trees) (c z : Context) → AllWritten inits → Fine c → length c.scopes.inner ≡ 0 → file_value line name type inits c ≡ Ok z → Runs answer c z
-file_value_runs answer line name type inits c z p g flat q = by (is_function type) q
+file_value_runs answer line name type inits c z p g flat q = first (is_built_in type (named_in name c.scopes.file)) q
   where
     by : (t : Bool) → cond t (file_function line name type inits c) (file_object line name type inits c) ≡ Ok z → Runs answer c z
     by true q =
@@ -377,6 +377,10 @@ file_value_runs answer line name type inits c z p g flat q = by (is_function typ
         let one = function_runs answer line name type c d.value flat g d.is in
         runs_trans answer c d.value z one (no_initializer_runs answer inits d.value z one.fine d.last)
     by false q = file_object_runs answer line name type inits c z p g flat q
+
+    first : (t : Bool) → cond t (no_initializer inits c) (cond (is_function type) (file_function line name type inits c) (file_object line name type inits c)) ≡ Ok z → Runs answer c z
+    first true q = no_initializer_runs answer inits c z g q
+    first false q = by (is_function type) q
 
 -- where names are declared: at file scope, or inside a function
 abbrev pub AtPlace : Bool → Context → Type 0

@@ -153,7 +153,8 @@ file_name_pointed line Typedef name type inits c h = λ d q. settled_pointed c d
 file_name_pointed line other name type inits c h = value_pointed line name type inits c h
 
 name_pointed : (line : ℕ) (storage : Storage) (name : Option (List ℕ)) (type : PlainType) (inits : Trees) (c : Context) → Pointed c → Led Pointed (name_in true line storage name type inits c)
-name_pointed line storage name type inits c h = search (arith, led_ok, file_name_pointed) fits 100
+name_pointed line storage None type inits c h = led_ok Pointed h
+name_pointed line storage (Some name) type inits c h = file_name_pointed line storage name type inits c h
 
 entry_pointed : (line : ℕ) (storage : Storage) (base : PlainType) (declarator : Tree) (inits : Trees) (c : Context) → Pointed c → Led Pointed (entry true line storage base declarator inits c)
 entry_pointed line storage base declarator inits c h =

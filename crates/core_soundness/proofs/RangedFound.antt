@@ -4,7 +4,7 @@ use Rattle.std.proofs.lemmas.Int.{ints}
 use Rattle.std.specs.Prelude.{slice_index_or}
 use Rattle.core_soundness.proofs.Words.Trees.{number_value, Tree, Trees, Leaf, At, Node, none, ◌▹◌, AssignOp, BinaryOp, UnaryOp}
 use Rattle.core_soundness.proofs.Words.Types.{TagTable, CompletedTag, known, PlainType, PlainTypes, Void, Int, Pointer, constant_of, named, built_in_named, built_in_value, Callee, NoFunction, called, line_of, typed, int_constant, char_constant, joined, typename, PlainNamed, element, element_types, choice, assigned, changed, changed_types, moves, size, Checked, then, found as declaration, unary, binary, moving, address, PlainTyped, Operand, Number, PointerTo, operand, place, value, constant, is_null_constant, is_record, BuiltIn, Constant, Operands, StaticTooLarge}
-use Rattle.core_soundness.proofs.Words.Core.{I8, IsNumber, Atom, StmKind, Set, Cmp, Zero, Jump, Copy, Call, Malloc, Calloc, Realloc, Free, Lib, Printf, Enter, Leave}
+use Rattle.core_soundness.proofs.Words.Core.{I8, IsNumber, Atom, StmKind, Set, Cmp, Zero, Jump, Copy, Malloc, Calloc, Realloc, Free, Lib, Printf, Enter, Leave}
 use Rattle.core_soundness.proofs.Words.Elaborating.{record_assigned, scalar_assigned, old_value, changed_answer, changed_by, one_found, stepped, Argument, atoms_of, atom_at, argument_from, lib_name, result_by, with_format, call_built_in, call_of_built_in, call_named, element_layout, first_type, rest_types, Code, Context, emit, here, new_label, with_labels, integer_by, asked, told, Walked, Found, Spot, Value, found_as, atom_in, valued_from, convert, tested_value, code_line, write, size_or_zero, valued_as, valued, unused, name_answer, literal_answer, unevaluated, changing, comma_answer, callee, callee_name, parameters, format_argument, is_printf, call_answer, found, arguments, cast_operand, working, Branches, operator_of, changed_to, opened, closed, set_again, compare_again, constant_found, object_found, built_in_found, name_found, is_inner, with_static, with_literal, indexed, dotted, pointed, negated, before_number, apply, applied, tells_equal, is_pointer_ahead, ahead, left_operand, between, cast_to, and_then, and_ends, and_ended, or_else, or_ended, chosen_by, choose_first, choice_spot, chosen, choose, type_ahead}
 use Rattle.core_soundness.proofs.Words.Facts.{AtomIn, AtomsIn, PiecesIn, Solid, Whole, NamedWhole, AllWhole, AreMade, Written, AllWritten}
 use Rattle.c_types.specs.TagTableEquations.{Extends}
@@ -16,7 +16,6 @@ use Rattle.c_tree.specs.Words as w
 use Rattle.c_tree.specs.declared.operator.AssignOp.TheVariants as a
 use Rattle.c_tree.specs.declared.operator.BinaryOp.TheVariants as b
 use Rattle.c_tree.specs.declared.operator.UnaryOp.TheVariants as u
-use Rattle.c_decls.specs.Named as n
 use Rattle.c_decls.specs.TypeNames as names
 use Rattle.c_decls.specs.declared.built_in.BuiltIn.TheVariants as built
 use Rattle.core_soundness.proofs.Agreeing.{came, left_typed, changing_first}

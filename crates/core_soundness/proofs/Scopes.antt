@@ -10,7 +10,6 @@ use Rattle.core_soundness.proofs.Words.Core.{IsShort}
 use Rattle.core_soundness.proofs.Words.Elaborating.{plain_name, built_in_at, Declared, Walked, is_realloc}
 use Rattle.core_soundness.proofs.Words.Facts.{is_register, NoRegister, TakesAddress, Spoken, AllSpoken, WordNames, Names, AllNames, TableFits, TablesFit, ScopesFit, World, FileFits, Written, AllWritten}
 use Rattle.c_tree.specs.Forms as f
-use Rattle.c_tree.specs.Words as w
 use Rattle.c_tree.specs.declared.operator.UnaryOp.TheVariants as u
 use Rattle.c_decls.specs.Named as n
 use Rattle.c_decls.specs.Named.{Function}

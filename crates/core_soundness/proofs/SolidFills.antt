@@ -1,7 +1,7 @@
 -- Initializers and declarations keep whole types, and what they make has the layouts of types (C99 6.7, 6.7.8, 6.9.2).
 use Rattle.std.proofs.Common.{◌≡◌, ◌≤◌, ◌+◌, not, ℕ, zero, suc, pos, Bool, true, false, is_some, nat_lt, min, length, List, [], ◌∷◌, slice_get, slice_set, Option, Some, None, unwrap_or, Ok, refl, subst, arith}
 use Rattle.core_soundness.proofs.Words.Trees.{name_of, Tree, Trees, Leaf, At, Node, none, ◌▹◌, count}
-use Rattle.core_soundness.proofs.Words.Types.{Known, no_layout, TagTable, known, layout_in, PlainType, Array, line_of, string, Checked, refused, then, unless, named_in, innermost, tag_name, after_declaration, Layer, ArrayOf, layered_before, tag_named, is_function, has_no_size, Assignment, DeclaredTwice, Incomplete, LeftOut, StaticTooLarge}
+use Rattle.core_soundness.proofs.Words.Types.{Known, no_layout, TagTable, known, layout_in, PlainType, Array, line_of, string, Checked, refused, then, unless, named_in, innermost, tag_name, after_declaration, Layer, ArrayOf, layered_before, tag_named, is_function, has_no_size, Assignment, DeclaredTwice, Incomplete, LeftOut, StaticTooLarge, is_built_in}
 use Rattle.core_soundness.proofs.Words.Core.{block_size, IsLayoutOfType, IsNumber, Start, Atom, Set, Clear, Off, Copy}
 use Rattle.core_soundness.proofs.Words.Elaborating.{Context, Variable, asked, emit, Found, Spot, Local, Memory, atom_in, valued, convert, write, size_or_zero, Storage, Typedef, Outside, storage_of, specs_alone, specs_before, zero_of, cleared, fill_memory, fill_register, fill_at, fill_local, local_object, local_name, function_number, with_function, declared_function, no_initializer, variable_number_of, with_new_variable, with_variable, start_of, started_variable, started, fill_variable, file_object, file_function, file_value, file_name, name_in, entry, entries, declaration, layers, found, Target, InRegister, InMemory, InStatic, static_scalar, member_place, store_at, fill_scalar, scalar, copy_to, fill_record, is_same_place, whole, fill_text, is_character, text, by_text, by_expression, parts_of, takes_braces, is_scalar_type, all_surplus, initialize, initialize_parts, no_start, text_length, given_length, with_init_layers, not_whole, is_twice, declared_as, next_is_memory, with_memory, with_register, local_in, counted_local, with_local, opened, with_static, with_literal}
 use Rattle.core_soundness.proofs.Words.Facts.{AtomIn, VariablesLaid, Solid, Whole, HasParts, Written, AllWritten}
@@ -301,9 +301,10 @@ file_object_rises line name type inits c h v w =
 
 file_value_rises : (line : ℕ) (name : List ℕ) (type : PlainType) (inits : Trees) (c : Context) → Solid c → AllWritten inits → Whole (K c) type → Led (Rises c) (file_value line name type inits c)
 file_value_rises line name type inits c h v w =
-    led_cond (Rises c) (is_function type) (file_function line name type inits c) (file_object line name type inits c)
+    led_cond (Rises c) (is_built_in type (named_in name c.scopes.file)) (no_initializer inits c) _ (no_initializer_rises inits c h)
+    (led_cond (Rises c) (is_function type) (file_function line name type inits c) (file_object line name type inits c)
     (led_after (Rises c) (declared_function line name type c) (λ d q. let r = declared_function_rises line name type c h w d q in (λ z s. rises_trans c d z r (no_initializer_rises inits d r.solid z s))))
-    (file_object_rises line name type inits c h v w)
+    (file_object_rises line name type inits c h v w))
 
 file_name_rises : (past : Context) (line : ℕ) (storage : Storage) (name : List ℕ) (type : PlainType) (inits : Trees) (c : Context) → Rises past c → AllWritten inits → Whole (K c) type → (Sorts past → SortedType c.tags.made type) → Led (Onward past c) (file_name line storage name type inits c)
 file_name_rises past line Typedef name type inits c r v w s = typedef_onward past c r line name type w s

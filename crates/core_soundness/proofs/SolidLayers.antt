@@ -3,7 +3,7 @@ use Rattle.std.proofs.Common.{◌≡◌, ℕ, ℤ, pos, Bool, true, false, ◌||
 use Rattle.std.proofs.lemmas.List.Elements.{All-cons}
 use Rattle.std.specs.Option.{option_map_or}
 use Rattle.core_soundness.proofs.Words.Trees.{name_of, Tree, Trees, Leaf, At, Node, none, ◌▹◌, RecordSort}
-use Rattle.core_soundness.proofs.Words.Types.{Known, layout_of, TagTable, CompletedTag, refusal, layout_in, PlainType, PlainTypes, Pointer, Struct, Union, Layout, TagError, TagInfo, line_of, typed, wanted, constant_from, PlainNamed, Checked, unless, named_in, innermost, with_name, tag_name, Layer, special_type, array_length, with_layers, with_param_layers, adjusted, is_void, is_record, is_array, is_function, has_no_size, DeclaredTwice, Incomplete, LeftOut}
+use Rattle.core_soundness.proofs.Words.Types.{Known, layout_of, TagTable, CompletedTag, refusal, layout_in, PlainType, PlainTypes, Struct, Union, Layout, TagError, TagInfo, line_of, typed, wanted, constant_from, PlainNamed, Checked, unless, named_in, innermost, with_name, tag_name, Layer, special_type, array_length, with_layers, with_param_layers, adjusted, is_void, is_record, is_array, is_function, has_no_size, DeclaredTwice, Incomplete, LeftOut}
 use Rattle.core_soundness.proofs.Words.Core.{HasLayout}
 use Rattle.core_soundness.proofs.Words.Elaborating.{Context, asked, entered, local_register, Memory, constant, with_type, maybe_name, newly_named, begun_as, completed_by, complete, ended, with_member, member, enumerator, enum_named, is_declared, param, left_params, specs, words_type, tag_type, members, member_names, enumerators, layers, suffix_layers, suffix_layer, params, is_twice, declared_as, next_is_memory, with_register, with_memory, counted, with_named, memory_param, register_param, function_param, prototype_param, is_prototype, with_param}
 use Rattle.core_soundness.proofs.Words.Facts.{Solid, Whole, AllWhole, MembersWhole, NamedWhole, HasParts, Written, AllWritten}

@@ -4,7 +4,7 @@ use Rattle.std.proofs.lemmas.List.Elements.{All-cons, All-nil}
 use Rattle.std.proofs.lemmas.List.Sums.{sum_by-append, sum_by-cons}
 use Rattle.std.specs.List.{flat_map}
 use Rattle.core_soundness.proofs.Words.Trees.{name_of, Tree, Trees, At, Node, none, ◌▹◌}
-use Rattle.core_soundness.proofs.Words.Types.{Known, array_layout, number_layout, TagTable, PlainType, Void, Function, IntType, built_ins, numbered_from, line_of, promoted, unconverted, Checked, then, named_in, with_layers, Operand, Number, is_void, is_scalar, is_function, BuiltIn, Operands, Assignment, LeftOut, DeclaredTwice}
+use Rattle.core_soundness.proofs.Words.Types.{Known, array_layout, number_layout, TagTable, PlainType, Void, IntType, built_ins, numbered_from, line_of, promoted, unconverted, Checked, then, named_in, with_layers, Operand, Number, is_void, is_scalar, is_function, BuiltIn, Operands, Assignment, LeftOut, DeclaredTwice}
 use Rattle.core_soundness.proofs.Words.Core.{block_size, IsLayoutOfType, IsNumber, EachFunc, EachStatement, atom_numbers, element_layouts, HasNumbers, given, operands, Core, Func, Mem, Static, Atom, Stm, StmKind, Enter, Leave, Return, Jump, Zero, Loop, Case, Add, Sub, Off, Diff, Copy, Clear, Malloc, Calloc, Realloc}
 use Rattle.core_soundness.proofs.Words.Elaborating.{addressed_in, Here, Code, left, Context, Variable, Walked, scoped, entered, emit, here, new_label, with_labels, with_pieces, first_context, Piece, Does, Found, atom_in, valued, convert, convert_integer, tested_value, code_line, unused, function_number, declared_function, specs, layers, constant, walked, elaborated, found, begun, answer_of, is_defined, body_begun, last_answer, body_ended, body, named_definition, definition, external, externals, opened, closed, function_of, variable_static, literal_static, core_of, Numbers, atom_by, numbered, body_of, numbers_of, Around, around_body, below, in_loop, in_switch, in_delay, leaves, leave_to, evaluated, maybe_evaluated, condition, leaves_if_zero, maybe_leaves, apart, behind, return_from, case_of, cased, defaulted, switch_operand_of, switch_operand, no_cases, looped, for_start, statement, items, dispatch, does, cases_of}
 use Rattle.core_soundness.proofs.Words.Facts.{HasLayouts, HasRanges, KindIn, AtomIn, AtomsIn, PiecesIn, IsStep, MemsLaid, VariablesLaid, WalkedLaid, Solid, NamedWhole, Whole, TableWhole, Written, AllWritten, AreWritten}

@@ -3,7 +3,7 @@ use Rattle.std.proofs.Common.{◌≡◌, ◌≤◌, ◌+◌, not, ℕ, zero, Boo
 use Rattle.std.proofs.lemmas.Bool.{ltb-false}
 use Rattle.std.proofs.lemmas.List.{reverse-append}
 use Rattle.core_soundness.proofs.Words.Trees.{name_of, Tree, Trees, Leaf, At, Node, none, ◌▹◌, AssignOp, BinaryOp, RecordSort, UnaryOp}
-use Rattle.core_soundness.proofs.Words.Types.{Known, number_layout, TagTable, CompletedTag, known, layout_in, size_in, members_in, PlainType, PlainTypes, Int, Pointer, Function, first, Layout, built_ins, Callee, Takes, Prints, NoFunction, built_in_callee, built_in_value, built_in_named, named, no_function, function_callee, built_in_called, callee_at, called, prints, call, line_of, Found, answered, wanted, changing, one, two, joined, string, first_literal, callee, in_new_scope, out_of_scope, typed, values, typename, layers, suffix_layers, suffix_layer, param_types, param_type, unused, cast_operand, PlainNamed, cast_types, cast, chosen_pointer, choice_types, choice, size_answer, size, element_types, element, member_among, member_of, dot, arrow_of, arrow, record_assigned, scalar_assigned, assigned, changed_types, changed, stepped, held_place, behind_comma, all_convert, unconverted, Checked, found, tag_name, Context, Layer, ArrayOf, FunctionOf, word_type, record_type, with_new_tag, same_sort, tag_named, enum_named, type_named, special_type, specs_type, length_from, array_length, array_of, layered, layered_before, with_layers, with_param_layers, adjusted, with_param, declared_param, immovable, moving, beside_pointer, sum_types, difference_types, order_types, equal_types, integer_types, logical, binary, unary_of, unary_on_pointer, unary, address, PlainTyped, Operand, Number, PointerTo, Neither, operand, int, held, read, is_void, is_function, is_null_constant, wanted_value, BuiltIn, Constant, Operands, NotLvalue, DeclaredTwice, TypeTooLarge, LeftOut, Folded}
+use Rattle.core_soundness.proofs.Words.Types.{Known, number_layout, TagTable, CompletedTag, known, layout_in, size_in, members_in, PlainType, PlainTypes, first, Layout, built_ins, Callee, Takes, Prints, NoFunction, built_in_callee, built_in_value, built_in_named, named, no_function, function_callee, built_in_called, callee_at, called, prints, call, line_of, Found, answered, wanted, changing, one, two, joined, string, first_literal, callee, in_new_scope, out_of_scope, typed, values, typename, layers, suffix_layers, suffix_layer, param_types, param_type, unused, cast_operand, PlainNamed, cast_types, cast, chosen_pointer, choice_types, choice, size_answer, size, element_types, element, member_among, member_of, dot, arrow_of, arrow, record_assigned, scalar_assigned, assigned, changed_types, changed, stepped, held_place, behind_comma, all_convert, unconverted, Checked, found, tag_name, Context, Layer, ArrayOf, FunctionOf, word_type, record_type, with_new_tag, same_sort, tag_named, enum_named, type_named, special_type, specs_type, length_from, array_length, array_of, layered, layered_before, with_layers, with_param_layers, adjusted, with_param, declared_param, immovable, moving, beside_pointer, sum_types, difference_types, order_types, equal_types, integer_types, logical, binary, unary_of, unary_on_pointer, unary, address, PlainTyped, Operand, Number, PointerTo, Neither, operand, int, held, read, is_void, is_function, is_null_constant, wanted_value, BuiltIn, Constant, Operands, NotLvalue, DeclaredTwice, TypeTooLarge, LeftOut, Folded}
 use Rattle.core_soundness.proofs.Words.Facts.{Whole, AllWhole, AreMade, NamedWhole, NamesWhole}
 use Rattle.c_types.specs.Types as ct
 use Rattle.c_tree.specs.Forms as f

@@ -11,7 +11,6 @@ use Rattle.c_types.specs.TagTableEquations.{stays_known}
 use Rattle.c_types.specs.LayoutsEquations.{rounded_le}
 use Rattle.c_types.specs.Layouts.{place}
 use Rattle.core_tree.specs.LayoutsOfTypesEquations.{type_layout_small}
-use Rattle.c_decls.specs.Named as n
 
 abbrev pub nothing : Known
 nothing = λ tag. None

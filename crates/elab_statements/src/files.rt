@@ -20,6 +20,7 @@ use c_decls::{
 };
 use c_tree::Init;
 use c_types::CType;
+use c_typing::is_built_in;
 use core_tree::Start;
 use elab_base::{Elaborator, no_start, trimmed};
 use hs_base::Line;
@@ -93,7 +94,8 @@ fn file_object(
     fill_variable(state, line, index, &ty, init)
 }
 
-/// A function or a variable at file scope.
+/// A function or a variable at file scope. A built-in function that is declared by hand with its own type is the function
+/// that it was (C99 7.1.4).
 fn file_value(
     state: &mut Elaborator,
     line: Line,
@@ -103,7 +105,9 @@ fn file_value(
 ) -> Result<(), TypeError>
     ensures { Becomes state.new result (file_value line name.now ty init.entry state.old) }
 {
-    if is_function(&ty) {
+    if is_built_in(state.alloc(), &ty, state.find_in_file(name))? {
+        no_initializer(state, init)
+    } else if is_function(&ty) {
         state.declared_function(line, name, ty)?;
         no_initializer(state, init)
     } else {

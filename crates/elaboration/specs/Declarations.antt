@@ -17,6 +17,7 @@ use Rattle.c_decls.specs.declared.refusal.TypeKind.TheVariants.{Operands, Assign
 use Rattle.c_decls.specs.Named as n
 use Rattle.c_decls.specs.Named.{PlainNamed}
 use Rattle.c_decls.specs.ScopeList.{named_in, innermost, tag_name}
+use Rattle.c_decls.specs.Callees.{is_built_in}
 use Rattle.c_decls.specs.Refusals.{Checked, refused, then, unless}
 use Rattle.c_decls.specs.Typed.{is_function, has_no_size}
 use Rattle.c_decls.specs.TypeNames.{has, tag_named}
@@ -172,9 +173,11 @@ file_object line name type inits c =
 abbrev pub file_function : ℕ → List ℕ → PlainType → Trees → Context → Checked Context
 file_function line name type inits c = then (declared_function line name type c) (λ d. no_initializer inits d)
 
+-- a built-in function that is declared by hand with its own type is the function that it was
 abbrev pub file_value : ℕ → List ℕ → PlainType → Trees → Context → Checked Context
 file_value line name type inits c =
-    cond (is_function type) (file_function line name type inits c) (file_object line name type inits c)
+    cond (is_built_in type (named_in name c.scopes.file)) (no_initializer inits c)
+    (cond (is_function type) (file_function line name type inits c) (file_object line name type inits c))
 
 abbrev pub file_name : ℕ → Storage → List ℕ → PlainType → Trees → Context → Checked Context
 file_name line Typedef name type inits c = declared_as line name (n.Typedef type) c

@@ -1,6 +1,6 @@
 -- Words of types, names and the rules of types.
 pub use Rattle.c_decls.specs.BuiltIns.{built_ins, constant_of, first_scopes, name_of, numbered_from}
-pub use Rattle.c_decls.specs.Callees.{Callee, NoFunction, Prints, Takes, behind_digits, behind_flags, behind_length, built_in_called, built_in_callee, built_in_named, built_in_value, call, called, callee_at, digits_at, function_callee, is_format, is_format_of, is_item, named, no_function, prints, suit, suits_type}
+pub use Rattle.c_decls.specs.Callees.{Callee, NoFunction, Prints, Takes, behind_digits, behind_flags, behind_length, built_in_called, built_in_callee, built_in_named, built_in_value, call, called, callee_at, digits_at, function_callee, is_built_in, is_format, is_format_of, is_item, named, no_function, prints, suit, suits_type}
 pub use Rattle.c_decls.specs.Expressions.{Found, answered, callee, calling, cast_operand, changing, char_constant, constant_from, first_literal, in_new_scope, int_constant, joined, literal, one, out_of_scope, string, two, unused, wanted}
 unfoldable pub use Rattle.c_decls.specs.Expressions.{layers, line_of, param_type, param_types, suffix_layer, suffix_layers, typed, typename, values}
 pub use Rattle.c_decls.specs.IntegerTypes.{common_type, promoted}
