@@ -8,7 +8,7 @@ use Rattle.std.proofs.lemmas.Option.{slice_get-get_or}
 use Rattle.core_tree.specs.declared.program.Func.{Func}
 use Rattle.core_tree.specs.declared.statements.Stm.{Stm}
 use Rattle.object_meaning.specs.declared.pins.Pin.{Pin}
-use Rattle.local_liveness.specs.Tables.{HasLive, words_of}
+use Rattle.local_liveness.specs.Tables.{HasLive}
 use Rattle.count_insertion.specs.Inserted.{pin_of, pins_at, pins_before, registers_at, registers_from}
 use Rattle.count_insertion.proofs.Runs.{range_split}
 
@@ -25,31 +25,28 @@ from_here func point inside =
     ap (λ n. map (λ p. registers_at func p (slice_get func.body p)) (range_with_len point n)) long
 
 -- the points from one on have their registers, from the last to the first
-pub record Collected (func : Func) (point : ℕ) (live counting : List ℕ) (lists : List (List ℕ)) : Type 0 where
+pub record Collected (func : Func) (point : ℕ) (live : List ℕ) (lists : List (List ℕ)) : Type 0 where
   pub within : point ≤ length func.body
   pub behind : HasLive live func point
-  pub width : length counting ≡ words_of func
   pub registers : lists ≡ reverse (registers_from func point)
 
-pub collected_none : (func : Func) (point : ℕ) (live counting : List ℕ) → point ≡ length func.body → HasLive live func (length func.body) → length counting ≡ words_of func → Collected func point live counting []
-collected_none func point live counting end here width = record {
+pub collected_none : (func : Func) (point : ℕ) (live : List ℕ) → point ≡ length func.body → HasLive live func (length func.body) → Collected func point live []
+collected_none func point live end here = record {
   within = omega arith;
   behind = subst (λ p. HasLive live func p) (sym end) here;
-  width = width;
   registers =
       let none : 0 ≡ length func.body - point = omega arith in
       ap (λ n. reverse (map (λ p. registers_at func p (slice_get func.body p)) (range_with_len point n))) none;
 }
 
 pub collected_more :
-    (func : Func) (i point : ℕ) (before live counting other registers : List ℕ) (old new : List (List ℕ)) → i ≡ point + 1 → Collected func i before counting old →
-    HasLive live func point → length other ≡ words_of func → registers ≡ registers_at func point (slice_get func.body point) → new ≡ old ++ registers ∷ [] → Collected func point live other new
-collected_more func i point before live counting other registers old new next c here width is now =
+    (func : Func) (i point : ℕ) (before live registers : List ℕ) (old new : List (List ℕ)) → i ≡ point + 1 → Collected func i before old →
+    HasLive live func point → registers ≡ registers_at func point (slice_get func.body point) → new ≡ old ++ registers ∷ [] → Collected func point live new
+collected_more func i point before live registers old new next c here is now =
     let within = c.within in
     record {
       within = omega arith;
       behind = here;
-      width = width;
       registers =
           now
           ∙ ap (λ rss. rss ++ registers ∷ []) (c.registers ∙ ap (λ k. reverse (registers_from func k)) next)
@@ -57,8 +54,8 @@ collected_more func i point before live counting other registers old new next c 
           ∙ sym (ap reverse (from_here func point (omega arith)) ∙ reverse-append (registers_at func point (slice_get func.body point) ∷ []) (registers_from func (point + 1)));
     }
 
-pub collected_all : (func : Func) (point : ℕ) (live counting : List ℕ) (lists : List (List ℕ)) → point ≡ 0 → Collected func point live counting lists → lists ≡ reverse (registers_from func 0)
-collected_all func point live counting lists first c = c.registers ∙ ap (λ p. reverse (registers_from func p)) first
+pub collected_all : (func : Func) (point : ℕ) (live : List ℕ) (lists : List (List ℕ)) → point ≡ 0 → Collected func point live lists → lists ≡ reverse (registers_from func 0)
+collected_all func point live lists first c = c.registers ∙ ap (λ p. reverse (registers_from func p)) first
 
 -- Forwards
 

@@ -1,5 +1,5 @@
--- Registers of a set that are found by runs.
-use Rattle.std.proofs.Common.{◌≡◌, ℕ, zero, suc, ◌+◌, ◌-◌, ◌*◌, ◌/◌, ◌%◌, ◌<◌, ◌≤◌, Bool, true, false, cond, ◌&&◌, ◌||◌, eqb, List, [], ◌∷◌, ◌++◌, length, get_or, replicate, Option, Some, refl, sym, ap, ◌∙◌, subst, arith, ⊎_elim, append-nil}
+-- Common registers of two sets that are found by runs.
+use Rattle.std.proofs.Common.{◌≡◌, ℕ, zero, suc, ◌+◌, ◌-◌, ◌*◌, ◌/◌, ◌%◌, ◌<◌, ◌≤◌, Bool, true, false, cond, ◌&&◌, ◌||◌, eqb, List, [], ◌∷◌, ◌++◌, length, get_or, replicate, Option, Some, refl, sym, ap, ◌∙◌, subst, arith, ⊎_elim, append-nil, append_assoc, not}
 use Rattle.std.specs.Prelude.{filter, slice_get}
 use Rattle.std.specs.List.{range_with_len}
 use Rattle.std.specs.Option.{option_map_or}
@@ -15,10 +15,11 @@ use Rattle.core_tree.specs.declared.statements.StmKind.{StmKind}
 use Rattle.core_tree.specs.declared.statements.StmKind.TheVariants.{Call, Realloc, Free, Leave}
 use Rattle.core_tree.specs.Lives.{is_live}
 use Rattle.object_meaning.specs.counted.Pinning.{holds_pointer, holds_on, counts_at}
-use Rattle.local_liveness.specs.declared.register_set.Run.{Run}
-use Rattle.local_liveness.specs.Sets.{has, Adds, HasNone, IsRun}
+use Rattle.object_meaning.specs.objects.Holding.{takes_answer}
+use Rattle.local_liveness.specs.declared.runs.Run.{Run}
+use Rattle.local_liveness.specs.Sets.{has, in_both, Adds, HasNone, IsRun}
 use Rattle.local_liveness.specs.Tables.{LiveByPaths, HasLive, words_of}
-use Rattle.count_insertion.specs.Counting.{HasPointers, is_there}
+use Rattle.count_insertion.specs.Counting.{AreSides, HasPointers, is_there, passing}
 use Rattle.count_insertion.specs.Inserted.{may_count}
 
 -- Ranges
@@ -50,55 +51,68 @@ filter_none : (xs : List ℕ) → filter (λ x. false) xs ≡ []
 filter_none [] = refl
 filter_none (x ∷ xs) = filter_none xs
 
-none_in : (set : List ℕ) (a n : ℕ) → ((r : ℕ) → a ≤ r → r < a + n → has set r ≡ false) → filter (has set) (range_with_len a n) ≡ []
-none_in set a n none = filter_same (has set) (λ r. false) a n none ∙ filter_none (range_with_len a n)
+pub passing_split : (test : ℕ → Bool) (a b c : ℕ) → a ≤ b → b ≤ c → passing test a c ≡ passing test a b ++ passing test b c
+passing_split test a b c low high =
+    let long : c - a ≡ (b - a) + (c - b) = omega arith in
+    let middle : a + (b - a) ≡ b = omega arith in
+    ap (λ n. filter test (range_with_len a n)) long
+    ∙ ap (filter test) (range_split a (b - a) (c - b))
+    ∙ filter-append test (range_with_len a (b - a)) (range_with_len (a + (b - a)) (c - b))
+    ∙ ap (λ k. passing test a b ++ filter test (range_with_len k (c - b))) middle
 
-all_in : (set : List ℕ) (a n : ℕ) → ((r : ℕ) → a ≤ r → r < a + n → has set r ≡ true) → filter (has set) (range_with_len a n) ≡ range_with_len a n
-all_in set a n all = filter_same (has set) (λ r. true) a n all ∙ filter_all (range_with_len a n)
+passing_same : (p q : ℕ → Bool) (a b : ℕ) → ((r : ℕ) → a ≤ r → r < b → p r ≡ q r) → passing p a b ≡ passing q a b
+passing_same p q a b same = filter_same p q a (b - a) (λ r low high. same r low (omega arith))
 
--- the registers of a set below a number
-abbrev pub below : List ℕ → ℕ → List ℕ
-below set n = filter (has set) (range_with_len 0 n)
+pub passing_none : (test : ℕ → Bool) (a b : ℕ) → HasNone test a b → passing test a b ≡ []
+passing_none test a b none = passing_same test (λ r. false) a b none ∙ filter_none (range_with_len a (b - a))
 
-below_split : (set : List ℕ) (m n : ℕ) → below set (m + n) ≡ below set m ++ filter (has set) (range_with_len m n)
-below_split set m n =
-    let e : 0 + m ≡ m = omega arith in
-    ap (filter (has set)) (range_split 0 m n ∙ ap (λ k. range_with_len 0 m ++ range_with_len k n) e)
-    ∙ filter-append (has set) (range_with_len 0 m) (range_with_len m n)
+passing_all : (test : ℕ → Bool) (a b : ℕ) → ((r : ℕ) → a ≤ r → r < b → test r ≡ true) → passing test a b ≡ range_with_len a (b - a)
+passing_all test a b all = passing_same test (λ r. true) a b all ∙ filter_all (range_with_len a (b - a))
 
-pub run_more : (set : List ℕ) (from until : ℕ) (run : Run) → IsRun set from until run → below set run.end ≡ below set from ++ range_with_len run.first (run.end - run.first)
-run_more set from until run is =
+-- one run more
+pub run_more :
+    (test : ℕ → Bool) (from next until : ℕ) (run : Run) (last : ℕ) (before old new : List ℕ) → IsRun test next until run → last + 1 ≡ run.end → from ≤ next →
+    old ≡ before ++ passing test from next → new ≡ old ++ range_with_len run.first (last + 1 - run.first) → new ≡ before ++ passing test from run.end
+run_more test from next until run last before old new is end order so_far now =
     let starts = is.starts in
     let some = is.some in
-    let gap = run.first - from in
-    let long = run.end - run.first in
-    let first : run.first ≡ from + gap = omega arith in
-    let end : run.end ≡ run.first + long = omega arith in
-    let none : filter (has set) (range_with_len from gap) ≡ [] = none_in set from gap (λ r a b. is.before r a (omega arith)) in
-    let all : filter (has set) (range_with_len run.first long) ≡ range_with_len run.first long = all_in set run.first long (λ r a b. is.inside r a (omega arith)) in
-    ap (below set) end
-    ∙ below_split set run.first long
-    ∙ ap (λ rs. below set run.first ++ rs) all
-    ∙ ap (λ rs. rs ++ range_with_len run.first long)
-    (ap (below set) first ∙ below_split set from gap ∙ ap (λ rs. below set from ++ rs) none ∙ append-nil (below set from))
-
-pub none_more : (set : List ℕ) (from until : ℕ) → from ≤ until → HasNone set from until → below set until ≡ below set from
-none_more set from until order none =
-    let end : until ≡ from + (until - from) = omega arith in
-    ap (below set) end
-    ∙ below_split set from (until - from)
-    ∙ ap (λ rs. below set from ++ rs) (none_in set from (until - from) (λ r a b. none r a (omega arith)))
-    ∙ append-nil (below set from)
-
--- registers of one run more
-pub registers_more :
-    (set : List ℕ) (from until : ℕ) (run : Run) (last : ℕ) (old new : List ℕ) → IsRun set from until run → last + 1 ≡ run.end → old ≡ below set from →
-    new ≡ old ++ range_with_len run.first (last + 1 - run.first) → new ≡ below set run.end
-registers_more set from until run last old new is end so_far now =
+    let here : passing test next run.end ≡ range_with_len run.first (run.end - run.first) =
+    passing_split test next run.first run.end starts (omega arith)
+    ∙ ap (λ rs. rs ++ passing test run.first run.end) (passing_none test next run.first is.before)
+    ∙ passing_all test run.first run.end is.inside in
     now
-    ∙ ap (λ rs. rs ++ range_with_len run.first (last + 1 - run.first)) so_far
-    ∙ ap (λ n. below set from ++ range_with_len run.first (n - run.first)) end
-    ∙ sym (run_more set from until run is)
+    ∙ ap (λ n. old ++ range_with_len run.first (n - run.first)) end
+    ∙ ap (λ rs. old ++ rs) (sym here)
+    ∙ ap (λ rs. rs ++ passing test next run.end) so_far
+    ∙ append_assoc before (passing test from next) (passing test next run.end)
+    ∙ ap (λ rs. before ++ rs) (sym (passing_split test from next run.end order (omega arith)))
+
+-- no run more
+pub runs_end :
+    (test : ℕ → Bool) (from next until : ℕ) (before registers : List ℕ) → from ≤ next → next ≤ until → HasNone test next until →
+    registers ≡ before ++ passing test from next → registers ≡ before ++ passing test from until
+runs_end test from next until before registers order ends none so_far =
+    so_far
+    ∙ ap (λ rs. before ++ rs)
+    (sym (append-nil (passing test from next))
+    ∙ ap (λ rs. passing test from next ++ rs) (sym (passing_none test next until none))
+    ∙ sym (passing_split test from next until order ends))
+
+-- the registers on both sides of the one that takes an answer
+pub sides_pass :
+    (answer : Option ℕ) (test : ℕ → Bool) (bound until from : ℕ) → AreSides answer bound until from →
+    passing test 0 until ++ passing test from bound ≡ passing (λ r. not (takes_answer answer r) && test r) 0 bound
+sides_pass answer test bound until from sides =
+    let order = sides.order in
+    let ends = sides.ends in
+    let but : ℕ → Bool = λ r. not (takes_answer answer r) && test r in
+    let kept : (r : ℕ) → takes_answer answer r ≡ false → test r ≡ but r = λ r is. sym (ap (λ b. not b && test r) is) in
+    ap (λ rs. rs ++ passing test from bound) (passing_same test but 0 until (λ r low high. kept r (sides.below r high)))
+    ∙ ap (λ rs. passing but 0 until ++ rs)
+    (passing_same test but from bound (λ r low high. kept r (sides.above r low high))
+    ∙ ap (λ rs. rs ++ passing but from bound) (sym (passing_none but until from (λ r low high. ap (λ b. not b && test r) (sides.between r low high))))
+    ∙ sym (passing_split but until from bound order ends))
+    ∙ sym (passing_split but 0 until bound (omega arith) (omega arith))
 
 -- Pointers
 
@@ -211,14 +225,16 @@ same_bools false true f g = g refl
 same_bools false false f g = refl
 
 pub counting_is :
-    LiveByPaths → (func : Func) (point : ℕ) (kind : StmKind) (counting pointers live : List ℕ) (bound : ℕ) → may_count kind ≡ true → HasPointers pointers func →
-    HasLive live func point → bound ≡ length func.regs →
-    ((r : ℕ) → r < 64 * length live → has counting r ≡ (is_there kind r && (has pointers r && has live r))) →
-    below counting bound ≡ filter (counts_at func point kind) (range_with_len 0 (length func.regs))
-counting_is paths func point kind counting pointers live bound may marked is_live_set all bits =
-    ap (below counting) all ∙ filter_same (has counting) (counts_at func point kind) 0 (length func.regs) same
+    LiveByPaths → (func : Func) (point : ℕ) (kind : StmKind) (answer : Option ℕ) (pointers live : List ℕ) (bound : ℕ) → may_count kind ≡ true → HasPointers pointers func →
+    HasLive live func point → bound ≡ length func.regs → ((r : ℕ) → is_there kind r ≡ not (takes_answer answer r)) →
+    passing (λ r. not (takes_answer answer r) && in_both pointers live r) 0 bound ≡ filter (counts_at func point kind) (range_with_len 0 (length func.regs))
+counting_is paths func point kind answer pointers live bound may marked is_live_set all there =
+    passing_same (λ r. not (takes_answer answer r) && in_both pointers live r) (counts_at func point kind) 0 bound same ∙ ap (λ n. filter (counts_at func point kind) (range_with_len 0 n)) long
   where
-    same : (r : ℕ) → 0 ≤ r → r < 0 + length func.regs → has counting r ≡ counts_at func point kind r
+    long : bound - 0 ≡ length func.regs
+    long = omega arith
+
+    same : (r : ℕ) → 0 ≤ r → r < bound → (not (takes_answer answer r) && in_both pointers live r) ≡ counts_at func point kind r
     same r low high =
         let room = is_live_set.room in
         let words = is_live_set.words in
@@ -227,7 +243,7 @@ counting_is paths func point kind counting pointers live bound may marked is_liv
         let exact = is_live_set.exact r less in
         let live_is : has live r ≡ is_live func.body point r =
         same_bools (has live r) (is_live func.body point r) (λ h. (paths func.body point r).1 (exact.0 h)) (λ h. exact.1 ((paths func.body point r).0 h)) in
-        bits r less
+        ap (λ b. b && in_both pointers live r) (sym (there r))
         ∙ ap (λ b. is_there kind r && (b && has live r)) (marked.exact r (omega arith))
         ∙ ap (λ b. is_there kind r && (holds_pointer func r && b)) live_is
         ∙ sym (counts_is func point kind r may)

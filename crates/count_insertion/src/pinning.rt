@@ -1,12 +1,11 @@
 //! Which registers are pinned at which points.
 
-ghost use Rattle.std.specs.Prelude.{◌≡◌, ◌==◌, ◌<◌, ◌*◌, ◌&&◌, ℕ, Some, IfOk, not, filter, length, map, reverse, slice_get};
-ghost use Rattle.std.specs.List.{range_with_len};
+ghost use Rattle.std.specs.Prelude.{◌≡◌, ◌==◌, ◌<◌, ◌≤◌, ◌++◌, ◌&&◌, ℕ, IfOk, not, length, map, reverse, slice_get};
 ghost use Rattle.object_meaning.specs.counted.Pinning.{AreExact};
 ghost use Rattle.object_meaning.specs.objects.Holding.{takes_answer};
-ghost use Rattle.local_liveness.specs.Sets.{has, Adds};
-ghost use Rattle.local_liveness.specs.Tables.{HasLive, IsTableOf, words_of};
-ghost use Rattle.count_insertion.specs.Counting.{HasPointers, is_there};
+ghost use Rattle.local_liveness.specs.Sets.{in_both, Adds};
+ghost use Rattle.local_liveness.specs.Tables.{HasLive, IsTableOf};
+ghost use Rattle.count_insertion.specs.Counting.{AreSides, HasPointers, is_there, passing};
 ghost use Rattle.count_insertion.specs.Inserted.{AreTables, may_count, func_pins, registers_at, registers_from};
 
 use crate::copies::core_copy;
@@ -61,26 +60,6 @@ fn may_count(kind: &StmKind) -> bool
     )
 }
 
-/// Makes a set of the registers that count at a statement: those for pointers that are live behind it, without the one that
-/// takes the answer of a call. All sets have as many words.
-fn find_counting(
-    counting: &mut RegisterSet,
-    pointers: &RegisterSet,
-    live: &RegisterSet,
-    kind: &StmKind,
-)
-    requires pointers { length pointers.now ≡ length counting.old }
-    requires live { length live.now ≡ length counting.old }
-    ensures words { length counting.new ≡ length counting.old }
-    ensures bits { (r : ℕ) → r < 64 * length counting.old → has counting.new r ≡ (is_there kind.now r && (has pointers.now r && has live.now r)) }
-{
-    counting.become_common(pointers, live);
-    match answer_of(kind) {
-        Some(answer) => counting.remove(answer),
-        None => (),
-    }
-}
-
 /// The register that takes the answer of a call.
 fn answer_of(kind: &StmKind) -> Option<u32>
     ensures { (r : ℕ) → is_there kind.now r ≡ not (takes_answer result r) }
@@ -91,42 +70,78 @@ fn answer_of(kind: &StmKind) -> Option<u32>
     }
 }
 
-/// The registers of a set that are below a bound.
-fn registers_in(alloc: Global, set: &RegisterSet, bound: u32) -> Result<Registers, NoMemory>
-    ensures { IfOk result (λ registers. registers ≡ filter (has set.now) (range_with_len 0 bound)) }
+/// The registers below a bound without the one that takes an answer: those below the first number, and those from the second on.
+fn sides(answer: Option<u32>, bound: u32) -> (u32, u32)
+    ensures { AreSides answer bound result.0 result.1 }
 {
-    let mut registers = Registers::new(alloc);
-    let mut from = 0;
-    while let Some(run) = set.next_run(from, bound) {
-        registers.push_run(run.first, run.end - 1)?;
-        from = run.end;
+    match answer {
+        Some(register) if register < bound => (register, register + 1),
+        _ => (bound, bound),
     }
+}
+
+/// Adds the registers that two sets have in common, from one on and below a bound.
+fn push_common(
+    registers: &mut Registers,
+    one: &RegisterSet,
+    other: &RegisterSet,
+    from: u32,
+    until: u32,
+) -> Result<(), NoMemory>
+    requires { from ≤ until }
+    ensures { IfOk result (λ _. registers.new ≡ registers.old ++ passing (in_both one.now other.now) from until) }
+{
+    let mut next = from;
+    while let Some(run) = one.next_common_run(other, next, until) {
+        registers.push_run(run.first, run.end - 1)?;
+        next = run.end;
+    }
+    Ok(())
+}
+
+/// The registers below a bound that two sets have in common, without the one that takes an answer.
+fn common_without(
+    alloc: Global,
+    one: &RegisterSet,
+    other: &RegisterSet,
+    answer: Option<u32>,
+    bound: u32,
+) -> Result<Registers, NoMemory>
+    ensures { IfOk result (λ registers. registers ≡ passing (λ r. not (takes_answer answer r) && in_both one.now other.now r) 0 bound) }
+{
+    let (until, from) = sides(answer, bound);
+    let mut registers = Registers::new(alloc);
+    push_common(&mut registers, one, other, 0, until)?;
+    push_common(&mut registers, one, other, from, bound)?;
     Ok(registers)
 }
 
-/// The registers that count at a point behind which `live` is live. `counting` is overwritten; it has room for the registers of the function.
+/// The registers that count at a point behind which `live` is live: those for pointers that are live behind it, without the one
+/// that takes the answer of a call.
 fn registers_at(
     alloc: Global,
     func: &Func,
     point: usize,
     pointers: &RegisterSet,
     live: &RegisterSet,
-    counting: &mut RegisterSet,
 ) -> Result<Registers, NoMemory>
     requires point { point < length func.now.body }
     requires pointers { HasPointers pointers.now func.now }
     requires live { HasLive live.now func.now point }
-    requires counting { length counting.old ≡ words_of func.now }
-    ensures words { length counting.new ≡ words_of func.now }
-    ensures registers { IfOk result (λ registers. registers ≡ registers_at func.now point (slice_get func.now.body point)) }
+    ensures { IfOk result (λ registers. registers ≡ registers_at func.now point (slice_get func.now.body point)) }
 {
     live_by_paths();
     let kind = &func.body.as_slice()[point].kind;
     if !may_count(kind) {
         return Ok(Registers::new(alloc));
     }
-    find_counting(counting, pointers, live, kind);
-    registers_in(alloc, counting, fit(func.regs.len())?)
+    common_without(
+        alloc,
+        pointers,
+        live,
+        answer_of(kind),
+        fit(func.regs.len())?,
+    )
 }
 
 /// The registers that count at each point of a function, from the last point to the first.
@@ -136,11 +151,10 @@ fn registers_back(alloc: Global, func: &Func, table: &LiveTable) -> Result<Vec<R
 {
     let pointers = pointers_of(alloc, func)?;
     let mut live = none_live(alloc, func)?;
-    let mut counting = RegisterSet::empty(alloc, func.regs.len())?;
     let mut lists = Vec::with_capacity(alloc, func.body.len())?;
     for point in (0..func.body.len()).rev() {
         table.step_back(func, &mut live, point);
-        lists.push(registers_at(alloc, func, point, &pointers, &live, &mut counting)?)?;
+        lists.push(registers_at(alloc, func, point, &pointers, &live)?)?;
     }
     Ok(lists)
 }

@@ -1,5 +1,5 @@
 -- One bit of a set.
-use Rattle.std.proofs.Common.{◌≡◌, ◌<◌, ◌≤◌, ◌+◌, ◌-◌, ◌*◌, ◌/◌, ◌%◌, ◌^◌, ◌&&◌, ◌||◌, ℕ, zero, suc, Bool, true, false, not, List, [], length, eqb, get_or, replicate, refl, sym, ap, ◌∙◌, subst, arith, ⊎_elim, true≢false, length-set, w64}
+use Rattle.std.proofs.Common.{◌≡◌, ◌<◌, ◌≤◌, ◌+◌, ◌-◌, ◌*◌, ◌/◌, ◌%◌, ◌^◌, ◌&&◌, ◌||◌, ℕ, zero, suc, Bool, true, false, not, List, [], length, eqb, get_or, replicate, refl, sym, ap, ◌∙◌, arith, ⊎_elim, true≢false, length-set, w64}
 use Rattle.std.specs.Prelude.{slice_set, bit_and, bit_or}
 use Rattle.std.specs.Int.{bit_at}
 use Rattle.std.proofs.lemmas.Bool.{cases_eq, cases_lt, eq-eqb, ne_eqb}
@@ -11,7 +11,7 @@ pub has_past : (row : List ℕ) (r : ℕ) → length row ≤ r / 64 → has row 
 unfolding has
 has_past row r h = ap (λ v. eqb (bit_at v (r % 64)) 1) (get_or_past row (r / 64) 0 h) ∙ ap (λ b. eqb b 1) (bit_at-zero (r % 64))
 
-zeros : (words i : ℕ) → ◌≡◌ {A = ℕ} (get_or (replicate words 0) i 0) 0
+pub zeros : (words i : ℕ) → ◌≡◌ {A = ℕ} (get_or (replicate words 0) i 0) 0
 zeros zero i = refl
 zeros (suc words) zero = refl
 zeros (suc words) (suc i) = zeros words i
@@ -102,24 +102,20 @@ removed row register word r b is =
     (cases_eq (r / 64) (register / 64))
 
 pub insert_bit :
-    (row now : List ℕ) (register word : ℕ) → row ≡ now → register / 64 < length row → word ≡ get_or row (register / 64) word →
-    Adds (λ r. eqb register r) now (slice_set row (register / 64) (bit_or word (1 * 2 ^ (register % 64) % 18446744073709551616)))
-insert_bit row now register word same within is =
-    subst (λ (xs : List ℕ). Adds (λ r. eqb register r) xs (slice_set row (register / 64) (with_bit word register))) same
-    (record {
-      words = length-set row (register / 64) (with_bit word register);
-      bits = λ r b. inserted row register word r within (get_or_read row (register / 64) word within is 0);
-    })
+    (row : List ℕ) (register word : ℕ) → register / 64 < length row → word ≡ get_or row (register / 64) 0 →
+    Adds (λ r. eqb register r) row (slice_set row (register / 64) (bit_or word (1 * 2 ^ (register % 64) % 18446744073709551616)))
+insert_bit row register word within is = record {
+  words = length-set row (register / 64) (with_bit word register);
+  bits = λ r b. inserted row register word r within is;
+}
 
 pub remove_bit :
-    (row now : List ℕ) (register word : ℕ) → row ≡ now → register / 64 < length row → word ≡ get_or row (register / 64) word →
-    Drops (λ r. eqb register r) now (slice_set row (register / 64) (bit_and word (18446744073709551615 - 1 * 2 ^ (register % 64) % 18446744073709551616)))
-remove_bit row now register word same within is =
-    subst (λ (xs : List ℕ). Drops (λ r. eqb register r) xs (slice_set row (register / 64) (without_bit word register))) same
-    (record {
-      words = length-set row (register / 64) (without_bit word register);
-      bits = λ r b. removed row register word r within (get_or_read row (register / 64) word within is 0);
-    })
+    (row : List ℕ) (register word : ℕ) → register / 64 < length row → word ≡ get_or row (register / 64) 0 →
+    Drops (λ r. eqb register r) row (slice_set row (register / 64) (bit_and word (18446744073709551615 - 1 * 2 ^ (register % 64) % 18446744073709551616)))
+remove_bit row register word within is = record {
+  words = length-set row (register / 64) (without_bit word register);
+  bits = λ r b. removed row register word r within is;
+}
 
 -- one set after another
 or_shift : (x y z : Bool) → (y || (x || z)) ≡ ((x || y) || z)

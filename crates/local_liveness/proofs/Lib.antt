@@ -1,6 +1,7 @@
 mod Bits
 mod Joins
 mod Scanning
+mod Marks
 mod Going
 mod Sweeping
 mod Blanks

@@ -2,11 +2,17 @@
 use Rattle.std.specs.Prelude.{◌≡◌, ◌==◌, ◌<◌, ◌≤◌, ◌*◌, ◌/◌, ◌%◌, ◌&&◌, ◌||◌, ℕ, Bool, true, false, not, List, [], length, Option, slice_index, slice_index_or}
 use Rattle.std.specs.Option.{option_map_or}
 use Rattle.std.specs.Int.{bit_at}
-use Rattle.local_liveness.specs.declared.register_set.Run.{Run}
+use Rattle.local_liveness.specs.declared.runs.Run.{Run}
 
 -- whether a register is in a set; one past the last word is not
 unfoldable pub has : List ℕ → ℕ → Bool
 has set r = bit_at (slice_index set (r / 64)) (r % 64) == 1
+
+-- which words of a set have a register, and which have all: a word without the first mark has none, one with the second has all
+pub record AreMarks (words some full : List ℕ) : Type 0 where
+  pub room : length words ≤ 64 * length some
+  pub none : (place : ℕ) → place < length words → has some place ≡ false → slice_index words place ≡ 0
+  pub all : (place : ℕ) → has full place ≡ true → slice_index words place ≡ 18446744073709551615
 
 -- a set is another one with what a test passes
 pub record Adds (test : ℕ → Bool) (old new : List ℕ) : Type 0 where
@@ -23,25 +29,29 @@ pub record Becomes (test : ℕ → Bool) (old new : List ℕ) : Type 0 where
   pub words : length new ≡ length old
   pub bits : (r : ℕ) → r < 64 * length old → has new r ≡ test r
 
--- no register from one on and below a bound is in a set
-abbrev pub HasNone : List ℕ → ℕ → ℕ → Type 0
-HasNone set from until = (r : ℕ) → from ≤ r → r < until → has set r ≡ false
+-- whether a register is in two sets
+abbrev pub in_both : List ℕ → List ℕ → ℕ → Bool
+in_both one other r = has one r && has other r
 
--- the next run of registers of a set, from one on and below a bound: nothing stands before it, and it goes as far as it can
-pub record IsRun (set : List ℕ) (from until : ℕ) (run : Run) : Type 0 where
+-- no register from one on and below a bound passes a test
+abbrev pub HasNone : (ℕ → Bool) → ℕ → ℕ → Type 0
+HasNone test from until = (r : ℕ) → from ≤ r → r < until → test r ≡ false
+
+-- the next run of registers that pass a test, from one on and below a bound: none stands before it, and it goes as far as it can
+pub record IsRun (test : ℕ → Bool) (from until : ℕ) (run : Run) : Type 0 where
   pub starts : from ≤ run.first
   pub some : run.first < run.end
   pub ends : run.end ≤ until
-  pub before : HasNone set from run.first
-  pub inside : (r : ℕ) → run.first ≤ r → r < run.end → has set r ≡ true
-  pub whole : run.end < until → has set run.end ≡ false
+  pub before : HasNone test from run.first
+  pub inside : (r : ℕ) → run.first ≤ r → r < run.end → test r ≡ true
+  pub whole : run.end < until → test run.end ≡ false
 
--- the first register from one on that is a member, or that is none; the bound where there is none such below it
-pub record IsFirst (set : List ℕ) (member : Bool) (from until first : ℕ) : Type 0 where
+-- the first register from one on at which a test gives an answer; the bound where it gives it nowhere below
+pub record IsFirst (test : ℕ → Bool) (answer : Bool) (from until first : ℕ) : Type 0 where
   pub starts : from ≤ first
   pub ends : first ≤ until
-  pub before : (r : ℕ) → from ≤ r → r < first → has set r ≡ not member
-  pub here : first < until → has set first ≡ member
+  pub before : (r : ℕ) → from ≤ r → r < first → test r ≡ not answer
+  pub here : first < until → test first ≡ answer
 
 -- the set of a point; past the last there is none
 abbrev pub set_at : List (List ℕ) → ℕ → List ℕ

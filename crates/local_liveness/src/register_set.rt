@@ -1,35 +1,38 @@
 //! Sets of registers.
 
-ghost use Rattle.std.specs.Prelude.{◌≡◌, ◌==◌, ◌<◌, ◌≤◌, ◌+◌, ◌*◌, ◌^◌, ◌&&◌, ◌||◌, ℕ, not, false, IfOk, MatchOption, cond, length, replicate, slice_index};
-ghost use Rattle.std.specs.Int.{bit_at, div_ceil};
+ghost use Rattle.std.specs.Prelude.{◌≡◌, ◌==◌, ◌<◌, ◌≤◌, ◌*◌, ◌^◌, ◌&&◌, ◌||◌, ℕ, not, false, bit_or, IfOk, MatchOption, length, replicate, slice_index, slice_set};
+ghost use Rattle.std.specs.Int.{div_ceil};
 ghost use Rattle.std.specs.List.{list_any};
 ghost use Rattle.core_tree.specs.Statements.{is_register, reads, writes};
-ghost use Rattle.local_liveness.specs.Sets.{has, Adds, Becomes, Drops, HasNone, IsFirst, IsRun};
+ghost use Rattle.local_liveness.specs.Sets.{has, in_both, Adds, Becomes, Drops, HasNone, IsFirst, IsRun};
 
+use crate::runs::{Run, first_bit, put};
 use core_tree::{Atom, StmKind};
 use hs_base::NoMemory;
 use std::alloc::Global;
 use std::marker::Model;
 
-/// Neighbouring registers: those from `first` on, below `end`.
-#[derive(Clone, Copy, Debug, PartialEq, Eq)]
-pub struct Run {
-    pub first: u32,
-    pub end: u32,
-}
-
 /// A set of registers, one bit a register, in words of 64 bits. A register past the last word is in none.
+///
+/// Two more lists have one bit a word, so that the ends of a run are found without a look at each of its words.
 #[derive(Debug, Drop)]
 pub struct RegisterSet {
     words: Vec<u64>,
+    /// The words that have a register.
+    some: Vec<u64>,
+    /// The words that have all of their registers.
+    full: Vec<u64>,
 }
 
 impl Model for RegisterSet {
     ghost use Rattle.std.specs.Prelude.{ℕ, List};
+    ghost use Rattle.local_liveness.specs.Sets.{AreMarks};
 
     ghost Value = { List ℕ };
 
     ghost view = { λ set. set.words.items };
+
+    ghost invariant = { λ set. AreMarks set.words.items set.some.items set.full.items };
 }
 
 impl RegisterSet {
@@ -42,8 +45,11 @@ impl RegisterSet {
         ensures { IfOk result (λ set. set ≡ replicate (div_ceil registers 64) 0) }
     {
         let words = registers.div_ceil(64);
+        let marks = words.div_ceil(64);
         Ok(RegisterSet {
-            words: vec![in alloc; 0; words]?,
+            words: zeros(alloc, words)?,
+            some: zeros(alloc, marks)?,
+            full: zeros(alloc, marks)?,
         })
     }
 
@@ -57,6 +63,8 @@ impl RegisterSet {
     {
         Ok(RegisterSet {
             words: self.words.as_slice().to_vec(alloc)?,
+            some: self.some.as_slice().to_vec(alloc)?,
+            full: self.full.as_slice().to_vec(alloc)?,
         })
     }
 
@@ -76,8 +84,8 @@ impl RegisterSet {
         ensures { Adds (λ r. register == r) self.old self.new }
     {
         let place = (register / 64) as usize;
-        if place < self.words.len() {
-            self.words[place] |= 1 << (register % 64);
+        if place < self.room() {
+            self.write(place, self.word(place) | 1 << (register % 64));
         }
     }
 
@@ -86,9 +94,29 @@ impl RegisterSet {
         ensures { Drops (λ r. register == r) self.old self.new }
     {
         let place = (register / 64) as usize;
-        if place < self.words.len() {
-            self.words[place] &= !(1 << (register % 64));
+        if place < self.room() {
+            self.write(place, self.word(place) & !(1 << (register % 64)));
         }
+    }
+
+    /// A word of the set; past the last there are empty ones.
+    fn word(&self, place: usize) -> u64
+        ensures { result ≡ slice_index self.now place }
+    {
+        if place >= self.words.len() {
+            return 0;
+        }
+        self.words[place]
+    }
+
+    /// Puts a word in place of one of the set.
+    fn write(&mut self, place: usize, word: u64)
+        requires { place < length self.old }
+        ensures { self.new ≡ slice_set self.old place word }
+    {
+        self.words[place] = word;
+        put(&mut self.some, place, word != 0);
+        put(&mut self.full, place, word == u64::MAX);
     }
 
     /// How many words the set has.
@@ -104,6 +132,8 @@ impl RegisterSet {
         ensures none { (r : ℕ) → has self.new r ≡ false }
     {
         clear(&mut self.words);
+        clear(&mut self.some);
+        clear(&mut self.full);
     }
 
     /// Adds the registers of another set, as far as there is room. Says whether one of them was missing.
@@ -111,67 +141,77 @@ impl RegisterSet {
         ensures adds { Adds (has other.now) self.old self.new }
         ensures same { result ≡ false → self.new ≡ self.old }
     {
-        join(&mut self.words, &other.words)
+        let mut more = false;
+        for i in 0..self.room().min(other.room()) {
+            more |= self.join_word(i, other.word(i));
+        }
+        more
     }
 
-    /// Becomes what two sets have in common. All three have as many words.
-    pub fn become_common(&mut self, one: &RegisterSet, other: &RegisterSet)
-        requires one { length one.now ≡ length self.old }
-        requires other { length other.now ≡ length self.old }
-        ensures { Becomes (λ r. has one.now r && has other.now r) self.old self.new }
+    /// Adds the bits of a word. Says whether one of them was missing.
+    fn join_word(&mut self, place: usize, bits: u64) -> bool
+        requires { place < length self.old }
+        ensures joins { self.new ≡ slice_set self.old place (bit_or (slice_index self.old place) bits) }
+        ensures same { result ≡ false → self.new ≡ self.old }
     {
-        meet(&mut self.words, &one.words, &other.words);
+        let word = self.word(place);
+        let joined = word | bits;
+        if joined == word {
+            return false;
+        }
+        self.write(place, joined);
+        true
     }
 
-    /// The next run of registers of the set, from one on and below a bound; it goes as far as it can.
-    pub fn next_run(&self, from: u32, until: u32) -> Option<Run>
+    /// The next run of registers that this set and another have in common, from one on and below a bound; it goes as far as it can.
+    pub fn next_common_run(&self, other: &RegisterSet, from: u32, until: u32) -> Option<Run>
         requires { from ≤ until }
-        ensures { MatchOption result (HasNone self.now from until) (λ run. IsRun self.now from until run) }
+        ensures { MatchOption result (HasNone (in_both self.now other.now) from until) (IsRun (in_both self.now other.now) from until) }
     {
-        let first = self.first(from, until, true);
-        if first >= until {
+        let first = self.first_common(other, from as usize, until as usize, true);
+        if first >= until as usize {
             return None;
         }
-        let end = self.first(first, until, false);
-        Some(Run { first, end })
+        let end = self.first_common(other, first, until as usize, false);
+        Some(Run {
+            first: first as u32,
+            end: end as u32,
+        })
     }
 
-    /// The first register from one on, below a bound, that is a member, or that is none; the bound where there is none such.
-    fn first(&self, from: u32, until: u32, member: bool) -> u32
-        requires { from ≤ until }
-        ensures { IsFirst self.now member from until result }
+    /// The first register from one on, below a bound, that two sets both have, or not; the bound where there is none such.
+    fn first_common(&self, other: &RegisterSet, from: usize, until: usize, common: bool) -> usize
+        requires order { from ≤ until }
+        requires small { until < 2 ^ 32 }
+        ensures { IsFirst (in_both self.now other.now) common from until result }
     {
-        let bound = until as u64;
-        let mut register = from as u64;
-        while register < bound {
+        let mut register = from;
+        while register < until {
             let place = register / 64;
-            let word = self.bits(place, member) & (u64::MAX << (register % 64));
-            if word != 0 {
-                let found = 64 * place + word.trailing_zeros() as u64;
-                return found.min(bound) as u32;
+            let end = 64 * place + 64;
+            let found = first_bit(&self.words, &other.words, register, end, common);
+            if found < end {
+                return found.min(until);
             }
-            register = 64 * place + 64;
+            register = 64 * self.next_place(other, place + 1, until.div_ceil(64), common);
         }
         until
     }
 
-    /// A word that has a bit for each of its registers that is a member, or for each that is none.
-    fn bits(&self, place: u64, member: bool) -> u64
-        requires { place < 2 ^ 32 }
-        ensures { (i : ℕ) → i < 64 → let found = has self.now (64 * place + i) in (bit_at result i == 1) ≡ cond member found (not found) }
+    /// Goes over words without a register that both sets have, or not: from a word on, to one that may have such a register, or to
+    /// a bound.
+    fn next_place(&self, other: &RegisterSet, from: usize, until: usize, common: bool) -> usize
+        requires order { from ≤ until }
+        requires small { until ≤ 2 ^ 32 }
+        ensures starts { from ≤ result }
+        ensures ends { result ≤ until }
+        ensures passed { (r : ℕ) → 64 * from ≤ r → r < 64 * result → in_both self.now other.now r ≡ not common }
     {
-        let word = self.word(place);
-        if member { word } else { !word }
-    }
-
-    /// A word of the set; past the last there are empty ones.
-    fn word(&self, place: u64) -> u64
-        ensures { result ≡ slice_index self.now place }
-    {
-        if place >= self.words.len() as u64 {
-            return 0;
+        if common {
+            first_bit(&self.some, &other.some, from, until, true)
+        } else {
+            first_bit(&self.full, &other.full, from, until, false)
         }
-        self.words[place as usize]
     }
 
     /// Adds the register that an operand is, if it is one.
@@ -252,38 +292,19 @@ impl RegisterSet {
     }
 }
 
+/// So many words without a bit.
+fn zeros(alloc: Global, words: usize) -> Result<Vec<u64>, NoMemory>
+    ensures { IfOk result (λ zeros. zeros.items ≡ replicate words 0) }
+{
+    Ok(vec![in alloc; 0; words]?)
+}
+
 /// Clears all bits of words.
 fn clear(words: &mut [u64])
     ensures words { length words.new ≡ length words.old }
-    ensures none { (r : ℕ) → has words.new r ≡ false }
+    ensures none { (place : ℕ) → slice_index words.new place ≡ 0 }
 {
     for word in words.iter_mut() {
         *word = 0;
-    }
-}
-
-/// Adds the bits of other words, as far as there are such words. Says whether one of them was missing.
-fn join(words: &mut [u64], others: &[u64]) -> bool
-    ensures adds { Adds (has others.now) words.old words.new }
-    ensures same { result ≡ false → words.new ≡ words.old }
-{
-    let mut more = false;
-    for i in 0..words.len().min(others.len()) {
-        let word = words[i];
-        let joined = word | others[i];
-        more |= joined != word;
-        words[i] = joined;
-    }
-    more
-}
-
-/// Puts the common bits of two lists of words in place of others.
-fn meet(words: &mut [u64], ones: &[u64], others: &[u64])
-    requires one { length ones.now ≡ length words.old }
-    requires other { length others.now ≡ length words.old }
-    ensures { Becomes (λ r. has ones.now r && has others.now r) words.old words.new }
-{
-    for i in 0..words.len() {
-        words[i] = ones[i] & others[i];
     }
 }

@@ -1,7 +1,9 @@
-use Rattle.std.proofs.Common.{arith}
+use Rattle.std.proofs.Common.{List, ℕ, eqb, arith, subst, sym}
+use Rattle.local_liveness.specs.Sets.{Drops}
 use Rattle.local_liveness.proofs.Bits.{remove_bit}
 use Rattle.local_liveness.proofs.register_set.RegisterSet.remove.Goals as goal
 
-pub returns-then-place-len : goal.returns-then-place-len
-returns-then-place-len c =
-    remove_bit c.self.inside.words.items c.args.self.now c.args.register c.index_mut.result.now c.self.view_is (omega arith) c.index_mut.ensures.value
+pub returns-then-place-room : goal.returns-then-place-room
+returns-then-place-room c =
+    subst (λ (new : List ℕ). Drops (λ r. eqb c.args.register r) c.args.self.now new) (sym c.write.ensures)
+    (remove_bit c.args.self.now c.args.register c.word.result (omega arith) c.word.ensures)
