@@ -1,4 +1,5 @@
 pub mod Walks
+pub mod Fitting
 pub mod Notes
 pub mod Fetched
 pub mod Noting

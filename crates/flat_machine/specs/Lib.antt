@@ -1,5 +1,6 @@
 pub mod Acting
 pub mod Words
+pub mod Packed
 pub mod Kept
 pub mod Stacked
 pub mod Standing

@@ -1,24 +1,26 @@
 //! Instructions that work on integers and registers (C99 6.3.1.3, 6.5.3.3, 6.5.5 to 6.5.14).
 
-ghost use Rattle.std.specs.Prelude.{◌≡◌, ◌+◌, ◌<◌, ◌^◌, IfErr, not, nat_eq};
-ghost use Rattle.object_meaning.specs.objects.Arithmetic.{on_two, is_zero};
+ghost use Rattle.std.specs.Prelude.{◌≡◌, ◌+◌, ◌<◌, ◌^◌, IfErr, IfOk, not, nat_eq};
+ghost use Rattle.object_meaning.specs.objects.Arithmetic.{on_one, on_two, is_zero};
+ghost use Rattle.hs_base.specs.Arithmetic.{IsInRange};
 ghost use Rattle.flat_machine.specs.Words.{truth_word};
 ghost use Rattle.flat_machine.specs.Groups.{IsValues};
 ghost use Rattle.flat_machine.specs.Instructions.{ActsAlone};
 ghost use Rattle.flat_machine.specs.Leading.{Operates};
 
+use crate::packed::PackedWord;
 use crate::state::State;
-use core_tree::BinOp;
+use core_tree::{BinOp, UnOp};
 use flat_code::{Instr, Op};
-use flat_objects::Word;
 use hs_base::{End, IntKind, Line, TrapKind};
-use meaning_state::{compared, on_one};
+use meaning_state::compared;
 
 /// The result of an operation on two integers (C99 6.5.5 to 6.5.7, 6.5.10 to 6.5.12). It traps at a zero divisor, and at a
 /// count that is below 0 or not below the width.
 #[inline(always)]
 pub(crate) fn on_two(op: BinOp, kind: IntKind, a: i128, b: i128) -> Result<i128, TrapKind>
-    ensures { Operates result (on_two op kind a b) }
+    ensures operates { Operates result (on_two op kind a b) }
+    ensures in_range { IfOk result (IsInRange kind) }
 {
     match op {
         BinOp::Add => Ok(kind.add(a, b)),
@@ -34,12 +36,28 @@ pub(crate) fn on_two(op: BinOp, kind: IntKind, a: i128, b: i128) -> Result<i128,
     }
 }
 
+/// The result of an operation on one integer (C99 6.5.3.3).
+#[inline(always)]
+pub(crate) fn on_one(op: UnOp, kind: IntKind, a: i128) -> i128
+    ensures value { result ≡ on_one op kind a }
+    ensures in_range { IsInRange kind result }
+{
+    match op {
+        UnOp::Neg => kind.negate(a),
+        UnOp::Not => kind.complement(a),
+    }
+}
+
 /// 1 or 0.
 #[inline(always)]
-pub(crate) fn truth(holds: bool) -> Word
+pub(crate) fn truth(holds: bool) -> PackedWord
     ensures { result ≡ truth_word holds }
 {
-    Word::Number(if holds { 1 } else { 0 })
+    if holds {
+        PackedWord::number(IntKind::I32, 1)
+    } else {
+        PackedWord::number(IntKind::I32, 0)
+    }
 }
 
 /// Says whether an integer is 0.
@@ -67,7 +85,7 @@ impl State {
     {
         match on_two(op, kind, self.integer(0), self.integer(1)) {
             Ok(n) => {
-                self.give(Some(instr.a), Word::Number(n));
+                self.give_number(Some(instr.a), kind, n);
                 Ok(())
             }
             Err(kind) => Err(End::Trap(kind, line)),
@@ -89,12 +107,12 @@ impl State {
             }
             Op::Conv(kind) => {
                 let n = kind.wrap(self.integer(0));
-                self.give(Some(instr.a), Word::Number(n));
+                self.give_number(Some(instr.a), kind, n);
                 Ok(())
             }
             Op::Un(op, kind) => {
                 let n = on_one(op, kind, self.integer(0));
-                self.give(Some(instr.a), Word::Number(n));
+                self.give_number(Some(instr.a), kind, n);
                 Ok(())
             }
             Op::Bin(op, kind) => self.operate(line, instr, op, kind),

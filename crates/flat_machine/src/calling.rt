@@ -8,11 +8,11 @@ ghost use Rattle.flat_machine.specs.Pinning.{IsReturning, IsStanding};
 ghost use Rattle.flat_machine.specs.Leading.{HasAllLocals, MayCall, WaitsAtCall};
 ghost use Rattle.flat_machine.specs.Instructions.{CallsAlone, ReturnsAlone, StopsAtCall, StopsAtReturn};
 
+use crate::packed::PackedWord;
 use crate::state::State;
 use crate::words::{address_in, integer_in};
 use byte_memory::Steps;
 use flat_code::{Code, Entry, Instr};
-use flat_objects::Word;
 use hs_base::{End, IntKind, Line};
 use std::sync::ledger::Ledger;
 
@@ -71,7 +71,7 @@ impl State {
         &mut self,
         code: &Code,
         line: Line,
-        answer: Word,
+        answer: PackedWord,
         steps: &mut Steps<L>,
     ) -> Result<(), End>
         requires call { WaitsAtCall code.now self.old.calls.waiting }

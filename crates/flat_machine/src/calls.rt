@@ -10,11 +10,12 @@ ghost use Rattle.flat_machine.specs.Calls.{CallsAdvance, RunsCalls, called, fram
 use crate::call::Call;
 use crate::going::go;
 use crate::operation::Turn;
+use crate::packed::PackedWord;
 use crate::words::{behind, push_all, push_first_words};
 use byte_memory::Steps;
 use flat_code::Code;
-use flat_objects::{FlatObjects, Word};
-use hs_base::NoMemory;
+use flat_objects::FlatObjects;
+use hs_base::{IntKind, NoMemory};
 use std::alloc::Global;
 use std::marker::Model;
 use std::sync::ledger::Ledger;
@@ -31,7 +32,7 @@ fn call_in(waiting: &[Call], running: Call, k: usize) -> Call
 }
 
 /// The word of a register, of which the words from one place to another are.
-fn word_in(words: &[Word], base: usize, end: usize, r: u32) -> Word
+fn word_in(words: &[PackedWord], base: usize, end: usize, r: u32) -> PackedWord
     ensures { result ≡ slice_index_or (drop base (take end words.now)) r no_word }
 {
     let end = end.min(words.len());
@@ -39,7 +40,7 @@ fn word_in(words: &[Word], base: usize, end: usize, r: u32) -> Word
     if base < end && r < end - base {
         words[base + r]
     } else {
-        Word::Number(0)
+        PackedWord::number(IntKind::I32, 0)
     }
 }
 
@@ -48,7 +49,7 @@ fn word_in(words: &[Word], base: usize, end: usize, r: u32) -> Word
 pub(crate) struct Calls {
     running: Call,
     waiting: Vec<Call>,
-    words: Vec<Word>,
+    words: Vec<PackedWord>,
     /// The addresses of the memory locals of all calls.
     locals: Vec<u32>,
     room: u32,
@@ -152,7 +153,7 @@ impl Calls {
     }
 
     /// The word of a register of a call.
-    pub(crate) fn word_of(&self, k: usize, r: u32) -> Word
+    pub(crate) fn word_of(&self, k: usize, r: u32) -> PackedWord
         ensures { result ≡ slice_index_or (call_number self.now k).words r no_word }
     {
         if k >= self.waiting.len() {
@@ -185,14 +186,14 @@ impl Calls {
     }
 
     /// The word of a register of the running call.
-    pub(crate) fn word(&self, r: u32) -> Word
+    pub(crate) fn word(&self, r: u32) -> PackedWord
         ensures { result ≡ slice_index_or self.now.running.words r no_word }
     {
         let r = r as usize;
         if r < self.words.len() - self.running.base {
             self.words[self.running.base + r]
         } else {
-            Word::Number(0)
+            PackedWord::number(IntKind::I32, 0)
         }
     }
 
@@ -212,7 +213,7 @@ impl Calls {
     }
 
     /// A register of the running call takes a word, where there is one to take it.
-    pub(crate) fn put(&mut self, r: Option<u32>, word: Word)
+    pub(crate) fn put(&mut self, r: Option<u32>, word: PackedWord)
         ensures { self.new ≡ put self.old r word }
     {
         if let Some(r) = r {
@@ -275,7 +276,7 @@ impl Calls {
         func: u32,
         point: u32,
         kinds: &[bool],
-        args: &[Word],
+        args: &[PackedWord],
         first: u64,
         cost: u32,
     )

@@ -11,7 +11,6 @@ use crate::making::size_in;
 use crate::state::State;
 use byte_memory::Steps;
 use flat_code::Instr;
-use flat_objects::Word;
 use hs_base::{BadFree, End, Line};
 use std::sync::ledger::Ledger;
 
@@ -41,14 +40,14 @@ impl State {
             return Err(End::BadFree(BadFree { reason, line }, None));
         }
         let Some(to) = self.new_object(size, instr.b, line, steps) else {
-            self.give(Some(instr.a), Word::Address(0));
+            self.give_address(Some(instr.a), 0);
             return Ok(());
         };
         if let Err(kind) = self.grow(to, from, steps) {
             return Err(End::Trap(kind, line));
         }
         // The check of the free counts the new address.
-        self.put(instr.a, Word::Address(to));
+        self.put_address(instr.a, to);
         self.free(line, from, steps)?;
         Ok(())
     }

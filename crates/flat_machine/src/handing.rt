@@ -2,19 +2,21 @@
 
 ghost use Rattle.std.specs.Prelude.{◌≡◌, ◌+◌, ◌<◌, ◌^◌, length};
 ghost use Rattle.flat_code.specs.declared.instructions.Op.TheVariants as ops;
+ghost use Rattle.hs_base.specs.Arithmetic.{IsInRange};
 ghost use Rattle.object_meaning.specs.code.CodeMeaning.{unsigned};
 ghost use Rattle.flat_machine.specs.Groups.{IsHanding};
 ghost use Rattle.flat_machine.specs.Instructions.{HandsAlone};
 
 use crate::state::State;
 use flat_code::{Instr, Op};
-use flat_objects::Word;
+use hs_base::IntKind;
 
 /// The integer whose low 64 bits are those of a number.
 fn unsigned(n: i64) -> i128
-    ensures { result ≡ unsigned n }
+    ensures value { result ≡ unsigned n }
+    ensures in_range { IsInRange IntKind.U64 result }
 {
-    i128::from(n).rem_euclid(1 << 64)
+    IntKind::U64.wrap(i128::from(n))
 }
 
 impl State {
@@ -33,16 +35,16 @@ impl State {
                 let word = self.register(instr.a);
                 self.hand(word);
             }
-            Op::HandInt => self.hand(Word::Number(i128::from(instr.imm))),
-            Op::HandUnsigned => self.hand(Word::Number(unsigned(instr.imm))),
-            Op::HandNull => self.hand(Word::Address(0)),
+            Op::HandInt => self.hand_number(IntKind::I64, i128::from(instr.imm)),
+            Op::HandUnsigned => self.hand_number(IntKind::U64, unsigned(instr.imm)),
+            Op::HandNull => self.hand_address(0),
             Op::HandStatic => {
                 let addr = self.static_address(instr.a);
-                self.hand(Word::Address(addr));
+                self.hand_address(addr);
             }
             Op::HandLocal => {
                 let addr = self.local_address(instr.a);
-                self.hand(Word::Address(addr));
+                self.hand_address(addr);
             }
             _ => unreachable!(),
         }

@@ -48,6 +48,7 @@ mod operands;
 mod operating;
 mod operation;
 mod output;
+mod packed;
 mod page;
 mod pinning;
 mod pointers;

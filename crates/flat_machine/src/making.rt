@@ -8,7 +8,6 @@ ghost use Rattle.flat_machine.specs.Instructions.{ActsMaking, MakesObject};
 use crate::state::State;
 use byte_memory::Steps;
 use flat_code::{Instr, Op};
-use flat_objects::Word;
 use hs_base::Line;
 use std::sync::ledger::Ledger;
 
@@ -35,8 +34,8 @@ impl State {
         ensures { MakesObject self.old self.new line r layout size }
     {
         match self.new_object(size, layout, line, steps) {
-            Some(addr) => self.give(Some(r), Word::Address(addr)),
-            None => self.give(Some(r), Word::Address(0)),
+            Some(addr) => self.give_address(Some(r), addr),
+            None => self.give_address(Some(r), 0),
         }
     }
 

@@ -11,7 +11,6 @@ ghost use Rattle.flat_machine.specs.StateMemory.{MayStoreHanded};
 use crate::state::State;
 use byte_memory::Steps;
 use flat_code::{Instr, Op};
-use flat_objects::Word;
 use hs_base::{End, Line};
 use std::sync::ledger::Ledger;
 
@@ -35,14 +34,14 @@ impl State {
         match op {
             Op::Load(kind) => match self.load(kind, addr, steps) {
                 Ok(n) => {
-                    self.give(Some(instr.a), Word::Number(n));
+                    self.give_number(Some(instr.a), kind, n);
                     Ok(())
                 }
                 Err(kind) => Err(End::Trap(kind, line)),
             },
             Op::Loadp => match self.load_pointer(addr, steps) {
                 Ok(target) => {
-                    self.give(Some(instr.a), Word::Address(target));
+                    self.give_address(Some(instr.a), target);
                     Ok(())
                 }
                 Err(kind) => Err(End::Trap(kind, line)),

@@ -18,8 +18,7 @@ use crate::console::{Console, Lent};
 use crate::state::State;
 use byte_memory::Steps;
 use core_tree::LibName;
-use flat_objects::Word;
-use hs_base::{End, Line, Sink, Source, TrapKind, put_all};
+use hs_base::{End, IntKind, Line, Sink, Source, TrapKind, put_all};
 use std::sync::ledger::Ledger;
 
 impl State {
@@ -41,7 +40,7 @@ impl State {
     {
         match self.put_line(self.address(0), out, steps) {
             Ok(()) => {
-                self.give(r, Word::Number(0));
+                self.give_number(r, IntKind::I32, 0);
                 Ok(())
             }
             Err(error) => Err(error.end(line)),
@@ -60,7 +59,7 @@ impl State {
         let byte = byte_in(n);
         match put_all(out, &[byte]) {
             Ok(()) => {
-                self.give(r, Word::Number(i128::from(byte)));
+                self.give_number(r, IntKind::U8, i128::from(byte));
                 Ok(())
             }
             Err(_) => Err(End::OutputFault),
@@ -84,11 +83,11 @@ impl State {
     {
         match console.next() {
             Ok(Some(byte)) => {
-                self.give(r, Word::Number(i128::from(byte)));
+                self.give_number(r, IntKind::U8, i128::from(byte));
                 Ok(())
             }
             Ok(None) => {
-                self.give(r, Word::Number(-1));
+                self.give_number(r, IntKind::I32, -1);
                 Ok(())
             }
             Err(fault) => Err(fault.end()),

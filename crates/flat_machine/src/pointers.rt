@@ -9,8 +9,7 @@ ghost use Rattle.flat_machine.specs.StateMemory.{KeepsHanded};
 use crate::state::State;
 use byte_memory::Steps;
 use flat_code::{Instr, Op};
-use flat_objects::Word;
-use hs_base::{End, Line};
+use hs_base::{End, IntKind, Line};
 use std::sync::ledger::Ledger;
 
 impl State {
@@ -33,28 +32,28 @@ impl State {
         match op {
             Op::Add => match self.moved_up(p, self.integer(1), i128::from(instr.imm), steps) {
                 Ok(addr) => {
-                    self.give(Some(instr.a), Word::Address(addr));
+                    self.give_address(Some(instr.a), addr);
                     Ok(())
                 }
                 Err(kind) => Err(End::Trap(kind, line)),
             },
             Op::Sub => match self.moved_down(p, self.integer(1), i128::from(instr.imm), steps) {
                 Ok(addr) => {
-                    self.give(Some(instr.a), Word::Address(addr));
+                    self.give_address(Some(instr.a), addr);
                     Ok(())
                 }
                 Err(kind) => Err(End::Trap(kind, line)),
             },
             Op::Diff => match self.difference(p, self.address(1), i128::from(instr.imm), steps) {
                 Ok(n) => {
-                    self.give(Some(instr.a), Word::Number(n));
+                    self.give_number(Some(instr.a), IntKind::I32, n);
                     Ok(())
                 }
                 Err(kind) => Err(End::Trap(kind, line)),
             },
             Op::Pcmp(op) => match self.compare(op, p, self.address(1), steps) {
                 Ok(n) => {
-                    self.give(Some(instr.a), Word::Number(n));
+                    self.give_number(Some(instr.a), IntKind::I32, n);
                     Ok(())
                 }
                 Err(kind) => Err(End::Trap(kind, line)),

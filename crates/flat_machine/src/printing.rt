@@ -19,7 +19,6 @@ use crate::put_error::PutError;
 use crate::state::State;
 use byte_memory::Steps;
 use c_print::{Piece, put_number, put_repeated};
-use flat_objects::Word;
 use hs_base::{End, Failed, IntKind, Line, Sink, put_all};
 use std::sync::ledger::Ledger;
 
@@ -205,7 +204,7 @@ impl State {
     {
         match self.put_pieces(pieces, out, steps) {
             Ok(n) => {
-                self.give(Some(r), Word::Number(IntKind::I32.wrap(n)));
+                self.give_number(Some(r), IntKind::I32, IntKind::I32.wrap(n));
                 Ok(())
             }
             Err(error) => Err(error.end(line)),

@@ -21,7 +21,6 @@ use crate::state::State;
 use byte_memory::Steps;
 use core_tree::LibName;
 use flat_code::Op;
-use flat_objects::Word;
 use hs_base::{End, Line, Sink, Source};
 use std::sync::ledger::Ledger;
 
@@ -112,7 +111,7 @@ impl State {
         let from = self.address(1);
         match self.copy(to, from, size_in(self.integer(2)), steps) {
             Ok(()) => {
-                self.give(r, Word::Address(to));
+                self.give_address(r, to);
                 Ok(())
             }
             Err(kind) => Err(End::Trap(kind, line)),
@@ -136,7 +135,7 @@ impl State {
         let byte = byte_in(self.integer(1));
         match self.set_bytes(start, byte, size_in(self.integer(2)), steps) {
             Ok(()) => {
-                self.give(r, Word::Address(start));
+                self.give_address(r, start);
                 Ok(())
             }
             Err(kind) => Err(End::Trap(kind, line)),

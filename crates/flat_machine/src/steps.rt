@@ -21,12 +21,12 @@ ghost use Rattle.flat_machine.specs.StateMemory.{KeepsHanded};
 use crate::calling::chosen;
 use crate::console::{Console, Lent};
 use crate::loaded::Loaded;
+use crate::packed::PackedWord;
 use crate::state::State;
 use byte_memory::Steps;
 use c_print::Piece;
 use flat_code::{Code, Instr, Op};
-use flat_objects::Word;
-use hs_base::{End, Items, Line, Sink, Source};
+use hs_base::{End, IntKind, Items, Line, Sink, Source};
 use meaning_laws::running_pins_are_fresh;
 use std::sync::ledger::Ledger;
 
@@ -128,7 +128,7 @@ fn act_alone<L: Ledger>(
         Op::Realloc => state.act_growing(line, instr, steps),
         Op::Free | Op::Enter | Op::Leave => state.act_freeing(line, instr, op, steps),
         Op::Call => call(state, code, loaded, line, instr, steps),
-        Op::Return => state.act_return(code, line, Word::Number(0), steps),
+        Op::Return => state.act_return(code, line, PackedWord::number(IntKind::I32, 0), steps),
         Op::Give => {
             let answer = state.word(0);
             state.act_return(code, line, answer, steps)

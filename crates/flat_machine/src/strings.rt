@@ -15,8 +15,7 @@ use crate::put_error::PutError;
 use crate::state::State;
 use byte_memory::Steps;
 use core_tree::LibName;
-use flat_objects::Word;
-use hs_base::{End, Failed, Line, Sink, put_all};
+use hs_base::{End, Failed, IntKind, Line, Sink, put_all};
 use std::sync::ledger::Ledger;
 
 /// How many bytes of a string are written at once.
@@ -107,14 +106,14 @@ impl State {
         match name {
             LibName::Strlen => match self.string_length(p, steps) {
                 Ok(n) => {
-                    self.give(r, Word::Number(i128::from(n)));
+                    self.give_number(r, IntKind::U32, i128::from(n));
                     Ok(())
                 }
                 Err(kind) => Err(End::Trap(kind, line)),
             },
             LibName::Strcmp => match self.string_order(p, self.address(1), steps) {
                 Ok(n) => {
-                    self.give(r, Word::Number(n));
+                    self.give_number(r, IntKind::I32, n);
                     Ok(())
                 }
                 Err(kind) => Err(End::Trap(kind, line)),

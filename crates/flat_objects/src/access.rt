@@ -1,7 +1,8 @@
 //! Reading and writing objects (C99 6.5.3.2).
 
-ghost use Rattle.std.specs.Prelude.{◌≡◌, ◌+◌, ◌*◌, ◌%◌, ◌^◌, ◌<◌, ◌≤◌, ◌⊎◌, IsTrue, OnOk, length};
+ghost use Rattle.std.specs.Prelude.{◌≡◌, ◌+◌, ◌*◌, ◌%◌, ◌^◌, ◌<◌, ◌≤◌, ◌⊎◌, IfOk, IsTrue, OnOk, length};
 ghost use Rattle.hs_base.specs.Access.{access_integer, access_pointer};
+ghost use Rattle.hs_base.specs.Arithmetic.{IsInRange};
 ghost use Rattle.hs_base.specs.Numbers.{low_bits, width};
 ghost use Rattle.byte_marks.specs.Marks.{AreBytes, IsSlotAt};
 ghost use Rattle.object_meaning.specs.objects.Memory.{loaded, loaded_pointer, stored, stored_pointer};
@@ -155,6 +156,7 @@ impl FlatObjects {
     ) -> Result<i128, TrapKind>
         requires { IsKept self.now addr }
         ensures loads { AnswersNumberAt self.now addr result (λ all p. loaded all kind p) }
+        ensures in_range { IfOk result (IsInRange kind) }
         ensures work { steps.new ≤ steps.old + 12 }
     {
         let width = kind.bytes();

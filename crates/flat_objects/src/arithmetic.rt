@@ -1,6 +1,7 @@
 //! Addresses as operands. One stays within its object, from its start to one past its end (C99 6.5.6, 6.5.8, 6.5.9).
 
-ghost use Rattle.std.specs.Prelude.{◌≡◌, ◌+◌, ◌^◌, ◌<◌, ◌≤◌, ◌<ℤ◌, ◌*ℤ◌, ◌-ℤ◌, ℤ, pos, neg_ℤ, int_div, IfSome};
+ghost use Rattle.std.specs.Prelude.{◌≡◌, ◌+◌, ◌^◌, ◌<◌, ◌≤◌, ◌<ℤ◌, ◌*ℤ◌, ◌-ℤ◌, ℤ, pos, neg_ℤ, int_div, IfOk, IfSome};
+ghost use Rattle.hs_base.specs.Arithmetic.{IsInRange};
 ghost use Rattle.hs_base.specs.Numbers.{wrapped};
 ghost use Rattle.object_meaning.specs.objects.Arithmetic.{compared, difference, offsets, ordered, pointers_compared, truth};
 ghost use Rattle.object_meaning.specs.objects.Values.{number};
@@ -88,7 +89,8 @@ fn compared(op: CmpOp, one: u32, other: u32) -> bool
 #[inline(always)]
 fn elements_between(one: u32, other: u32, element: i128) -> i128
     requires { pos 0 <ℤ element }
-    ensures { result ≡ wrapped IntKind.I32 (int_div (pos one -ℤ pos other) element) }
+    ensures value { result ≡ wrapped IntKind.I32 (int_div (pos one -ℤ pos other) element) }
+    ensures in_range { IsInRange IntKind.I32 result }
 {
     let bytes = i128::from(one) - i128::from(other);
     IntKind::I32.wrap(bytes / element)
@@ -97,7 +99,8 @@ fn elements_between(one: u32, other: u32, element: i128) -> i128
 /// 1 or 0.
 #[inline(always)]
 fn truth(holds: bool) -> i128
-    ensures { number result ≡ truth holds }
+    ensures value { number result ≡ truth holds }
+    ensures in_range { IsInRange IntKind.I32 result }
 {
     if holds { 1 } else { 0 }
 }
@@ -282,7 +285,8 @@ impl FlatObjects {
         requires one { IsKept self.now p }
         requires other { IsKept self.now q }
         requires element { pos 0 <ℤ element }
-        ensures { AnswersNumberOfBoth self.now p q result (λ a b. difference a b element) }
+        ensures differs { AnswersNumberOfBoth self.now p q result (λ a b. difference a b element) }
+        ensures in_range { IfOk result (IsInRange IntKind.I32) }
     {
         let (one, other) = self.offsets(p, q, steps)?;
         Ok(elements_between(one, other, element))
@@ -299,7 +303,8 @@ impl FlatObjects {
     ) -> Result<i128, TrapKind>
         requires one { IsKept self.now p }
         requires other { IsKept self.now q }
-        ensures { AnswersNumberOfBoth self.now p q result (ordered op) }
+        ensures orders { AnswersNumberOfBoth self.now p q result (ordered op) }
+        ensures in_range { IfOk result (IsInRange IntKind.I32) }
     {
         let (one, other) = self.offsets(p, q, steps)?;
         Ok(truth(compared(op, one, other)))
@@ -316,7 +321,8 @@ impl FlatObjects {
     ) -> Result<i128, TrapKind>
         requires one { IsKept self.now p }
         requires other { IsKept self.now q }
-        ensures { AnswersNumberOfBoth self.now p q result (pointers_compared op) }
+        ensures compares { AnswersNumberOfBoth self.now p q result (pointers_compared op) }
+        ensures in_range { IfOk result (IsInRange IntKind.I32) }
     {
         let _ = &self.bytes;
         match op {

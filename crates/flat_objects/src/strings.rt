@@ -1,6 +1,8 @@
 //! Strings, which are read byte by byte (C99 7.21.4.2, 7.21.6.3).
 
-ghost use Rattle.std.specs.Prelude.{◌+◌, ◌^◌, ◌≤◌};
+ghost use Rattle.std.specs.Prelude.{◌+◌, ◌^◌, ◌≤◌, IfOk};
+ghost use Rattle.hs_base.specs.declared.ends.IntKind.TheVariants.{I32};
+ghost use Rattle.hs_base.specs.Arithmetic.{IsInRange};
 ghost use Rattle.object_meaning.specs.objects.Strings.{byte_behind, order_of, string_at};
 ghost use Rattle.flat_objects.specs.Keeping.{IsKept};
 ghost use Rattle.flat_objects.specs.Answering.{AnswersLengthAt, AnswersOfBoth};
@@ -91,7 +93,8 @@ impl FlatObjects {
     ) -> Result<i128, TrapKind>
         requires one { IsKept self.now p }
         requires other { IsKept self.now q }
-        ensures { AnswersOfBoth self.now p q result order_of }
+        ensures orders { AnswersOfBoth self.now p q result order_of }
+        ensures in_range { IfOk result (IsInRange I32) }
     {
         let first = self.text(p, steps);
         let second = self.text(q, steps);

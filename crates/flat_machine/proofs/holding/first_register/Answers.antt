@@ -1,4 +1,4 @@
-use Rattle.std.proofs.Common.{◌≡◌, ◌+◌, ◌<◌, ℕ, Some, false, ap, arith, get_or, length, rules, subst, sym, ◌∙◌}
+use Rattle.std.proofs.Common.{Some, ap, arith, get_or, length, rules, sym, ◌∙◌}
 use Rattle.hs_base.specs.Freeing.{is_pointer_to}
 use Rattle.object_meaning.specs.counted.Pinning.{pointer_of_register}
 use Rattle.flat_machine.specs.Kept.{call_number}

@@ -1,4 +1,4 @@
-use Rattle.std.proofs.Common.{◌≡◌, ◌+◌, ◌++◌, [], ap, drop, get_or, length, subst, suc, sym, arith, rules, ◌∙◌}
+use Rattle.std.proofs.Common.{◌++◌, [], ap, drop, get_or, length, subst, suc, sym, arith, rules, ◌∙◌}
 use Rattle.hs_base.specs.declared.values.Pointer.TheVariants.{Null}
 use Rattle.flat_objects.specs.Counting.{Frees, Tracks}
 use Rattle.flat_machine.specs.Words.{address_at, address_in}

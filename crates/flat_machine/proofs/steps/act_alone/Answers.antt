@@ -19,7 +19,8 @@ use Rattle.flat_machine.proofs.steps.act_alone.Goals as goal
 pub returns-in-Return-clause-alone : goal.returns-in-Return-clause-alone
 returns-in-Return-clause-alone g c = λ places s h counts fresh is.
     let own = subst (λ (o : Op). CountsWell c.args.state.now (about_to_write c.args.instr o s)) c.in-Return.is counts in
-    rw c.in-Return.is (taken_alone c.args.code.now (fits_now places s c.args.state.now) c.args.line c.args.instr op.Return s places c.args.state.now c.act_return.new.self c.act_return.result refl (is ∙ c.in-Return.is) (c.act_return.ensures.alone places s (number (pos 0)) h own refl))
+    let zero = subst (StandsFor places s.state.objects (number (pos 0))) (sym c.number.ensures) refl in
+    rw c.in-Return.is (taken_alone c.args.code.now (fits_now places s c.args.state.now) c.args.line c.args.instr op.Return s places c.args.state.now c.act_return.new.self c.act_return.result refl (is ∙ c.in-Return.is) (c.act_return.ensures.alone places s (number (pos 0)) h own zero))
 
 pub returns-in-Give-clause-alone : goal.returns-in-Give-clause-alone
 returns-in-Give-clause-alone g c = λ places s h counts fresh is.
@@ -121,7 +122,8 @@ act_memory-requires-clause-stores g c = λ storep.
     let q = c.requires.standing in storable q.0 q.1 c.args.state.now q.2.stands
 
 pub act_return-requires-clause-returns : goal.act_return-requires-clause-returns
-act_return-requires-clause-returns g c = c.requires.returns c.in-Return.is
+act_return-requires-clause-returns g c =
+    subst (IsReturning c.args.state.now) (sym c.number.ensures) (c.requires.returns c.in-Return.is)
 
 pub act_return-requires-in-Give-clause-returns : goal.act_return-requires-in-Give-clause-returns
 act_return-requires-in-Give-clause-returns g c =
@@ -136,7 +138,8 @@ act_memory-requires-clause-kept g c =
 pub returns-in-Return-clause-image : goal.returns-in-Return-clause-image
 returns-in-Return-clause-image g c = λ places s h counts fresh is.
     let own = subst (λ (o : Op). CountsWell c.args.state.now (about_to_write c.args.instr o s)) c.in-Return.is counts in
-    rw c.in-Return.is (image_is c.args.code.now _ _ (taken_is c.args.code.now (fits_now places s c.args.state.now) c.args.line c.args.instr op.Return s refl (is ∙ c.in-Return.is)) c.act_return.new.self c.act_return.result (c.act_return.ensures.image places s (number (pos 0)) c.requires.pins h own refl))
+    let zero = subst (StandsFor places s.state.objects (number (pos 0))) (sym c.number.ensures) refl in
+    rw c.in-Return.is (image_is c.args.code.now _ _ (taken_is c.args.code.now (fits_now places s c.args.state.now) c.args.line c.args.instr op.Return s refl (is ∙ c.in-Return.is)) c.act_return.new.self c.act_return.result (c.act_return.ensures.image places s (number (pos 0)) c.requires.pins h own zero))
 
 pub returns-in-Give-clause-image : goal.returns-in-Give-clause-image
 returns-in-Give-clause-image g c = λ places s h counts fresh is.

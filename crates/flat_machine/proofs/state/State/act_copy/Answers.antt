@@ -18,7 +18,7 @@ returns-in-Ok-clause-leads g c = λ places s h.
     let count = rw (to_z-of_z w128 c.integer.result fits) at c.size_in.ensures.value in
     let to = at_here places s m h 0 c.address-to.result c.address-to.ensures in
     let from = at_here places s m h 1 c.address-from.result c.address-from.ensures in
-    copy_lib_alone places s m h c.args.line c.args.r c.copy.new.self.memory c.give.new.self c.integer.result c.size_in.result c.address-to.result c.address-to.ensures c.integer.ensures count (c.in-Ok.ensures.changes places s.state.objects (pointer_at s.handed 0) (pointer_at s.handed 1) to from.stands) (c.copy.ensures.tracks places s.state.objects (pointer_at s.handed 0) (pointer_at s.handed 1) to from.stands) c.copy.ensures.frame (c.give.ensures ∙ ap (λ k. given k c.args.r (Address c.address-to.result)) c.copy.ensures.others)
+    copy_lib_alone places s m h c.args.line c.args.r c.copy.new.self.memory c.give_address.new.self c.integer.result c.size_in.result c.address-to.result c.address-to.ensures c.integer.ensures count (c.in-Ok.ensures.changes places s.state.objects (pointer_at s.handed 0) (pointer_at s.handed 1) to from.stands) (c.copy.ensures.tracks places s.state.objects (pointer_at s.handed 0) (pointer_at s.handed 1) to from.stands) c.copy.ensures.frame (c.give_address.ensures ∙ ap (λ k. given k c.args.r (Address c.address-to.result)) c.copy.ensures.others)
 
 pub returns-in-Err-clause-leads : goal.returns-in-Err-clause-leads
 returns-in-Err-clause-leads g c = λ places s h.

@@ -14,25 +14,25 @@ returns-in-HandInt c = λ code sizes line places s h fresh.
     let fits : SFits w64 c.args.instr.imm = search rules in
     let value = rw (to_z-of_z w64 c.args.instr.imm fits) at c.from.ensures in
     let fits_n : SFits w128 c.from.result = search rules in
-    let hands = rw (to_z-of_z w128 c.from.result fits_n) at c.hand-in-HandInt.ensures in
-    rw c.in-HandInt.is (integer_hands code sizes line c.args.instr places s c.args.self.now c.hand-in-HandInt.new.self h c.from.result value hands)
+    let hands = rw (to_z-of_z w128 c.from.result fits_n) at c.hand_number.ensures in
+    rw c.in-HandInt.is (integer_hands code sizes line c.args.instr places s c.args.self.now c.hand_number.new.self h c.from.result value hands)
 
 pub returns-in-HandUnsigned : goal.returns-in-HandUnsigned
 returns-in-HandUnsigned c = λ code sizes line places s h fresh.
     let fits : SFits w64 c.args.instr.imm = search rules in
-    let value = rw (to_z-of_z w64 c.args.instr.imm fits) at c.unsigned.ensures in
+    let value = rw (to_z-of_z w64 c.args.instr.imm fits) at c.unsigned.ensures.value in
     let fits_n : SFits w128 c.unsigned.result = search rules in
-    let hands = rw (to_z-of_z w128 c.unsigned.result fits_n) at c.hand-in-HandUnsigned.ensures in
-    rw c.in-HandUnsigned.is (unsigned_hands code sizes line c.args.instr places s c.args.self.now c.hand-in-HandUnsigned.new.self h c.unsigned.result value hands)
+    let hands = rw (to_z-of_z w128 c.unsigned.result fits_n) at c.hand_number-in-HandUnsigned.ensures in
+    rw c.in-HandUnsigned.is (unsigned_hands code sizes line c.args.instr places s c.args.self.now c.hand_number-in-HandUnsigned.new.self h c.unsigned.result value hands)
 
 pub returns-in-HandNull : goal.returns-in-HandNull
 returns-in-HandNull c = λ code sizes line places s h fresh.
-    rw c.in-HandNull.is (null_hands code sizes line c.args.instr places s c.args.self.now c.hand-in-HandNull.new.self h c.hand-in-HandNull.ensures)
+    rw c.in-HandNull.is (null_hands code sizes line c.args.instr places s c.args.self.now c.hand_address.new.self h c.hand_address.ensures)
 
 pub returns-in-HandStatic : goal.returns-in-HandStatic
 returns-in-HandStatic c = λ code sizes line places s h fresh.
-    rw c.in-HandStatic.is (static_hands code sizes line c.args.instr places s c.args.self.now c.hand-in-HandStatic.new.self h c.static_address-addr.result (c.requires.here c.in-HandStatic.is) c.static_address-addr.ensures c.hand-in-HandStatic.ensures)
+    rw c.in-HandStatic.is (static_hands code sizes line c.args.instr places s c.args.self.now c.hand_address-in-HandStatic.new.self h c.static_address-addr.result (c.requires.here c.in-HandStatic.is) c.static_address-addr.ensures c.hand_address-in-HandStatic.ensures)
 
 pub returns-in-HandLocal : goal.returns-in-HandLocal
 returns-in-HandLocal c = λ code sizes line places s h fresh.
-    rw c.in-HandLocal.is (local_hands code sizes line c.args.instr places s c.args.self.now c.hand-in-HandLocal.new.self h c.local_address-addr.result (c.requires.local c.in-HandLocal.is) c.local_address-addr.ensures c.hand-in-HandLocal.ensures)
+    rw c.in-HandLocal.is (local_hands code sizes line c.args.instr places s c.args.self.now c.hand_address-in-HandLocal.new.self h c.local_address-addr.result (c.requires.local c.in-HandLocal.is) c.local_address-addr.ensures c.hand_address-in-HandLocal.ensures)

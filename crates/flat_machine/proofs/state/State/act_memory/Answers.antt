@@ -15,19 +15,19 @@ use Rattle.flat_machine.proofs.state.State.act_memory.Goals as goal
 pub returns-in-Ok-clause-alone : goal.returns-in-Ok-clause-alone
 returns-in-Ok-clause-alone g c = λ code sizes places s h.
     let fits : SFits w128 c.in-Ok.n = search rules in
-    let gives = rw (to_z-of_z w128 c.in-Ok.n fits) at c.give.ensures in
+    let gives = rw (to_z-of_z w128 c.in-Ok.n fits) at c.give_number.ensures in
     let at = kept_here code sizes c.args.line c.args.instr places s c.args.self.now h 0 c.address-addr.result c.address-addr.ensures in
-    rw c.in-Load.is (load_alone code sizes c.args.line c.args.instr places s c.args.self.now h c.give.new.self c.in-Load.kind c.in-Ok.n (c.in-Ok.ensures places s.state.objects (pointer_at s.handed 0) at) gives)
+    rw c.in-Load.is (load_alone code sizes c.args.line c.args.instr places s c.args.self.now h c.give_number.new.self c.in-Load.kind c.in-Ok.n (c.in-Ok.ensures.loads places s.state.objects (pointer_at s.handed 0) at) gives)
 
 pub returns-in-Err-clause-alone : goal.returns-in-Err-clause-alone
 returns-in-Err-clause-alone g c = λ code sizes places s h.
     let at = kept_here code sizes c.args.line c.args.instr places s c.args.self.now h 0 c.address-addr.result c.address-addr.ensures in
-    rw c.in-Load.is (load_traps code sizes c.args.line c.args.instr places s c.args.self.now h c.args.self.now c.in-Load.kind c.in-Err.kind (c.in-Err.ensures places s.state.objects (pointer_at s.handed 0) at))
+    rw c.in-Load.is (load_traps code sizes c.args.line c.args.instr places s c.args.self.now h c.args.self.now c.in-Load.kind c.in-Err.kind (c.in-Err.ensures.loads places s.state.objects (pointer_at s.handed 0) at))
 
 pub returns-in-Ok-load_pointer-clause-alone : goal.returns-in-Ok-load_pointer-clause-alone
 returns-in-Ok-load_pointer-clause-alone g c = λ code sizes places s h.
     let at = kept_here code sizes c.args.line c.args.instr places s c.args.self.now h 0 c.address-addr.result c.address-addr.ensures in
-    rw c.in-Loadp.is (loadp_alone code sizes c.args.line c.args.instr places s c.args.self.now h c.give-in-Ok-load_pointer.new.self c.in-Ok-load_pointer.target (c.in-Ok-load_pointer.ensures places s.state.objects (pointer_at s.handed 0) at) c.give-in-Ok-load_pointer.ensures)
+    rw c.in-Loadp.is (loadp_alone code sizes c.args.line c.args.instr places s c.args.self.now h c.give_address.new.self c.in-Ok-load_pointer.target (c.in-Ok-load_pointer.ensures places s.state.objects (pointer_at s.handed 0) at) c.give_address.ensures)
 
 pub returns-in-Err-load_pointer-clause-alone : goal.returns-in-Err-load_pointer-clause-alone
 returns-in-Err-load_pointer-clause-alone g c = λ code sizes places s h.

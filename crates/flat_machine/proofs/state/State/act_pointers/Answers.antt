@@ -46,7 +46,7 @@ returns-in-Ok-clause-alone g c = λ code sizes places s h.
     let fits_size : SFits w128 c.from.result = search rules in
     let at = kept_here code sizes c.args.line c.args.instr places s c.args.self.now h 0 c.address-p.result c.address-p.ensures in
     let answers = rw (to_z-of_z w128 c.integer.result fits_n, to_z-of_z w128 c.from.result fits_size) at (c.in-Ok.ensures places s.state.objects (pointer_at s.handed 0) at) in
-    rw c.in-Add.is (add_alone code sizes c.args.line c.args.instr places s c.args.self.now h c.give.new.self c.integer.result c.from.result c.in-Ok.addr c.integer.ensures size answers c.give.ensures)
+    rw c.in-Add.is (add_alone code sizes c.args.line c.args.instr places s c.args.self.now h c.give_address.new.self c.integer.result c.from.result c.in-Ok.addr c.integer.ensures size answers c.give_address.ensures)
 
 pub returns-in-Err-clause-alone : goal.returns-in-Err-clause-alone
 returns-in-Err-clause-alone g c = λ code sizes places s h.
@@ -66,7 +66,7 @@ returns-in-Ok-moved_down-clause-alone g c = λ code sizes places s h.
     let fits_size : SFits w128 c.from-in-Sub.result = search rules in
     let at = kept_here code sizes c.args.line c.args.instr places s c.args.self.now h 0 c.address-p.result c.address-p.ensures in
     let answers = rw (to_z-of_z w128 c.integer-in-Sub.result fits_n, to_z-of_z w128 c.from-in-Sub.result fits_size) at (c.in-Ok-moved_down.ensures places s.state.objects (pointer_at s.handed 0) at) in
-    rw c.in-Sub.is (sub_alone code sizes c.args.line c.args.instr places s c.args.self.now h c.give-in-Ok-moved_down.new.self c.integer-in-Sub.result c.from-in-Sub.result c.in-Ok-moved_down.addr c.integer-in-Sub.ensures size answers c.give-in-Ok-moved_down.ensures)
+    rw c.in-Sub.is (sub_alone code sizes c.args.line c.args.instr places s c.args.self.now h c.give_address-in-Ok-moved_down.new.self c.integer-in-Sub.result c.from-in-Sub.result c.in-Ok-moved_down.addr c.integer-in-Sub.ensures size answers c.give_address-in-Ok-moved_down.ensures)
 
 pub returns-in-Err-moved_down-clause-alone : goal.returns-in-Err-moved_down-clause-alone
 returns-in-Err-moved_down-clause-alone g c = λ code sizes places s h.
@@ -84,11 +84,11 @@ returns-in-Ok-difference-clause-alone g c = λ code sizes places s h.
     let size = rw (to_z-of_z w64 c.args.instr.imm fits) at c.from-in-Diff.ensures in
     let fits_size : SFits w128 c.from-in-Diff.result = search rules in
     let fits_n : SFits w128 c.in-Ok-difference.n = search rules in
-    let gives = rw (to_z-of_z w128 c.in-Ok-difference.n fits_n) at c.give-in-Ok-difference.ensures in
+    let gives = rw (to_z-of_z w128 c.in-Ok-difference.n fits_n) at c.give_number.ensures in
     let at = kept_here code sizes c.args.line c.args.instr places s c.args.self.now h 0 c.address-p.result c.address-p.ensures in
     let other = (kept_here code sizes c.args.line c.args.instr places s c.args.self.now h 1 c.address.result c.address.ensures).stands in
-    let answers = rw (to_z-of_z w128 c.from-in-Diff.result fits_size) at (c.in-Ok-difference.ensures places s.state.objects (pointer_at s.handed 0) (pointer_at s.handed 1) at other) in
-    rw c.in-Diff.is (diff_alone code sizes c.args.line c.args.instr places s c.args.self.now h c.give-in-Ok-difference.new.self c.from-in-Diff.result c.in-Ok-difference.n size answers gives)
+    let answers = rw (to_z-of_z w128 c.from-in-Diff.result fits_size) at (c.in-Ok-difference.ensures.differs places s.state.objects (pointer_at s.handed 0) (pointer_at s.handed 1) at other) in
+    rw c.in-Diff.is (diff_alone code sizes c.args.line c.args.instr places s c.args.self.now h c.give_number.new.self c.from-in-Diff.result c.in-Ok-difference.n size answers gives)
 
 pub returns-in-Err-difference-clause-alone : goal.returns-in-Err-difference-clause-alone
 returns-in-Err-difference-clause-alone g c = λ code sizes places s h.
@@ -97,19 +97,19 @@ returns-in-Err-difference-clause-alone g c = λ code sizes places s h.
     let fits_size : SFits w128 c.from-in-Diff.result = search rules in
     let at = kept_here code sizes c.args.line c.args.instr places s c.args.self.now h 0 c.address-p.result c.address-p.ensures in
     let other = (kept_here code sizes c.args.line c.args.instr places s c.args.self.now h 1 c.address.result c.address.ensures).stands in
-    let answers = rw (to_z-of_z w128 c.from-in-Diff.result fits_size) at (c.in-Err-difference.ensures places s.state.objects (pointer_at s.handed 0) (pointer_at s.handed 1) at other) in
+    let answers = rw (to_z-of_z w128 c.from-in-Diff.result fits_size) at (c.in-Err-difference.ensures.differs places s.state.objects (pointer_at s.handed 0) (pointer_at s.handed 1) at other) in
     rw c.in-Diff.is (diff_traps code sizes c.args.line c.args.instr places s c.args.self.now h c.args.self.now c.from-in-Diff.result c.in-Err-difference.kind size answers)
 
 pub returns-in-Ok-compare-clause-alone : goal.returns-in-Ok-compare-clause-alone
 returns-in-Ok-compare-clause-alone g c = λ code sizes places s h.
     let fits_n : SFits w128 c.in-Ok-compare.n = search rules in
-    let gives = rw (to_z-of_z w128 c.in-Ok-compare.n fits_n) at c.give-in-Ok-compare.ensures in
+    let gives = rw (to_z-of_z w128 c.in-Ok-compare.n fits_n) at c.give_number-in-Ok-compare.ensures in
     let at = kept_here code sizes c.args.line c.args.instr places s c.args.self.now h 0 c.address-p.result c.address-p.ensures in
     let other = (kept_here code sizes c.args.line c.args.instr places s c.args.self.now h 1 c.address-in-Pcmp.result c.address-in-Pcmp.ensures).stands in
-    rw c.in-Pcmp.is (pcmp_alone code sizes c.args.line c.args.instr places s c.args.self.now h c.give-in-Ok-compare.new.self c.in-Pcmp.op c.in-Ok-compare.n (c.in-Ok-compare.ensures places s.state.objects (pointer_at s.handed 0) (pointer_at s.handed 1) at other) gives)
+    rw c.in-Pcmp.is (pcmp_alone code sizes c.args.line c.args.instr places s c.args.self.now h c.give_number-in-Ok-compare.new.self c.in-Pcmp.op c.in-Ok-compare.n (c.in-Ok-compare.ensures.compares places s.state.objects (pointer_at s.handed 0) (pointer_at s.handed 1) at other) gives)
 
 pub returns-in-Err-compare-clause-alone : goal.returns-in-Err-compare-clause-alone
 returns-in-Err-compare-clause-alone g c = λ code sizes places s h.
     let at = kept_here code sizes c.args.line c.args.instr places s c.args.self.now h 0 c.address-p.result c.address-p.ensures in
     let other = (kept_here code sizes c.args.line c.args.instr places s c.args.self.now h 1 c.address-in-Pcmp.result c.address-in-Pcmp.ensures).stands in
-    rw c.in-Pcmp.is (pcmp_traps code sizes c.args.line c.args.instr places s c.args.self.now h c.args.self.now c.in-Pcmp.op c.in-Err-compare.kind (c.in-Err-compare.ensures places s.state.objects (pointer_at s.handed 0) (pointer_at s.handed 1) at other))
+    rw c.in-Pcmp.is (pcmp_traps code sizes c.args.line c.args.instr places s c.args.self.now h c.args.self.now c.in-Pcmp.op c.in-Err-compare.kind (c.in-Err-compare.ensures.compares places s.state.objects (pointer_at s.handed 0) (pointer_at s.handed 1) at other))

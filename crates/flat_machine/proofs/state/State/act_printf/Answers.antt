@@ -10,16 +10,16 @@ returns-in-Ok-clause-told g c = λ places s format taken h is t.
     let fits : SFits w128 c.in-Ok.n = search rules in
     let value = rw (to_z-of_z w128 c.in-Ok.n fits) at c.wrap.ensures.value in
     let fits_int : SFits w128 c.wrap.result = search rules in
-    let gives = rw (to_z-of_z w128 c.wrap.result fits_int) at c.give.ensures in
-    printed_seen c.args.line c.args.r places s c.args.self.now c.give.new.self h c.args.pieces.now format is _ _ taken c.in-Ok.n c.wrap.result (c.in-Ok.ensures.puts places s.state.objects s.handed (record { keeps = h.keeps; stand = h.handed })) t value gives
+    let gives = rw (to_z-of_z w128 c.wrap.result fits_int) at c.give_number.ensures in
+    printed_seen c.args.line c.args.r places s c.args.self.now c.give_number.new.self h c.args.pieces.now format is _ _ taken c.in-Ok.n c.wrap.result (c.in-Ok.ensures.puts places s.state.objects s.handed (record { keeps = h.keeps; stand = h.handed })) t value gives
 
 pub returns-in-Ok-clause-moves : goal.returns-in-Ok-clause-moves
 returns-in-Ok-clause-moves g c = λ places s format h is.
     let fits : SFits w128 c.in-Ok.n = search rules in
     let value = rw (to_z-of_z w128 c.in-Ok.n fits) at c.wrap.ensures.value in
     let fits_int : SFits w128 c.wrap.result = search rules in
-    let gives = rw (to_z-of_z w128 c.wrap.result fits_int) at c.give.ensures in
-    printed_moves c.args.line c.args.r places s c.args.self.now c.give.new.self h c.args.pieces.now format is _ _ c.in-Ok.n c.wrap.result (c.in-Ok.ensures.puts places s.state.objects s.handed (record { keeps = h.keeps; stand = h.handed })) value gives
+    let gives = rw (to_z-of_z w128 c.wrap.result fits_int) at c.give_number.ensures in
+    printed_moves c.args.line c.args.r places s c.args.self.now c.give_number.new.self h c.args.pieces.now format is _ _ c.in-Ok.n c.wrap.result (c.in-Ok.ensures.puts places s.state.objects s.handed (record { keeps = h.keeps; stand = h.handed })) value gives
 
 pub returns-in-Err-clause-told : goal.returns-in-Err-clause-told
 returns-in-Err-clause-told g c = λ places s format taken h is t.

@@ -12,12 +12,12 @@ put_line-requires-clause-kept g c = subst (λ addr. IsKept c.args.self.now.memor
 pub returns-in-Ok-clause-told : goal.returns-in-Ok-clause-told
 returns-in-Ok-clause-told g c = λ places s taken h t.
     let stands = subst (λ addr. IsAddressOf places s.state.objects (pointer_at s.handed 0) addr) (sym c.address.ensures) (address_at_is places s.state.objects s.handed c.args.self.now.handed 0 h.handed) in
-    puts_seen c.args.line c.args.r places s c.args.self.now c.give.new.self h _ _ taken (c.in-Ok.ensures.puts places s.state.objects (pointer_at s.handed 0) (record { keeps = h.keeps; stands = stands })) t c.give.ensures
+    puts_seen c.args.line c.args.r places s c.args.self.now c.give_number.new.self h _ _ taken (c.in-Ok.ensures.puts places s.state.objects (pointer_at s.handed 0) (record { keeps = h.keeps; stands = stands })) t c.give_number.ensures
 
 pub returns-in-Ok-clause-moves : goal.returns-in-Ok-clause-moves
 returns-in-Ok-clause-moves g c = λ places s h.
     let stands = subst (λ addr. IsAddressOf places s.state.objects (pointer_at s.handed 0) addr) (sym c.address.ensures) (address_at_is places s.state.objects s.handed c.args.self.now.handed 0 h.handed) in
-    puts_moves c.args.line c.args.r places s c.args.self.now c.give.new.self h _ _ (c.in-Ok.ensures.puts places s.state.objects (pointer_at s.handed 0) (record { keeps = h.keeps; stands = stands })) c.give.ensures
+    puts_moves c.args.line c.args.r places s c.args.self.now c.give_number.new.self h _ _ (c.in-Ok.ensures.puts places s.state.objects (pointer_at s.handed 0) (record { keeps = h.keeps; stands = stands })) c.give_number.ensures
 
 pub returns-in-Err-clause-told : goal.returns-in-Err-clause-told
 returns-in-Err-clause-told g c = λ places s taken h t.

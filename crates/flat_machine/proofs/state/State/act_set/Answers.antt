@@ -16,7 +16,7 @@ returns-in-Ok-clause-leads g c = λ places s h.
     let fits : SFits w128 c.integer-2.result = search rules in
     let count = rw (to_z-of_z w128 c.integer-2.result fits) at c.size_in.ensures.value in
     let start = at_here places s m h 0 c.address-start.result c.address-start.ensures in
-    set_lib_alone places s m h c.args.line c.args.r c.set_bytes.new.self.memory c.give.new.self c.integer-2.result c.size_in.result c.integer.result c.byte_in-byte.result c.integer.ensures byte c.address-start.result c.address-start.ensures c.integer-2.ensures count (c.in-Ok.ensures.changes places s.state.objects (pointer_at s.handed 0) start) (c.set_bytes.ensures.tracks places s.state.objects (pointer_at s.handed 0) start) c.set_bytes.ensures.frame (c.give.ensures ∙ ap (λ k. given k c.args.r (Address c.address-start.result)) c.set_bytes.ensures.others)
+    set_lib_alone places s m h c.args.line c.args.r c.set_bytes.new.self.memory c.give_address.new.self c.integer-2.result c.size_in.result c.integer.result c.byte_in-byte.result c.integer.ensures byte c.address-start.result c.address-start.ensures c.integer-2.ensures count (c.in-Ok.ensures.changes places s.state.objects (pointer_at s.handed 0) start) (c.set_bytes.ensures.tracks places s.state.objects (pointer_at s.handed 0) start) c.set_bytes.ensures.frame (c.give_address.ensures ∙ ap (λ k. given k c.args.r (Address c.address-start.result)) c.set_bytes.ensures.others)
 
 pub returns-in-Err-clause-leads : goal.returns-in-Err-clause-leads
 returns-in-Err-clause-leads g c = λ places s h.

@@ -21,9 +21,9 @@ string_order-requires-clause-other g c = subst (λ addr. IsKept c.args.self.now.
 pub returns-in-Ok-clause-leads : goal.returns-in-Ok-clause-leads
 returns-in-Ok-clause-leads g c = λ places s h.
     let fits_n : SFits w128 c.from.result = search rules in
-    let gives = rw (to_z-of_z w128 c.from.result fits_n) at c.give.ensures in
+    let gives = rw (to_z-of_z w128 c.from.result fits_n) at c.give_number.ensures in
     let stands = subst (λ addr. IsAddressOf places s.state.objects (pointer_at s.handed 0) addr) (sym c.address-p.ensures) (address_at_is places s.state.objects s.handed c.args.self.now.handed 0 h.handed) in
-    rw c.in-Strlen.is (strlen_alone c.args.line places s c.args.self.now h c.args.r c.give.new.self c.in-Ok.n c.from.result (c.in-Ok.ensures places s.state.objects (pointer_at s.handed 0) (record { keeps = h.keeps; stands = stands })) c.from.ensures gives)
+    rw c.in-Strlen.is (strlen_alone c.args.line places s c.args.self.now h c.args.r c.give_number.new.self c.in-Ok.n c.from.result (c.in-Ok.ensures places s.state.objects (pointer_at s.handed 0) (record { keeps = h.keeps; stands = stands })) c.from.ensures gives)
 
 pub returns-in-Err-clause-leads : goal.returns-in-Err-clause-leads
 returns-in-Err-clause-leads g c = λ places s h.
@@ -33,13 +33,13 @@ returns-in-Err-clause-leads g c = λ places s h.
 pub returns-in-Ok-string_order-clause-leads : goal.returns-in-Ok-string_order-clause-leads
 returns-in-Ok-string_order-clause-leads g c = λ places s h.
     let fits_n : SFits w128 c.in-Ok-string_order.n = search rules in
-    let gives = rw (to_z-of_z w128 c.in-Ok-string_order.n fits_n) at c.give-in-Ok-string_order.ensures in
+    let gives = rw (to_z-of_z w128 c.in-Ok-string_order.n fits_n) at c.give_number-in-Ok-string_order.ensures in
     let stands = subst (λ addr. IsAddressOf places s.state.objects (pointer_at s.handed 0) addr) (sym c.address-p.ensures) (address_at_is places s.state.objects s.handed c.args.self.now.handed 0 h.handed) in
     let other = subst (λ addr. IsAddressOf places s.state.objects (pointer_at s.handed 1) addr) (sym c.address.ensures) (address_at_is places s.state.objects s.handed c.args.self.now.handed 1 h.handed) in
-    rw c.in-Strcmp.is (strcmp_alone c.args.line places s c.args.self.now h c.args.r c.give-in-Ok-string_order.new.self c.in-Ok-string_order.n (c.in-Ok-string_order.ensures places s.state.objects (pointer_at s.handed 0) (pointer_at s.handed 1) (record { keeps = h.keeps; stands = stands }) other) gives)
+    rw c.in-Strcmp.is (strcmp_alone c.args.line places s c.args.self.now h c.args.r c.give_number-in-Ok-string_order.new.self c.in-Ok-string_order.n (c.in-Ok-string_order.ensures.orders places s.state.objects (pointer_at s.handed 0) (pointer_at s.handed 1) (record { keeps = h.keeps; stands = stands }) other) gives)
 
 pub returns-in-Err-string_order-clause-leads : goal.returns-in-Err-string_order-clause-leads
 returns-in-Err-string_order-clause-leads g c = λ places s h.
     let stands = subst (λ addr. IsAddressOf places s.state.objects (pointer_at s.handed 0) addr) (sym c.address-p.ensures) (address_at_is places s.state.objects s.handed c.args.self.now.handed 0 h.handed) in
     let other = subst (λ addr. IsAddressOf places s.state.objects (pointer_at s.handed 1) addr) (sym c.address.ensures) (address_at_is places s.state.objects s.handed c.args.self.now.handed 1 h.handed) in
-    rw c.in-Strcmp.is (strcmp_traps c.args.line places s c.args.self.now h c.args.r c.args.self.now c.in-Err-string_order.kind (c.in-Err-string_order.ensures places s.state.objects (pointer_at s.handed 0) (pointer_at s.handed 1) (record { keeps = h.keeps; stands = stands }) other))
+    rw c.in-Strcmp.is (strcmp_traps c.args.line places s c.args.self.now h c.args.r c.args.self.now c.in-Err-string_order.kind (c.in-Err-string_order.ensures.orders places s.state.objects (pointer_at s.handed 0) (pointer_at s.handed 1) (record { keeps = h.keeps; stands = stands }) other))

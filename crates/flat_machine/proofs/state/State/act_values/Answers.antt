@@ -14,16 +14,16 @@ returns-in-Conv-clause-alone c = λ code sizes places s h.
     let fits : SFits w128 c.integer.result = search rules in
     let value = rw (to_z-of_z w128 c.integer.result fits) at c.wrap-n.ensures.value in
     let fits_n : SFits w128 c.wrap-n.result = search rules in
-    let gives = rw (to_z-of_z w128 c.wrap-n.result fits_n) at c.give-in-Conv.ensures in
-    rw c.in-Conv.is (conv_alone code sizes c.args.line c.args.instr places s c.args.self.now c.give-in-Conv.new.self h c.in-Conv.kind c.integer.result c.wrap-n.result c.integer.ensures value gives)
+    let gives = rw (to_z-of_z w128 c.wrap-n.result fits_n) at c.give_number.ensures in
+    rw c.in-Conv.is (conv_alone code sizes c.args.line c.args.instr places s c.args.self.now c.give_number.new.self h c.in-Conv.kind c.integer.result c.wrap-n.result c.integer.ensures value gives)
 
 pub returns-in-Un-clause-alone : goal.returns-in-Un-clause-alone
 returns-in-Un-clause-alone c = λ code sizes places s h.
     let fits : SFits w128 c.integer-in-Un.result = search rules in
-    let value = rw (to_z-of_z w128 c.integer-in-Un.result fits) at c.on_one-n.ensures in
+    let value = rw (to_z-of_z w128 c.integer-in-Un.result fits) at c.on_one-n.ensures.value in
     let fits_n : SFits w128 c.on_one-n.result = search rules in
-    let gives = rw (to_z-of_z w128 c.on_one-n.result fits_n) at c.give-in-Un.ensures in
-    rw c.in-Un.is (un_alone code sizes c.args.line c.args.instr places s c.args.self.now c.give-in-Un.new.self h c.in-Un.op c.in-Un.kind c.integer-in-Un.result c.on_one-n.result c.integer-in-Un.ensures value gives)
+    let gives = rw (to_z-of_z w128 c.on_one-n.result fits_n) at c.give_number-in-Un.ensures in
+    rw c.in-Un.is (un_alone code sizes c.args.line c.args.instr places s c.args.self.now c.give_number-in-Un.new.self h c.in-Un.op c.in-Un.kind c.integer-in-Un.result c.on_one-n.result c.integer-in-Un.ensures value gives)
 
 pub returns-in-Bin-clause-alone : goal.returns-in-Bin-clause-alone
 returns-in-Bin-clause-alone c = λ code sizes places s h. rw c.in-Bin.is (c.operate.ensures.alone code sizes places s h)

@@ -13,28 +13,28 @@ use Rattle.flat_machine.proofs.state.State.get.Goals as goal
 pub returns-in-Ok-Some-clause-told : goal.returns-in-Ok-Some-clause-told
 returns-in-Ok-Some-clause-told g c = λ places s taken h l t.
     let fits_n : SFits w128 c.from.result = search rules in
-    let gives = rw (to_z-of_z w128 c.from.result fits_n) at c.give.ensures in
+    let gives = rw (to_z-of_z w128 c.from.result fits_n) at c.give_number.ensures in
     let bytes = rw c.in-Ok-Some.field-0-is at c.in-Ok-Some.ensures.bytes in
     let notes = rw c.in-Ok-Some.field-0-is at c.in-Ok-Some.ensures.notes in
     let b = bytes s.state.input l in
-    get_seen c.args.r places s c.args.self.now c.give.new.self h c.in-Ok-Some.byte b.0 s.state.input c.from.result taken _ _ (search rules) b.1 b.2 (ap Some notes ∙ ap (λ (o : Option (List ℕ)). option_map (λ (ns : List ℕ). ns ++ mark ∷ []) o) t) c.from.ensures gives
+    get_seen c.args.r places s c.args.self.now c.give_number.new.self h c.in-Ok-Some.byte b.0 s.state.input c.from.result taken _ _ (search rules) b.1 b.2 (ap Some notes ∙ ap (λ (o : Option (List ℕ)). option_map (λ (ns : List ℕ). ns ++ mark ∷ []) o) t) c.from.ensures gives
 
 pub returns-in-Ok-Some-clause-moves : goal.returns-in-Ok-Some-clause-moves
 returns-in-Ok-Some-clause-moves g c = λ places s h.
     let fits_n : SFits w128 c.from.result = search rules in
-    let gives = rw (to_z-of_z w128 c.from.result fits_n) at c.give.ensures in
-    get_moves c.args.r places s c.args.self.now c.give.new.self h c.in-Ok-Some.byte c.from.result (search rules) c.from.ensures gives
+    let gives = rw (to_z-of_z w128 c.from.result fits_n) at c.give_number.ensures in
+    get_moves c.args.r places s c.args.self.now c.give_number.new.self h c.in-Ok-Some.byte c.from.result (search rules) c.from.ensures gives
 
 pub returns-in-Ok-None-clause-told : goal.returns-in-Ok-None-clause-told
 returns-in-Ok-None-clause-told g c = λ places s taken h l t.
     let bytes = rw c.in-Ok-None.field-0-is at c.in-Ok-None.ensures.bytes in
     let notes = rw c.in-Ok-None.field-0-is at c.in-Ok-None.ensures.notes in
     let b = bytes s.state.input l in
-    get_seen_end c.args.r places s c.args.self.now c.give-in-Ok-None.new.self h s.state.input _ taken _ _ refl b.0 b.1 (ap Some (notes ∙ append-nil (c.args.console.now.done.notes ++ c.args.console.now.page.notes)) ∙ t) refl c.give-in-Ok-None.ensures
+    get_seen_end c.args.r places s c.args.self.now c.give_number-in-Ok-None.new.self h s.state.input _ taken _ _ refl b.0 b.1 (ap Some (notes ∙ append-nil (c.args.console.now.done.notes ++ c.args.console.now.page.notes)) ∙ t) refl c.give_number-in-Ok-None.ensures
 
 pub returns-in-Ok-None-clause-moves : goal.returns-in-Ok-None-clause-moves
 returns-in-Ok-None-clause-moves g c = λ places s h.
-    get_moves_end c.args.r places s c.args.self.now c.give-in-Ok-None.new.self h _ refl c.give-in-Ok-None.ensures
+    get_moves_end c.args.r places s c.args.self.now c.give_number-in-Ok-None.new.self h _ refl c.give_number-in-Ok-None.ensures
 
 pub returns-in-Err-clause-told : goal.returns-in-Err-clause-told
 returns-in-Err-clause-told g c = λ places s taken h l t.

@@ -31,7 +31,7 @@ returns-in_default-new_object-clause-alone g c = λ code element places s has h 
     let m = c.args.self.now in
     let to = leads_to places s m h c.args.from c.requires.address c.requires.some in
     let may = c.in_default.ensures places s.state.objects to.0 to.1 to.3 in
-    grow_none c.args.line c.args.instr.a c.args.size element places s m h c.args.from to.0 to.1 to.2 to.3.stands may code c.give.new.self (c.in_default-new_object.ensures.place places s.state.objects h.keeps) (c.give.ensures ∙ ap (λ k. given k (Some c.args.instr.a) (Address 0)) c.in_default-new_object.ensures.none)
+    grow_none c.args.line c.args.instr.a c.args.size element places s m h c.args.from to.0 to.1 to.2 to.3.stands may code c.give_address.new.self (c.in_default-new_object.ensures.place places s.state.objects h.keeps) (c.give_address.ensures ∙ ap (λ k. given k (Some c.args.instr.a) (Address 0)) c.in_default-new_object.ensures.none)
 
 pub grow-requires : goal.grow-requires
 grow-requires g c =
@@ -75,7 +75,7 @@ free-requires-clause-standing g c =
     let objects = q.1.state.objects ++ heap_object c.args.line c.args.size c.requires.form.0 ∷ [] in
     let changes = c.in_default-grow.ensures.changes places' objects (length q.1.state.objects) to.0 store.at store.stands in
     let stays = c.grow.ensures.tracks places' objects (length q.1.state.objects) to.0 store.at store.stands in
-    let same = taken_same m c.new_object.new.self c.grow.new.self c.put.new.self c.args.instr.a (Address c.in-Some.to) made.some c.grow.ensures.others c.put.ensures in
+    let same = taken_same m c.new_object.new.self c.grow.new.self c.put_address.new.self c.args.instr.a (Address c.in-Some.to) made.some c.grow.ensures.others c.put_address.ensures in
     let now = taken c.args.line c.args.instr.a c.args.size c.requires.form.0 q.0 q.1 m q.2.stands c.args.from to.0 to.1 to.2 to.3.stands may c.new_object.new.self.memory c.in-Some.to made.frame added tracked made.place c.grow.new.self.memory changes stays c.grow.ensures.frame in
     let well = stands_well_taken c.args.line c.args.instr.a c.args.size c.requires.form.0 q.0 q.1 m q.2.stands c.args.from to.0 to.1 to.2 to.3.stands may c.new_object.new.self.memory c.in-Some.to made.frame added tracked made.place c.grow.new.self.memory changes stays c.grow.ensures.frame q.2.counts q.2.room in
     (places', now, subst (λ (k : Kept). StandsWell places' now k) (sym same) well)
@@ -93,7 +93,7 @@ returns-in_err-free-clause-alone g c = λ code element places s has h counts for
     let objects = s.state.objects ++ heap_object c.args.line c.args.size element ∷ [] in
     let changes = c.in_default-grow.ensures.changes places' objects (length s.state.objects) to.0 store.at store.stands in
     let stays = c.grow.ensures.tracks places' objects (length s.state.objects) to.0 store.at store.stands in
-    let same = taken_same m c.new_object.new.self c.grow.new.self c.put.new.self c.args.instr.a (Address c.in-Some.to) made.some c.grow.ensures.others c.put.ensures in
+    let same = taken_same m c.new_object.new.self c.grow.new.self c.put_address.new.self c.args.instr.a (Address c.in-Some.to) made.some c.grow.ensures.others c.put_address.ensures in
     let now = taken c.args.line c.args.instr.a c.args.size element places s m h c.args.from to.0 to.1 to.2 to.3.stands may c.new_object.new.self.memory c.in-Some.to made.frame added tracked made.place c.grow.new.self.memory changes stays c.grow.ensures.frame in
     let stands = subst (λ (k : Kept). Stands places' now k) (sym same) (stands_taken c.args.line c.args.instr.a c.args.size element places s m h c.args.from to.0 to.1 to.2 to.3.stands may c.new_object.new.self.memory c.in-Some.to made.frame added tracked made.place c.grow.new.self.memory changes stays c.grow.ensures.frame) in
     let counted = subst (λ (k : Kept). CountsWell k now) (sym same) (counts_taken c.args.line c.args.instr.a c.args.size element places s m h c.args.from to.0 to.1 to.2 to.3.stands may c.new_object.new.self.memory c.in-Some.to made.frame added tracked made.place c.grow.new.self.memory changes stays c.grow.ensures.frame counts) in
@@ -115,7 +115,7 @@ returns-clause-alone g c = λ code element places s has h counts form.
     let objects = s.state.objects ++ heap_object c.args.line c.args.size element ∷ [] in
     let changes = c.in_default-grow.ensures.changes places' objects (length s.state.objects) to.0 store.at store.stands in
     let stays = c.grow.ensures.tracks places' objects (length s.state.objects) to.0 store.at store.stands in
-    let same = taken_same m c.new_object.new.self c.grow.new.self c.put.new.self c.args.instr.a (Address c.in-Some.to) made.some c.grow.ensures.others c.put.ensures in
+    let same = taken_same m c.new_object.new.self c.grow.new.self c.put_address.new.self c.args.instr.a (Address c.in-Some.to) made.some c.grow.ensures.others c.put_address.ensures in
     let now = taken c.args.line c.args.instr.a c.args.size element places s m h c.args.from to.0 to.1 to.2 to.3.stands may c.new_object.new.self.memory c.in-Some.to made.frame added tracked made.place c.grow.new.self.memory changes stays c.grow.ensures.frame in
     let stands = subst (λ (k : Kept). Stands places' now k) (sym same) (stands_taken c.args.line c.args.instr.a c.args.size element places s m h c.args.from to.0 to.1 to.2 to.3.stands may c.new_object.new.self.memory c.in-Some.to made.frame added tracked made.place c.grow.new.self.memory changes stays c.grow.ensures.frame) in
     let counted = subst (λ (k : Kept). CountsWell k now) (sym same) (counts_taken c.args.line c.args.instr.a c.args.size element places s m h c.args.from to.0 to.1 to.2 to.3.stands may c.new_object.new.self.memory c.in-Some.to made.frame added tracked made.place c.grow.new.self.memory changes stays c.grow.ensures.frame counts) in
@@ -158,7 +158,7 @@ returns-in_err-free-clause-image g c = λ code element places s has h counts for
     let objects = s.state.objects ++ heap_object c.args.line c.args.size element ∷ [] in
     let changes = c.in_default-grow.ensures.changes places' objects (length s.state.objects) to.0 store.at store.stands in
     let stays = c.grow.ensures.tracks places' objects (length s.state.objects) to.0 store.at store.stands in
-    let same = taken_same m c.new_object.new.self c.grow.new.self c.put.new.self c.args.instr.a (Address c.in-Some.to) made.some c.grow.ensures.others c.put.ensures in
+    let same = taken_same m c.new_object.new.self c.grow.new.self c.put_address.new.self c.args.instr.a (Address c.in-Some.to) made.some c.grow.ensures.others c.put_address.ensures in
     let now = taken c.args.line c.args.instr.a c.args.size element places s m h c.args.from to.0 to.1 to.2 to.3.stands may c.new_object.new.self.memory c.in-Some.to made.frame added tracked made.place c.grow.new.self.memory changes stays c.grow.ensures.frame in
     let stands = subst (λ (k : Kept). Stands places' now k) (sym same) (stands_taken c.args.line c.args.instr.a c.args.size element places s m h c.args.from to.0 to.1 to.2 to.3.stands may c.new_object.new.self.memory c.in-Some.to made.frame added tracked made.place c.grow.new.self.memory changes stays c.grow.ensures.frame) in
     let counted = subst (λ (k : Kept). CountsWell k now) (sym same) (counts_taken c.args.line c.args.instr.a c.args.size element places s m h c.args.from to.0 to.1 to.2 to.3.stands may c.new_object.new.self.memory c.in-Some.to made.frame added tracked made.place c.grow.new.self.memory changes stays c.grow.ensures.frame counts) in

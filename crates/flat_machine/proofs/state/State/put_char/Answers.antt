@@ -12,16 +12,16 @@ returns-in-Ok-clause-told g c = λ places s taken h t.
     let fits : SFits w128 c.args.n = search rules in
     let byte = rw (to_z-of_z w128 c.args.n fits) at c.byte_in-byte.ensures in
     let fits_n : SFits w128 c.from.result = search rules in
-    let gives = rw (to_z-of_z w128 c.from.result fits_n) at c.give.ensures in
-    put_seen c.args.r places s c.args.self.now c.give.new.self h (byte_in c.args.n) c.from.result taken _ (c.from.ensures ∙ ap pos byte) gives (c.in-Ok.ensures.bytes taken t ∙ ap (λ b. Some (taken ++ b ∷ [])) byte)
+    let gives = rw (to_z-of_z w128 c.from.result fits_n) at c.give_number.ensures in
+    put_seen c.args.r places s c.args.self.now c.give_number.new.self h (byte_in c.args.n) c.from.result taken _ (c.from.ensures ∙ ap pos byte) gives (c.in-Ok.ensures.bytes taken t ∙ ap (λ b. Some (taken ++ b ∷ [])) byte)
 
 pub returns-in-Ok-clause-moves : goal.returns-in-Ok-clause-moves
 returns-in-Ok-clause-moves g c = λ places s h.
     let fits : SFits w128 c.args.n = search rules in
     let byte = rw (to_z-of_z w128 c.args.n fits) at c.byte_in-byte.ensures in
     let fits_n : SFits w128 c.from.result = search rules in
-    let gives = rw (to_z-of_z w128 c.from.result fits_n) at c.give.ensures in
-    put_moves c.args.r places s c.args.self.now c.give.new.self h (byte_in c.args.n) c.from.result (c.from.ensures ∙ ap pos byte) gives
+    let gives = rw (to_z-of_z w128 c.from.result fits_n) at c.give_number.ensures in
+    put_moves c.args.r places s c.args.self.now c.give_number.new.self h (byte_in c.args.n) c.from.result (c.from.ensures ∙ ap pos byte) gives
 
 pub returns-in-Err-clause-told : goal.returns-in-Err-clause-told
 returns-in-Err-clause-told g c = λ places s taken h t.
