@@ -5,7 +5,7 @@ A session is a block ```console: a line `$ COMMAND`, lines `> ..` that go on wit
 stream. The commands of a document are run in one shell, one after another, in a scratch folder that has the files of the
 repository. A block whose first line names a file behind its language, as ```c bug.c, is that file: where the repository has
 one of that name, it must be the same; else it is made in the scratch folder. A block ```console needs WORD.. is left out where
-one of these programs is missing. Exit status 0 where nothing differs."""
+one of these programs is missing, or of these packages of Debian for Python, as python3-rich. Exit status 0 where nothing differs."""
 
 import glob
 import os
@@ -73,9 +73,17 @@ def commands(block):
     return found
 
 
+def is_there(word):
+    """Whether a program is there, or a package of Debian's Python."""
+    if not word.startswith("python3-"):
+        return shutil.which(word) is not None
+    module = word.removeprefix("python3-")
+    return subprocess.run(["/usr/bin/python3", "-c", f"import {module}"], capture_output=True).returncode == 0
+
+
 def needs(block):
-    """The programs that a session wants and that are missing."""
-    return [word for word in block.words[2:] if not shutil.which(word)] if block.words[1:2] == ["needs"] else []
+    """The programs and packages that a session wants and that are missing."""
+    return [word for word in block.words[2:] if not is_there(word)] if block.words[1:2] == ["needs"] else []
 
 
 def scratch(folder):
