@@ -7,7 +7,7 @@ use Rattle.std.proofs.lemmas.Option.{slice_get-map}
 use Rattle.std.specs.List.{IsDistinct}
 use Rattle.std.specs.Prelude.{Contains, nat_eq}
 use Rattle.core_soundness.proofs.Words.Trees.{name_of, Tree, Trees, Leaf, At, Node, none, ◌▹◌}
-use Rattle.core_soundness.proofs.Words.Types.{no_layout, array_layout, number_layout, TagTable, layout_in, PlainType, built_ins, numbered_from, ScopeList, Table, named_in, innermost, after_declaration, tag_name, with_layers, tag_named, is_function, has_no_size, BuiltIn, DeclaredTwice, Incomplete, LeftOut, StaticTooLarge}
+use Rattle.core_soundness.proofs.Words.Types.{no_layout, array_layout, number_layout, TagTable, layout_in, PlainType, built_ins, numbered_from, ScopeList, Table, named_in, innermost, after_declaration, tag_name, with_layers, tag_named, is_built_in, is_function, has_no_size, BuiltIn, DeclaredTwice, Incomplete, LeftOut, StaticTooLarge}
 use Rattle.core_soundness.proofs.Words.Core.{block_size, IsLayoutOfType, IsTarget, IsStatic, Core, Start, Static}
 use Rattle.core_soundness.proofs.Words.Elaborating.{addressed_in, Context, Variable, asked, first_context, size_or_zero, Storage, Typedef, storage_of, specs_alone, specs_before, function_number, with_function, declared_function, no_initializer, variable_number_of, with_new_variable, with_variable, start_of, start_in, started_variable, fill_variable, file_object, file_value, file_name, name_in, entry, entries, declaration, specs, layers, walked, elaborated, begun, is_defined, body_begun, body_ended, body, named_definition, definition, external, externals, Target, InStatic, initialize, no_start, with_init_layers, trimmed, is_twice, declared_as, static_by, variable_static, literal_static, core_of, start_by, with_static, around_body, items}
 use Rattle.core_soundness.proofs.Words.Facts.{HasLayouts}
@@ -146,7 +146,11 @@ no_initializer_pointed : (inits : Trees) (c : Context) → Pointed c → Led Poi
 no_initializer_pointed inits c h = search (arith, led_ok, led_after, led_refused) fits 100
 
 value_pointed : (line : ℕ) (name : List ℕ) (type : PlainType) (inits : Trees) (c : Context) → Pointed c → Led Pointed (file_value line name type inits c)
-value_pointed line name type inits c h = search (arith, led_cond, led_after, no_initializer_pointed, settled_pointed, function_settled, object_pointed)
+value_pointed line name type inits c h =
+    led_cond Pointed (is_built_in type (named_in name c.scopes.file)) (no_initializer inits c) _ (no_initializer_pointed inits c h)
+    (led_cond Pointed (is_function type) _ (file_object line name type inits c)
+    (led_after Pointed (declared_function line name type c) (λ d q. no_initializer_pointed inits d (settled_pointed c d (function_settled line name type c d q) h)))
+    (object_pointed line name type inits c h))
 
 file_name_pointed : (line : ℕ) (storage : Storage) (name : List ℕ) (type : PlainType) (inits : Trees) (c : Context) → Pointed c → Led Pointed (file_name line storage name type inits c)
 file_name_pointed line Typedef name type inits c h = λ d q. settled_pointed c d (declared_levels line name (n.Typedef type) c c tt (levels_refl c) d q).settled h
