@@ -3,7 +3,8 @@
 
 Runs `./heapsafe COMMAND FILE` (COMMAND is `print` where none is given) on generated texts of 512 KiB and of twice that, and
 prints, for each kind of text, the ratio of the two processor times and the greatest memory per byte of the longer text. Each time is the
-least of three runs, less that of a text of a few bytes. A ratio of 2 is linear. The shapes that once grew faster are run, or laid out."""
+least of five runs, which take turns with those of the other texts, less that of a text of a few bytes. A ratio of 2 is linear. The shapes
+that once grew faster are run, or laid out."""
 
 import os
 import resource
@@ -238,33 +239,31 @@ def run(command, path):
     return took, used.ru_maxrss * 1024, words
 
 
-def least(command, path):
-    runs = [run(command, path) for _ in range(3)]
-    return min(took for took, _, _ in runs), max(memory for _, memory, _ in runs), runs[0][2]
+def least(command, texts):
+    """Of each text its least time and its greatest memory, and what is said of the last: of five runs by turns."""
+    paths = [f"{number}.c" for number in range(len(texts))]
+    for path, text in zip(paths, texts):
+        with open(path, "w", encoding="latin-1") as file:
+            file.write(text)
+    turns = [[run(command, path) for path in paths] for _ in range(5)]
+    figures = [(min(took for took, _, _ in runs), max(memory for _, memory, _ in runs)) for runs in zip(*turns)]
+    return figures, turns[0][-1][2]
 
 
 def main():
     given = sys.argv[1] if len(sys.argv) > 1 else "print"
     with tempfile.TemporaryDirectory() as folder:
-        path = "a.c"
         os.chdir(folder)
         with open("empty.h", "w", encoding="latin-1"):
             pass
 
-        def measured(command, text):
-            with open(path, "w", encoding="latin-1") as file:
-                file.write(text)
-            return least(command, path)
-
-        measured(given, MAIN)  # the program is built here, where it is missing
+        least(given, [MAIN])  # the program is built here, where it is missing
         print(f"heapsafe {given}, 512 KiB against 1 MiB")
         for kind, command in [(kind, given) for kind in KINDS + MACROS] + SHAPES:
-            nothing, room, _ = measured(command, MAIN)
-            short, _, _ = measured(command, kind(HALF - len(MAIN)) + MAIN)
-            text = kind(2 * HALF - 1024 - len(MAIN)) + MAIN
-            long, memory, words = measured(command, text)
+            texts = [MAIN, kind(HALF - len(MAIN)) + MAIN, kind(2 * HALF - 1024 - len(MAIN)) + MAIN]
+            ((nothing, room), (short, _), (long, memory)), words = least(command, texts)
             ratio = (long - nothing) / max(short - nothing, 1e-9)
-            print(f"{kind.__doc__:48} time x{ratio:.2f}  memory {(memory - room) / len(text):.1f} bytes a byte {words.strip()}")
+            print(f"{kind.__doc__:48} time x{ratio:.2f}  memory {(memory - room) / len(texts[-1]):.1f} bytes a byte {words.strip()}")
 
 
 main()
