@@ -70,12 +70,13 @@ fn main(rt: HostRuntime) -> ExitCode {
 def build_printer(folder):
     """Builds the printer, and gives its path."""
     os.makedirs(f"{folder}/crates/token_printer/src")
-    for name in ("hs_base", "c_lexer", "c_pre"):
+    used = [name for name in build_unproved.below(build_unproved.crates(TOP), "c_pre", []) if os.path.isdir(f"{TOP}/crates/{name}")]
+    for name in (*used, "c_pre"):
         os.symlink(f"{TOP}/crates/{name}", f"{folder}/crates/{name}")
     with open(f"{folder}/crates/token_printer/src/main.rt", "w", encoding="utf-8") as it:
         it.write(PRINTER)
     with open(f"{TOP}/crates.txt", encoding="utf-8") as all_lines, open(f"{folder}/crates.txt", "w", encoding="utf-8") as it:
-        it.writelines(line for line in all_lines if line.split(":")[0] in ("hs_base", "c_lexer", "c_pre"))
+        it.writelines(line for line in all_lines if line.split(":")[0] in (*used, "c_pre"))
         it.write("token_printer: c_lexer c_pre hs_base\n")
     program = f"{folder}/printer"
     if not build_unproved.build(folder, program, program_of="token_printer"):

@@ -1,5 +1,4 @@
-#if SIZE > 10
+#error "not for this machine"
 int main(void) {
   return 0;
 }
-#endif

@@ -8,3 +8,4 @@ pub mod Scoping
 mod Branches
 mod Operations
 mod Parsing
+mod Conditions

@@ -11,3 +11,6 @@ pub const CONDITION: usize = 13;
 pub const ASSIGNMENT: usize = 14;
 
 pub const COMMA: usize = 15;
+
+/// How deep a tree may be.
+pub const DEPTH: usize = 400;

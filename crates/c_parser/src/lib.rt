@@ -5,6 +5,8 @@
 //! (`Reads` of `parser_parts`), and the laws of that crate say that this is the tree of the grammar of `c_tree`. Lists are read
 //! by loops, so a text of any length takes no more of the stack than its depth asks for.
 //!
+//! [`parse_condition`] gives the tree of a condition of the preprocessor, one expression alone, where tokens are one.
+//!
 //! The readers of expressions, declarators and specs call one another, and so do those of statements: each such cycle has one
 //! proof. What a reader asks of a token, a name, an operator or a depth is answered outside of them, in `parser_parts`.
 //!
@@ -12,6 +14,7 @@
 //! they call themselves through others: a text at the greatest depth has to be read with 4 MiB of it.
 #![tactic(auto)]
 
+mod condition;
 mod declarator;
 mod error;
 mod expression;
@@ -29,5 +32,6 @@ mod strings;
 mod tags;
 mod unit;
 
+pub use condition::parse_condition;
 pub use error::ParseError;
 pub use unit::parse;

@@ -11,15 +11,13 @@ ghost use Rattle.c_parser.specs.Told.{IsMissing, IsStopped};
 
 use crate::error::ParseError;
 use crate::external::external;
+use crate::levels::DEPTH;
 use c_lexer::Token;
 use c_tree::{Decl, Unit};
 use grammar_reading::{texts_are_read, trees_of_texts_are_read};
 use hs_base::{Items, NoMemory};
 use parser_parts::{ReadError, Reader};
 use std::alloc::Global;
-
-/// How deep a tree may be.
-const DEPTH: usize = 400;
 
 /// The tree of the tokens of a text.
 ///

@@ -1,5 +1,5 @@
 -- Every line leaves formed tokens and macros.
-use Rattle.std.proofs.Common.{◌≡◌, ℕ, ◌+◌, ◌-◌, ◌≤◌, Bool, true, false, cond, ◌||◌, not, bytes_eq, List, [], ◌∷◌, ◌++◌, map, length, ◌==◌, Option, Some, None, option_map, Result, Ok, Err, All, refl, sym, subst, arith, codes, length-append, length-drop, ◌&&◌}
+use Rattle.std.proofs.Common.{◌≡◌, ℕ, ◌+◌, ◌-◌, ◌≤◌, Bool, true, false, cond, ◌||◌, not, bytes_eq, List, [], ◌∷◌, ◌++◌, map, length, ◌==◌, Option, Some, None, option_map, Result, Ok, Err, All, refl, sym, ap, subst, arith, codes, length-append, length-drop, ◌&&◌}
 use Rattle.std.proofs.lemmas.List.{length-map}
 use Rattle.std.specs.Prelude.{is_some, IfSome}
 use Rattle.std.proofs.lemmas.List.Elements.{All-nil, All-cons, All-head, All-tail, All-append, All-map, All-weaker}
@@ -18,7 +18,8 @@ use Rattle.c_pre.specs.Lines.{behind_spaces, behind_hash, directive_rest, first_
 use Rattle.c_pre.specs.Texts.{most_bytes}
 use Rattle.c_lexer.specs.Bytes.{is_space}
 use Rattle.std.specs.List.{list_all, prefix_len}
-use Rattle.c_pre.specs.Groups.{is_live, is_read, first_line, turned, closed, skipped}
+use Rattle.c_pre.specs.Groups.{is_live, is_read, is_over, first_line, opened, turned, branched, closed, skipped}
+use Rattle.c_pre.specs.Conditions.{condition_asked}
 use Rattle.c_pre.specs.Directives.{is_name, is_sign, is_among, is_path_byte, path_of, included_name, is_string_kind, names_from, signature_of, with_signature, function_behind, macro_behind, takes_arguments, define_of, include_of, only_name, named_by, alone, directive_by, directive_of}
 use Rattle.c_pre.specs.Macros.{found, with_entry, same_macro, defined_by, defined}
 use Rattle.c_pre.specs.Expansion.{expanded, fresh, most_work}
@@ -33,7 +34,7 @@ use Rattle.c_pre.specs.declared.directive.Signature.{Signature}
 use Rattle.c_pre.specs.declared.directive.Naming.{Naming}
 use Rattle.c_pre.specs.declared.directive.Naming.TheVariants as naming
 use Rattle.c_pre.specs.declared.directive.Directive.{Directive}
-use Rattle.c_pre.specs.declared.directive.Directive.TheVariants.{Empty, Include, Define, Undefine, Group as GroupOf, Else, EndIf}
+use Rattle.c_pre.specs.declared.directive.Directive.TheVariants.{Empty, Include, Define, Undefine, Group as GroupOf, If, ElseIf, Else, EndIf}
 use Rattle.c_pre.specs.declared.answer.PreKind.{PreKind}
 use Rattle.c_pre.specs.declared.answer.PreKind.TheVariants.{Redefined}
 use Rattle.c_pre.specs.declared.answer.Refusal.{Refusal}
@@ -42,6 +43,7 @@ use Rattle.c_pre.specs.declared.here.Here.{Here}
 use Rattle.c_pre.specs.declared.progress.Progress.{Progress}
 use Rattle.c_pre.proofs.Lexed.{few_cut, short_cut}
 use Rattle.c_pre.proofs.Formed.{OnScan, expanded_scan}
+use Rattle.c_pre.proofs.Asked.{AsksMore, asks_more}
 
 abbrev OnTokens : ℕ → Result (List Token) LexError → Type 0
 OnTokens most (Ok tokens) = All IsFormed tokens × (length tokens ≤ most)
@@ -133,6 +135,8 @@ OnDirective Empty = Unit {0}
 OnDirective (Include name) = list_all is_path_byte name ≡ true
 OnDirective (Undefine name) = Unit {0}
 OnDirective (GroupOf name wanted) = Unit {0}
+OnDirective (If tokens) = All IsFormed tokens
+OnDirective (ElseIf tokens) = All IsFormed tokens
 OnDirective Else = Unit {0}
 OnDirective EndIf = Unit {0}
 
@@ -216,8 +220,10 @@ directive_by_formed word rest args h =
     (pick (bytes_eq word (codes "undef")) _ _ (named_on naming.Undefine (only_name args))
     (pick (bytes_eq word (codes "ifdef")) _ _ (named_on (naming.Group true) (only_name args))
     (pick (bytes_eq word (codes "ifndef")) _ _ (named_on (naming.Group false) (only_name args))
+    (pick (bytes_eq word (codes "if")) (Some (If args)) _ h
+    (pick (bytes_eq word (codes "elif")) (Some (ElseIf args)) _ h
     (pick (bytes_eq word (codes "else")) _ _ (alone_on Else args tt)
-    (pick (bytes_eq word (codes "endif")) (alone EndIf args) None (alone_on EndIf args tt) tt))))))
+    (pick (bytes_eq word (codes "endif")) (alone EndIf args) None (alone_on EndIf args tt) tt))))))))
 
 directive_formed : (rest : List ℕ) (tokens : List Token) → All IsFormed tokens → OnOption (directive_of rest tokens)
 directive_formed rest [] h = tt
@@ -236,8 +242,14 @@ tokens_formed line most rest (Ok tokens) h = form_formed line (directive_of rest
 tokens_formed line most rest (Err (lex.Bad kind at)) h = tt
 tokens_formed line most rest (Err lex.NoMemory) h = tt
 
+pragma_by : (b : Bool) (r : Result Directive Refusal) → OnResult r → OnResult (cond b (Ok Empty) r)
+pragma_by true r h = tt
+pragma_by false r h = h
+
 directive_on_formed : Cuts → (line : ℕ) (rest : List ℕ) → length rest ≤ most_bytes → OnResult (directive_on line rest)
-directive_on_formed cuts line rest low = tokens_formed line (length rest) rest (rest_lexed rest) (rest_by cuts (begins_with 35 (behind_spaces rest)) rest low)
+directive_on_formed cuts line rest low =
+    pragma_by (bytes_eq (first_word rest) (codes "pragma")) (of_tokens line rest (rest_lexed rest))
+    (tokens_formed line (length rest) rest (rest_lexed rest) (rest_by cuts (begins_with 35 (behind_spaces rest)) rest low))
 
 -- the tokens so far and those of the run are no more than this
 abbrev pub Holds : ℕ → ℕ → Here → Progress → Type 0
@@ -283,6 +295,27 @@ macros_formed : (n w line : ℕ) (here : Here) (p : Progress) (r : Result Table 
 macros_formed n w line here p (Ok table) f h = ((record { tokens = f.0.tokens; macros = h }, f.1, f.2), tt)
 macros_formed n w line here p (Err e) f h = tt
 
+-- what was read so far, with the work that a condition took
+abbrev OnAsked : ℕ → ℕ → Here → Result (Bool × Progress) Refusal → Type 0
+OnAsked n w here (Ok a) = Holds n w here a.1
+OnAsked n w here (Err e) = Unit {0}
+
+asked_holds : (n w : ℕ) (here : Here) (p : Progress) (r : Result (Bool × Progress) Refusal) → Holds n w here p → AsksMore p r → OnAsked n w here r
+asked_holds n w here p (Err e) f h = tt
+asked_holds n w here p (Ok a) f h = (
+  record { tokens = subst (All IsFormed) (sym h.tokens) f.0.tokens; macros = subst (λ (t : Table). All IsFormedEntry t.names) (sym h.macros) f.0.macros },
+  omega (arith, f.1, h.more, ap length h.tokens),
+  λ k. h.most (f.2 k),
+)
+
+if_formed : (n w : ℕ) (here : Here) (r : Result (Bool × Progress) Refusal) → OnAsked n w here r → OnStep n w (and_then r (λ a. Ok (step (record here { groups = here.groups ++ opened here.line a.0 ∷ [] }) a.1)))
+if_formed n w here (Ok a) h = (h, tt)
+if_formed n w here (Err e) h = tt
+
+else_if_formed : (n w : ℕ) (here : Here) (r : Result (Bool × Progress) Refusal) → OnAsked n w here r → OnStep n w (and_then r (λ a. with_groups here a.1 (at_line here.line (branched a.0 here.groups))))
+else_if_formed n w here (Ok a) h = groups_formed n w here a.1 (at_line here.line (branched a.0 here.groups)) h
+else_if_formed n w here (Err e) h = tt
+
 obeyed_formed : (n w : ℕ) (d : Directive) (here : Here) (p : Progress) → OnDirective d → Holds n w here p → OnStep n w (obeyed d here p)
 unfolding obeyed
 obeyed_formed n w Empty here p h f = (f, tt)
@@ -290,6 +323,12 @@ obeyed_formed n w (Include name) here p h f = (f, h)
 obeyed_formed n w (Define m) here p h f = macros_formed n w here.line here p (defined m p.macros) f (defined_formed (found m.name p.macros) m p.macros h f.0.macros)
 obeyed_formed n w (Undefine name) here p h f = ((record { tokens = f.0.tokens; macros = entry_formed name None p.macros.names tt f.0.macros }, f.1, f.2), tt)
 obeyed_formed n w (GroupOf name wanted) here p h f = (f, tt)
+obeyed_formed n w (If tokens) here p h f =
+    if_formed n w here (condition_asked here.line tokens p)
+    (asked_holds n w here p (condition_asked here.line tokens p) f (asks_more here.line tokens p h f.0.macros))
+obeyed_formed n w (ElseIf tokens) here p h f =
+    else_if_formed n w here (condition_asked here.line tokens p)
+    (asked_holds n w here p (condition_asked here.line tokens p) f (asks_more here.line tokens p h f.0.macros))
 obeyed_formed n w Else here p h f = groups_formed n w here p (at_line here.line (turned here.groups)) f
 obeyed_formed n w EndIf here p h f = groups_formed n w here p (at_line here.line (closed here.groups)) f
 
@@ -297,13 +336,15 @@ then_obeyed : (n w : ℕ) (r : Result Directive Refusal) (here : Here) (p : Prog
 then_obeyed n w (Ok d) here p h f = obeyed_formed n w d here p h f
 then_obeyed n w (Err e) here p h f = tt
 
-from_formed : Cuts → (n w : ℕ) (b : Bool) (line rest : List ℕ) (here : Here) (p : Progress) → length rest ≤ most_bytes → OnProgress n w (Ok p) → OnStep (n + length line) w (cond b (Ok (step (at_header line here) p)) (and_then (directive_on here.line rest) (λ d. obeyed d (behind_line here) p)))
-from_formed cuts n w true line rest here p low f = ((f.0, omega (arith, f.1), f.2), tt)
-from_formed cuts n w false line rest here p low f =
+from_formed : Cuts → (n w : ℕ) (b over : Bool) (line rest : List ℕ) (here : Here) (p : Progress) → length rest ≤ most_bytes → OnProgress n w (Ok p) → OnStep (n + length line) w (cond b (Ok (step (at_header line here) p)) (cond over (with_groups (behind_line here) p (at_line here.line (branched false here.groups))) (and_then (directive_on here.line rest) (λ d. obeyed d (behind_line here) p))))
+from_formed cuts n w true over line rest here p low f = ((f.0, omega (arith, f.1), f.2), tt)
+from_formed cuts n w false true line rest here p low f =
+    groups_formed (n + length line) w (behind_line here) p (at_line here.line (branched false here.groups)) (f.0, omega (arith, f.1), f.2)
+from_formed cuts n w false false line rest here p low f =
     then_obeyed (n + length line) w (directive_on here.line rest) (behind_line here) p (directive_on_formed cuts here.line rest low) (f.0, omega (arith, f.1), f.2)
 
 then_directed : Cuts → (n w : ℕ) (r : Result Progress Refusal) (line rest : List ℕ) (here : Here) → length rest ≤ most_bytes → OnProgress n w r → OnStep (n + length line) w (and_then r (λ q. directed_from line rest here q))
-then_directed cuts n w (Ok q) line rest here low f = from_formed cuts n w (is_some (include_end rest)) line rest here q low f
+then_directed cuts n w (Ok q) line rest here low f = from_formed cuts n w (is_some (include_end rest)) (is_over (first_word rest) here.groups) line rest here q low f
 then_directed cuts n w (Err e) line rest here low f = tt
 
 directed_formed : Cuts → (line rest : List ℕ) (here : Here) (p : Progress) → length here.run ≤ most_bytes → length rest ≤ most_bytes → Formed p → OnStep (length p.tokens + length here.run + length line) p.work (directed line rest here p)

@@ -7,6 +7,7 @@ pub mod Including
 pub mod Places
 pub mod Left
 pub mod Formed
+pub mod Asked
 pub mod FormedLines
 pub mod Replacing
 pub mod Rows

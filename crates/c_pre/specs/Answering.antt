@@ -47,6 +47,13 @@ Steps expected here p (Err (Bad kind line)) = expected ≡ Err (Bad kind line)
 Steps expected here p (Err (Lex kind line)) = expected ≡ Err (Lex kind line)
 Steps expected here p (Err NoMemory) = ⊤
 
+-- a condition is answered, with what is left, or its refusal is, or want of memory
+abbrev pub Asks : Result (Bool × Progress) Refusal → Progress → Result Bool Refusal → Type 0
+Asks expected new (Ok holds) = expected ≡ Ok (holds, new)
+Asks expected new (Err (Bad kind line)) = expected ≡ Err (Bad kind line)
+Asks expected new (Err (Lex kind line)) = expected ≡ Err (Lex kind line)
+Asks expected new (Err NoMemory) = ⊤
+
 -- a step is made, which says whether it goes on, or its refusal is answered, or want of memory
 abbrev pub StepsTo : Next → Scan → Result Bool Refusal → Type 0
 StepsTo next new (Ok true) = next ≡ Goes new

@@ -13,7 +13,7 @@ use Rattle.c_pre.specs.declared.directive.Signature.{Signature}
 use Rattle.c_pre.specs.declared.directive.Naming.{Naming}
 use Rattle.c_pre.specs.declared.directive.Naming.TheVariants as naming
 use Rattle.c_pre.specs.declared.directive.Directive.{Directive}
-use Rattle.c_pre.specs.declared.directive.Directive.TheVariants.{Empty, Include, Define, Undefine, Group, Else, EndIf}
+use Rattle.c_pre.specs.declared.directive.Directive.TheVariants.{Empty, Include, Define, Undefine, Group, If, ElseIf, Else, EndIf}
 
 abbrev pub is_name_kind : TokenKind → Bool
 is_name_kind Name = true
@@ -129,6 +129,8 @@ directive_by word rest args =
     if bytes_eq word (codes "undef") then option_map (named_by naming.Undefine) (only_name args) else
     if bytes_eq word (codes "ifdef") then option_map (named_by (naming.Group true)) (only_name args) else
     if bytes_eq word (codes "ifndef") then option_map (named_by (naming.Group false)) (only_name args) else
+    if bytes_eq word (codes "if") then Some (If args) else
+    if bytes_eq word (codes "elif") then Some (ElseIf args) else
     if bytes_eq word (codes "else") then alone Else args else
     if bytes_eq word (codes "endif") then alone EndIf args else None
 

@@ -1,7 +1,9 @@
 pub mod After
 pub mod Answering
+pub mod Asking
 pub mod Bounds
 pub mod Comments
+pub mod Conditions
 pub mod Directives
 pub mod Expansion
 pub mod Formed

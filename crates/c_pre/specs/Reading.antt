@@ -1,5 +1,5 @@
 -- The lines of a text in turn, and what each does to what was read so far (C99 6.10).
-use Rattle.std.specs.Prelude.{ℕ, ◌+◌, ◌-◌, Bool, true, false, is_some, if◌then◌else◌, List, [], ◌∷◌, ◌++◌, map, Option, Some, None, Result, Ok, Err}
+use Rattle.std.specs.Prelude.{ℕ, ◌+◌, ◌-◌, Bool, true, false, is_some, bytes_eq, codes, if◌then◌else◌, List, [], ◌∷◌, ◌++◌, map, Option, Some, None, Result, Ok, Err}
 use Rattle.c_lexer.specs.Gaps.{include_end}
 use Rattle.c_lexer.specs.Tokens.{first_place, answer_of}
 use Rattle.c_lexer.specs.Readers.{pieces_from}
@@ -11,7 +11,8 @@ use Rattle.c_pre.specs.After.{and_then, at_line}
 use Rattle.c_pre.specs.Comments.{begins_with}
 use Rattle.c_pre.specs.Lines.{behind_spaces, first_word, directive_rest}
 use Rattle.c_pre.specs.Expansion.{expanded}
-use Rattle.c_pre.specs.Groups.{is_live, is_read, first_line, opened, turned, closed, skipped}
+use Rattle.c_pre.specs.Conditions.{condition_asked}
+use Rattle.c_pre.specs.Groups.{is_live, is_read, is_over, first_line, opened, turned, branched, closed, skipped}
 use Rattle.c_pre.specs.Macros.{found, defined, undefined}
 use Rattle.c_pre.specs.Table.{Table}
 use Rattle.c_pre.specs.Directives.{directive_of}
@@ -113,6 +114,12 @@ obeyed (directive.Define m) here p = with_macros here p (at_line here.line (defi
 obeyed (directive.Undefine name) here p = Ok (step here (record p { macros = undefined name p.macros }))
 obeyed (directive.Group name wanted) here p =
     with_groups here p (Ok (here.groups ++ opened here.line (same (is_some (found name p.macros)) wanted) ∷ []))
+obeyed (directive.If tokens) here p =
+    and_then (condition_asked here.line tokens p) (λ a.
+    Ok (step (record here { groups = here.groups ++ opened here.line a.0 ∷ [] }) a.1))
+obeyed (directive.ElseIf tokens) here p =
+    and_then (condition_asked here.line tokens p) (λ a.
+    with_groups here a.1 (at_line here.line (branched a.0 here.groups)))
 obeyed directive.Else here p = with_groups here p (at_line here.line (turned here.groups))
 obeyed directive.EndIf here p = with_groups here p (at_line here.line (closed here.groups))
 
@@ -127,14 +134,17 @@ of_tokens line rest (Ok tokens) = of_form line (directive_of rest tokens)
 of_tokens line rest (Err (lex.Bad kind at)) = Err (Lex kind line)
 of_tokens line rest (Err lex.NoMemory) = Err NoMemory
 
--- the directive of a line, by what stands behind its `#`
+-- the directive of a line, by what stands behind its `#`; a `#pragma` is nothing, and its rest is not looked at (C99 6.10.6)
 abbrev pub directive_on : ℕ → List ℕ → Result Directive Refusal
-directive_on line rest = of_tokens line rest (rest_lexed rest)
+directive_on line rest =
+    if bytes_eq (first_word rest) (codes "pragma") then Ok directive.Empty else of_tokens line rest (rest_lexed rest)
 
 -- behind a directive that is read, behind the run before it
 abbrev pub directed_from : List ℕ → List ℕ → Here → Progress → Result Step Refusal
 directed_from line rest here p =
     if is_some (include_end rest) then Ok (step (at_header line here) p) else
+    if is_over (first_word rest) here.groups
+    then with_groups (behind_line here) p (at_line here.line (branched false here.groups)) else
     and_then (directive_on here.line rest) (λ d. obeyed d (behind_line here) p)
 
 -- behind a directive that is read: the run before it ends first

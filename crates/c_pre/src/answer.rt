@@ -2,6 +2,7 @@
 
 ghost use Rattle.std.specs.Prelude.{◌≡◌, Some};
 ghost use Rattle.c_pre.specs.Words.{word_of};
+ghost use Rattle.c_pre.specs.Conditions.{moved_to};
 ghost use Rattle.c_pre.specs.Texts.{no_sources};
 
 use c_lexer::{LexKind, Token};
@@ -15,7 +16,10 @@ use thiserror::Error;
 pub enum PreKind {
     /// A directive that has none of the forms.
     Directive,
-    /// An `#else` or `#endif` without its group, a second `#else`, or a group that the end of its text leaves open.
+    /// An `#if` or `#elif` whose rest is no condition, or one that has no number.
+    Condition,
+    /// An `#elif`, `#else` or `#endif` without its group, an `#elif` or `#else` behind an `#else`, or a group that the end of its
+    /// text leaves open.
     Unbalanced,
     /// A macro that is defined again with other parameters or other tokens.
     Redefined,
@@ -34,6 +38,7 @@ impl PreKind {
     {
         match self {
             PreKind::Directive => "bad directive",
+            PreKind::Condition => "bad condition",
             PreKind::Unbalanced => "unbalanced",
             PreKind::Redefined => "redefined",
             PreKind::Arguments => "arguments",
@@ -136,6 +141,19 @@ pub(crate) enum Refusal {
     Lex { kind: LexKind, line: Line },
     #[error("no memory")]
     NoMemory,
+}
+
+impl Refusal {
+    /// The refusal, as one of this line.
+    pub(crate) fn on_line(self, line: Line) -> Refusal
+        ensures { result ≡ moved_to line self }
+    {
+        match self {
+            Refusal::Bad { kind, .. } => Refusal::Bad { kind, line },
+            Refusal::Lex { kind, .. } => Refusal::Lex { kind, line },
+            Refusal::NoMemory => Refusal::NoMemory,
+        }
+    }
 }
 
 impl From<NoMemory> for Refusal {

@@ -25,6 +25,10 @@ pub(crate) enum Directive {
     Undefine(Items<u8>),
     /// `#ifdef name` or `#ifndef name`, whose lines are read where this is whether the name is defined.
     Group { name: Items<u8>, defined: bool },
+    /// `#if` with these tokens behind it.
+    If(Items<Token>),
+    /// `#elif` with these tokens behind it.
+    ElseIf(Items<Token>),
     Else,
     EndIf,
 }
@@ -267,6 +271,10 @@ fn read_by_word(
         with_name(alloc, Naming::Group { defined: true }, only_name(args))
     } else if word == b"ifndef".as_slice() {
         with_name(alloc, Naming::Group { defined: false }, only_name(args))
+    } else if word == b"if".as_slice() {
+        Ok(Some(Directive::If(copied_tokens(alloc, args)?)))
+    } else if word == b"elif".as_slice() {
+        Ok(Some(Directive::ElseIf(copied_tokens(alloc, args)?)))
     } else if word == b"else".as_slice() {
         Ok(alone(Directive::Else, args))
     } else if word == b"endif".as_slice() {

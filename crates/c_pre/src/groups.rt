@@ -1,7 +1,7 @@
 //! Groups of lines that are read or skipped (C99 6.10.1).
 
 ghost use Rattle.std.specs.Prelude.{◌≡◌, [], ◌∷◌, ◌++◌, false, OnOk, codes};
-ghost use Rattle.c_pre.specs.Groups.{is_live, is_outermost, ends_skipping, is_read, opened, turned, closed, skipped, is_word, first_line};
+ghost use Rattle.c_pre.specs.Groups.{is_live, is_outermost, ends_skipping, is_read, is_over, opened, turned, branched, closed, skipped, is_word, first_line};
 ghost use Rattle.c_pre.specs.After.{at_line};
 ghost use Rattle.c_pre.specs.Answering.{Leaves};
 
@@ -10,13 +10,15 @@ use hs_base::{Line, NoMemory};
 use std::alloc::Global;
 use std::marker::Model;
 
-/// A group that is open: the lines between an `#ifdef` or `#ifndef` and its `#endif`.
+/// A group that is open: the lines between an `#if`, `#ifdef` or `#ifndef` and its `#endif`.
 #[derive(Clone, Copy)]
 pub(crate) struct Group {
     /// The line of the directive that opened it.
     pub(crate) line: Line,
     /// Whether its `#else` was read.
     pub(crate) turned: bool,
+    /// Whether lines of it were read.
+    pub(crate) taken: bool,
     /// Whether its lines are read.
     pub(crate) live: bool,
 }
@@ -56,9 +58,9 @@ fn is_group_word(word: &[u8]) -> bool
 
 /// Whether a word goes on behind a group or ends it.
 fn is_ending_word(word: &[u8]) -> bool
-    ensures { result ≡ is_word word.now (codes "else" ∷ codes "endif" ∷ []) }
+    ensures { result ≡ is_word word.now (codes "elif" ∷ codes "else" ∷ codes "endif" ∷ []) }
 {
-    let words: [&[u8]; 2] = [b"else", b"endif"];
+    let words: [&[u8]; 3] = [b"elif", b"else", b"endif"];
     words.iter().any(|other| word == *other)
 }
 
@@ -92,7 +94,7 @@ impl Groups {
         count < 2 || self.list[count - 2].live
     }
 
-    /// Whether a directive with this first word ends the skipping.
+    /// Whether a directive with this first word may end the skipping.
     #[tactic(auto, unfolding(crate::specs::Groups::ends_skipping))]
     fn ends_skipping(&self, word: &[u8]) -> bool
         ensures { result ≡ ends_skipping word.now self.now }
@@ -100,7 +102,7 @@ impl Groups {
         self.is_outermost() && is_ending_word(word)
     }
 
-    /// Whether a directive with this first word is read: where lines are, and where it ends the skipping.
+    /// Whether a directive with this first word is read: where lines are, and where it may end the skipping.
     pub(crate) fn is_read(&self, word: &[u8]) -> bool
         ensures { result ≡ is_read word.now self.now }
     {
@@ -125,9 +127,22 @@ impl Groups {
         self.list.push(Group {
             line,
             turned: false,
+            taken: live,
             live,
         })?;
         Ok(())
+    }
+
+    /// Whether a directive with this first word is an `#elif` whose condition is not asked: lines of its group were read.
+    #[tactic(auto, unfolding(crate::specs::Groups::is_over))]
+    pub(crate) fn is_over(&self, word: &[u8]) -> bool
+        ensures { result ≡ is_over word.now self.now }
+    {
+        word == b"elif".as_slice()
+            && match self.list.last().copied() {
+                Some(group) => group.taken,
+                None => false,
+            }
     }
 
     /// Goes on behind the `#else` of the innermost group.
@@ -144,10 +159,33 @@ impl Groups {
         let turned = Group {
             line: group.line,
             turned: true,
-            live: !group.live,
+            taken: true,
+            live: !group.taken,
         };
         let innermost = self.list.len() - 1;
         self.list[innermost] = turned;
+        Ok(())
+    }
+
+    /// Goes on behind an `#elif` of the innermost group, whose lines are read or not.
+    #[tactic(auto, unfolding(crate::specs::Groups::branched))]
+    pub(crate) fn branch(&mut self, line: Line, live: bool) -> Result<(), Refusal>
+        ensures { Leaves (at_line line (branched live self.old)) self.new result }
+    {
+        let Some(group) = self.list.last().copied() else {
+            return unbalanced(line);
+        };
+        if group.turned {
+            return unbalanced(line);
+        }
+        let branched = Group {
+            line: group.line,
+            turned: false,
+            taken: group.taken || live,
+            live,
+        };
+        let innermost = self.list.len() - 1;
+        self.list[innermost] = branched;
         Ok(())
     }
 
@@ -173,12 +211,6 @@ impl Groups {
         }
         if word == b"endif".as_slice() {
             return self.close(line);
-        }
-        if self.is_outermost() && word == b"elif".as_slice() {
-            return Err(Refusal::Bad {
-                kind: PreKind::Directive,
-                line,
-            });
         }
         Ok(())
     }

@@ -10,13 +10,14 @@
 //!
 //! The contract of `pre` is the definition `preprocessed` of `specs/Texts`. A text is read whole and its comments become
 //! spaces (`Comments`); its lines are taken one after another (`Lines`, `Reading`), by what a directive says (`Directives`),
-//! the groups that are open (`Groups`) and the macros that are defined (`Macros`). The text lines between two directives
+//! the groups that are open (`Groups`), the conditions that they ask (`Conditions`) and the macros that are defined (`Macros`). The text lines between two directives
 //! are one run: the lexer reads it, and its macros are replaced (`Expansion`).
 #![tactic(auto)]
 
 mod answer;
 mod calls;
 mod comments;
+mod conditions;
 mod copies;
 mod directive;
 mod groups;

@@ -2,11 +2,13 @@
 
 ghost use Rattle.std.specs.Prelude.{◌≡◌, [], ◌+◌, ◌-◌, ◌<◌, ◌^◌, ◌++◌, All, OnOk, length, map};
 ghost use Rattle.c_pre.specs.Reading.{lexed, rest_lexed, moved, plain, run_expanded, run_ended, obeyed, directive_on, directed_from, directed, passed, line_read, text_ended};
-ghost use Rattle.c_pre.specs.Answering.{Answers, Leaves, GivesLexed, Steps};
+ghost use Rattle.c_pre.specs.Conditions.{condition_asked};
+ghost use Rattle.c_pre.specs.Answering.{Answers, Asks, Leaves, GivesLexed, Steps};
 ghost use Rattle.c_pre.specs.Bounds.{Keeps, Stays, Counts, Fits};
 
 use crate::answer::{Opened, PreKind, Refusal};
 use crate::comments::begins_with;
+use crate::conditions::{answered, without_words};
 use crate::directive::{Directive, read_directive};
 use crate::groups::Groups;
 use crate::here::Here;
@@ -15,6 +17,7 @@ use crate::macros::Macros;
 use crate::marked::Marked;
 use crate::scan::{Expanded, expand};
 use crate::text_name::TextName;
+use c_conditions::condition_holds;
 use c_lexer::{LexError, LexKind, Token, include_end, lex, pieces_are_the_cut};
 use hs_base::{Items, Line, NoMemory};
 use std::alloc::Global;
@@ -63,6 +66,9 @@ fn find_directive(alloc: Global, line: Line, rest: &[u8]) -> Result<Directive, R
     requires { length rest.now < 2 ^ 32 }
     ensures { Answers (directive_on line rest.now) result }
 {
+    if first_word(rest) == b"pragma".as_slice() {
+        return Ok(Directive::Empty);
+    }
     let tokens = match read_rest(alloc, rest) {
         Ok(tokens) => tokens,
         Err(LexError::Bad { kind, .. }) => return Err(Refusal::Lex { kind, line }),
@@ -74,6 +80,16 @@ fn find_directive(alloc: Global, line: Line, rest: &[u8]) -> Result<Directive, R
             kind: PreKind::Directive,
             line,
         }),
+    }
+}
+
+/// The refusal of a line whose rest is no condition.
+fn no_condition(line: Line) -> Refusal
+    ensures { result ≡ Refusal.Bad PreKind.Condition line }
+{
+    Refusal::Bad {
+        kind: PreKind::Condition,
+        line,
     }
 }
 
@@ -174,6 +190,29 @@ impl Progress {
         }
     }
 
+    /// Whether the condition of a line holds, by its tokens.
+    #[tactic(auto, unfolding(crate::specs::Conditions::condition_asked))]
+    fn ask(&mut self, alloc: Global, line: Line, tokens: Items<Token>) -> Result<bool, Refusal>
+        ensures asks { Asks (condition_asked line tokens self.old) self.new result }
+        ensures counts { OnOk result (Counts self.old self.new) }
+    {
+        let Some(tokens) = answered(alloc, &self.macros, tokens.as_slice())? else {
+            return Err(no_condition(line));
+        };
+        let Expanded { tokens, work } = match expand(alloc, &self.macros, tokens, self.work) {
+            Ok(expanded) => expanded,
+            Err(refusal) => return Err(refusal.on_line(line)),
+        };
+        let Some(tokens) = without_words(alloc, tokens)? else {
+            return Err(no_condition(line));
+        };
+        let Some(holds) = condition_holds(alloc, tokens.as_slice())? else {
+            return Err(no_condition(line));
+        };
+        self.work = work;
+        Ok(holds)
+    }
+
     /// Goes on behind a directive, and answers the name of the text that it includes, if it includes one.
     #[tactic(auto, unfolding(crate::specs::Reading::obeyed))]
     fn obey(
@@ -194,6 +233,14 @@ impl Progress {
             Directive::Group { name, defined } => {
                 let live = self.macros.find(name.as_slice()).is_some() == defined;
                 here.groups.open(here.line, live)?;
+            }
+            Directive::If(tokens) => {
+                let holds = self.ask(alloc, here.line, tokens)?;
+                here.groups.open(here.line, holds)?;
+            }
+            Directive::ElseIf(tokens) => {
+                let holds = self.ask(alloc, here.line, tokens)?;
+                here.groups.branch(here.line, holds)?;
             }
             Directive::Else => here.groups.turn(here.line)?,
             Directive::EndIf => here.groups.close(here.line)?,
@@ -219,6 +266,11 @@ impl Progress {
     {
         if include_end(rest).is_some() {
             here.begin_with(line)?;
+            return Ok(None);
+        }
+        if here.groups.is_over(first_word(rest)) {
+            here.begin_run();
+            here.groups.branch(here.line, false)?;
             return Ok(None);
         }
         let directive = find_directive(alloc, here.line, rest)?;

@@ -118,11 +118,11 @@ static NESTED_GROUPS: [(&str, &str); 10] = [
         "#ifdef A\n#if 1\n#else\nx\n#else\n#elif 2\n#endif\n@ '\n# bad\n#else\ny\n#endif\n",
         "11:y | a.c:0 |",
     ),
-    ("#ifdef A\n#elif 1\n#endif\n", "bad directive a.c:2"),
-    ("#ifndef A\n#elif 1\n#endif\n", "bad directive a.c:2"),
+    ("#ifdef A\n#elif 1\nx\n#endif\n", "3:x | a.c:0 |"),
+    ("#ifndef A\n#elif 'x\ny\n#endif\n", "| a.c:0 |"),
     ("#ifdef A\n#else\n#else\n#endif\n", "unbalanced a.c:3"),
     ("#ifndef A\n#else\n#else\n#endif\n", "unbalanced a.c:3"),
-    ("#ifndef A\n#else\n#elif 1\n#endif\n", "bad directive a.c:3"),
+    ("#ifndef A\n#else\n#elif 1\n#endif\n", "unbalanced a.c:3"),
     ("x\n#else\n", "unbalanced a.c:2"),
     ("x\n#endif\n", "unbalanced a.c:2"),
     ("#ifdef A\n#ifdef B\n", "unbalanced a.c:1"),
@@ -137,7 +137,7 @@ fn nested_groups(rt: HostRuntime) -> Result<(), Fail> {
 /// Directives of no form.
 static BAD_DIRECTIVES: [(&str, &str); 9] = [
     // Directives of no form.
-    ("#if 1\n#endif\n", "bad directive a.c:1"),
+    ("#line 1\n", "bad directive a.c:1"),
     ("#error no\n", "bad directive a.c:1"),
     ("#ifdef\n#endif\n", "bad directive a.c:1"),
     ("#ifdef A B\n#endif\n", "bad directive a.c:1"),

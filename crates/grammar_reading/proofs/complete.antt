@@ -33,3 +33,4 @@ pub mod Answers
 pub mod Lineless
 pub mod Allowing
 pub mod Relined
+pub mod Conditions

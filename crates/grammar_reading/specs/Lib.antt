@@ -7,3 +7,4 @@ pub mod Declarators
 pub mod Statements
 pub mod Rooms
 pub mod Laws
+pub mod Conditions

@@ -1,5 +1,6 @@
 //! Laws of reading, each the contract of a function that does nothing.
 
+ghost use Rattle.grammar_reading.specs.Conditions.{ConditionsAreRead, ReadConditionsAreTrees};
 ghost use Rattle.grammar_reading.specs.Laws.{EachIsItsWord, TreesAreRead, WholeTextsAreRead, FrontsAreRead, TreesOfTextsAreRead, StopsWhereWrong, OneAnswer, WordsAreRead, CanonicalTreesAreRead};
 
 use c_tree::canonical_text_is_read_again;
@@ -25,6 +26,12 @@ pub fn texts_are_read()
 pub fn trees_of_texts_are_read()
     ensures trees { TreesOfTextsAreRead }
     ensures wrong { StopsWhereWrong }
+{}
+
+/// The tokens of a condition have one tree, which is the one that is read.
+pub fn conditions_are_read()
+    ensures read { ConditionsAreRead }
+    ensures trees { ReadConditionsAreTrees }
 {}
 
 /// Tokens have one tree and do not go wrong, or have none and go wrong at one line.

@@ -15,6 +15,6 @@ mod laws;
 
 pub use kind::{Kind, SpecStart};
 pub use laws::{
-    each_token_is_its_word, texts_are_read, tokens_have_one_answer, trees_are_read,
-    trees_are_read_again, trees_of_texts_are_read,
+    conditions_are_read, each_token_is_its_word, texts_are_read, tokens_have_one_answer,
+    trees_are_read, trees_are_read_again, trees_of_texts_are_read,
 };

@@ -151,6 +151,7 @@ sign_tighter l m sign le h =
 
 pub stops_tighter : (l m : ℕ) (kind : Kind) → l ≤ m → stops m kind ≡ true → stops l kind ≡ true
 stops_tighter l m (kinds.Mark sign) le h = sign_tighter l m sign le h
+stops_tighter l m kinds.End le h = refl
 stops_tighter l m _ le h = absurd (false≢true h)
 
 -- what stops any level stops a cast
@@ -181,4 +182,5 @@ sign_two l sign h = and_from (binary_stops 2 (e.binary_op sign)) (assign_stops 2
 
 pub stops_two : (l : ℕ) (kind : Kind) → stops l kind ≡ true → stops 2 kind ≡ true
 stops_two l (kinds.Mark sign) h = sign_two l sign h
+stops_two l kinds.End h = refl
 stops_two l _ h = absurd (false≢true h)

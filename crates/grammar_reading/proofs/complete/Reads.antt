@@ -51,8 +51,10 @@ sign_stops level s.Question = nat_le level 12
 sign_stops level s.Comma = nat_le level 14
 sign_stops level sign = binary_stops level (binary_op sign) && assign_stops level (assign_op sign)
 
+-- so does the end of the tokens
 abbrev pub stops : ℕ → Kind → Bool
 stops level (kinds.Mark sign) = sign_stops level sign
+stops level kinds.End = true
 stops level _ = false
 
 -- a tree was read again

@@ -1,0 +1,4 @@
+pub mod Operands
+pub mod Operators
+pub mod Values
+pub mod Conditions
