@@ -1,3 +1,5 @@
-pub mod Spelled
+pub mod Words
+pub mod Forms
+pub mod Nodes
 pub mod sound
 pub mod complete

@@ -1,39 +1,153 @@
--- Declarators that are read.
-use Rattle.std.proofs.Common.{append-nil, ◌≡◌, ℕ, zero, suc, ◌-◌, ◌<◌, ◌≤◌, Bool, true, false, inl, inr, List, [], ◌∷◌, ◌++◌, replicate, take, length, Option, Some, None, refl, sym, ap, ◌∙◌, subst, arith}
-use Rattle.std.specs.Prelude.{max, if◌then◌else◌, ⊤, not, ◌&&◌, nat_le}
+-- Layers of declarators, and declarators that are read.
+use Rattle.std.proofs.Common.{◌≡◌, ℕ, zero, suc, ◌<◌, Bool, true, false, List, [], ◌∷◌, replicate, Option, Some, None, refl, sym, ap, ◌∙◌, subst, arith, append-nil, ◌-◌, ◌≤◌, inl, inr, ◌++◌, take, length}
+use Rattle.std.specs.Prelude.{if◌then◌else◌, ⊤, IsSome, max, not, ◌&&◌, nat_le}
 use Rattle.std.proofs.lemmas.Bool.{true≢false, false≢true, leb-true, and_from}
 use Rattle.c_lexer.specs.declared.token.Token.{Token}
-use Rattle.c_tree.specs.declared.word.Keyword.{Keyword}
-use Rattle.c_tree.specs.declared.word.Keyword.TheVariants as k
-use Rattle.c_tree.specs.declared.word.Sign.{Sign}
-use Rattle.c_tree.specs.declared.word.Sign.TheVariants as s
-use Rattle.c_tree.specs.Words.{Word, Key, Mark}
+use Rattle.c_tree.specs.Words.{Key, Word, Mark}
 use Rattle.c_tree.specs.Forms.{Form}
-use Rattle.c_tree.specs.Forms as f
-use Rattle.c_tree.specs.Grammar.{Item, Here, Part, key, mark, form_home, shape, rows, home, word_home, keyword_home}
-use Rattle.c_tree.specs.Places.{Place, Expression}
-use Rattle.c_tree.specs.Places as p
-use Rattle.c_tree.specs.Scopes.{Known, Scope, is_scope, places, name_of, params_of, params_among, suffix_params, leads_to_name, after, after_all, left, word_name}
-use Rattle.c_tree.specs.Allowed.{Takes, IsBase, AllAllowed, obeys, is_void, words_of}
-use Rattle.c_tree.specs.Spelling.{Said, Line, spell, spell_all, filled, Spells, words}
+use Rattle.c_tree.specs.Grammar.{Item, key, shape, home, Here, Part, mark, form_home, rows, word_home}
+use Rattle.c_tree.specs.Places.{Place}
+use Rattle.c_tree.specs.Scopes.{Scope, is_scope, places, name_of, name_among, first_name, first_list, params_of, params_among, suffix_params, leads_to_name, after, after_all, left, Known, word_name}
+use Rattle.c_tree.specs.Allowed.{Takes, IsDeclarator, AllAllowed, obeys, IsBase, is_void, words_of}
+use Rattle.c_tree.specs.Spelling.{spell, spell_all, filled, Spells, words, Said, Line}
 use Rattle.c_tree.specs.Depth.{depth}
 use Rattle.c_tree.specs.Tree.{Tree, Trees, Leaf, At, Node, none, ◌▹◌, count}
+use Rattle.c_tree.specs.declared.word.Sign.{Sign}
+use Rattle.c_tree.specs.declared.word.Keyword.TheVariants as k
+use Rattle.c_tree.specs.declared.word.Sign.TheVariants as s
+use Rattle.c_tree.specs.Forms as f
+use Rattle.c_tree.specs.Places as p
+use Rattle.grammar_reading.specs.State.{State, first_kind, kind_is_key, at_mark, past, keyword_number, sign_number, kind_is_mark, kind_of_word, behind_first, kind_at, line_at, word_at, bytes_at, left_at, at_key, skip, with_new_params, with_params_of, new_names}
+use Rattle.grammar_reading.specs.Declarators.{leading_consts, behind_consts, past_consts}
+use Rattle.grammar_reading.specs.Reading.{scoped, ◌>>=◌, Reader, fixed, snoc, parts_of, leaf, in_front}
 use Rattle.grammar_reading.specs.declared.kind.Kind.{Kind}
-use Rattle.grammar_reading.specs.declared.kind.Kind.TheVariants as kinds
 use Rattle.grammar_reading.specs.Known.{word_of}
-use Rattle.grammar_reading.specs.State.{State, keyword_number, sign_number, first_kind, kind_is_key, kind_is_mark, kind_of_word, behind_first, kind_at, line_at, word_at, bytes_at, left_at, at_mark, at_key, past, skip, with_new_params, with_params_of, new_names}
-use Rattle.grammar_reading.specs.Reading.{◌>>=◌, Reader, fixed, snoc, parts_of, leaf, in_front}
-use Rattle.grammar_reading.specs.Declarators as d
 use Rattle.grammar_reading.specs.ReadingEquations.{none_some, some_same, bind_some}
-use Rattle.grammar_reading.proofs.sound.Options.{either, if_some}
-use Rattle.grammar_reading.proofs.sound.Words.{past_some}
-use Rattle.grammar_reading.proofs.sound.Kinds.{tells}
-use Rattle.grammar_reading.proofs.sound.Back.{word_back, SpellsWords, spells_words, words_both}
-use Rattle.grammar_reading.proofs.sound.Took.{Took, PartsTook, Sound, all_sound, parts_took, Also, Opens, has_specs, AreParams, KeepsParams, took_both, took_one, took_line, took_word, took_none}
-use Rattle.grammar_reading.proofs.sound.Nodes.{node_some, front_some, took_leaf, made}
-use Rattle.grammar_reading.proofs.sound.Lists.{rows_snoc, rows_specs}
-use Rattle.grammar_reading.proofs.sound.Adds.{after_adds, take_front}
-use Rattle.grammar_reading.proofs.sound.Layers.{Layered, layer_node, left_inner, moved, IsSort, Named, sort_takes, takes_sort, sort_also, also_sort, sort_outside, name_behind_line, params_behind_line, name_direct, params_direct, consts_took}
+use Rattle.grammar_reading.specs.Laws.{behind}
+use Rattle.grammar_reading.specs.declared.kind.Kind.TheVariants as kinds
+use Rattle.grammar_reading.specs.Declarators as d
+use Rattle.grammar_reading.proofs.Forms.{Took, PartsTook, Also, Opens, has_words, has_specs, is_specs, KeepsParams, took_both, took_word, took_none, made, Sound, all_sound, parts_took, AreParams, took_one, took_line, front_some, is_line}
+use Rattle.grammar_reading.proofs.Nodes.{behind_after, node_some, took_leaf, rows_snoc, rows_specs, form_took, left_inner}
+use Rattle.grammar_reading.proofs.Words.{either, if_some, past_some, tells, word_back, SpellsWords, spells_words, words_both}
+use Rattle.grammar_reading.proofs.sound.Specs.{after_adds, take_front}
+
+-- a tree of a declarator: its depth is tested later
+abbrev pub Layered : Place → State → Tree → State → Type 0
+Layered place state tree rest = Took (suc (depth tree)) place state tree rest
+
+pub layer_node : (inside : ℕ) (place : Place) (form : Form) (items : List Item) (state inner rest : State) (parts : Trees) → obeys form parts state.scope ≡ true → PartsTook inside items state parts inner → shape form (count parts) ≡ items → Takes place (Node form parts) → rest.words ≡ inner.words → rest.scope ≡ left form parts state.scope (after_all parts (places items) state.scope) → rest.scope.typedef ≡ state.scope.typedef → is_scope place ≡ false → Opens (has_words place) state.words → Also place state (Node form parts) rest → Layered place state (Node form parts) rest
+layer_node inside place form items state inner rest parts free took shaped stands same scoped flag outside opening also =
+    form_took (suc (depth (Node form parts))) inside place form items state inner rest parts took shaped free stands (omega arith) same scoped (λ e. flag) outside opening also
+
+-- the same tree at another place
+pub moved : (a b : ℕ) (from to : Place) (state : State) (tree : Tree) (rest : State) → Took a from state tree rest → depth tree < b → Takes to tree → is_scope from ≡ false → is_scope to ≡ false → is_specs from ≡ false → has_words to ≡ false → Also to state tree rest → Took b to state tree rest
+moved a b from to state tree rest h deep stands outside out single opening also =
+    record {
+      stands = stands;
+      allowed = h.allowed;
+      spelled = h.spelled;
+      deep = deep;
+      scope = h.scope ∙ sym (behind_after from tree state.scope outside) ∙ behind_after to tree state.scope out;
+      flag = λ e. h.flag single;
+      opens = subst (λ t. Opens t state.words) (sym opening) tt;
+      also = also;
+    }
+
+-- Sorts of declarators
+
+abbrev pub IsSort : Place → Type 0
+IsSort p.Declarator = ⊤
+IsSort p.Abstract = ⊤
+IsSort p.AnyDeclarator = ⊤
+IsSort _ = ⊥
+
+abbrev pub Named : Place → Option (List ℕ) → Type 0
+Named p.Declarator name = IsSome name
+Named p.Abstract name = name ≡ None
+Named _ name = ⊤
+
+pub sort_takes : (sort : Place) → IsSort sort → (tree : Tree) → IsDeclarator (home tree) → Named sort (name_of tree) → Takes sort tree
+unfolding Takes
+sort_takes p.AnyDeclarator i tree h n = h
+sort_takes _ i tree h n = first_of (assumption, search)
+
+pub takes_sort : (sort : Place) → IsSort sort → (tree : Tree) → Takes sort tree → IsDeclarator (home tree) × Named sort (name_of tree)
+unfolding Takes
+takes_sort p.AnyDeclarator i tree h = (h, tt)
+takes_sort _ i tree h = first_of (assumption, search)
+
+pub sort_also : (sort : Place) → IsSort sort → (state : State) (tree : Tree) (rest : State) → (at_mark s.Star state ≡ true → home tree ≡ p.PointerLayer) → KeepsParams (params_of tree) state rest → Also sort state tree rest
+unfolding Also
+sort_also p.AnyDeclarator i state tree rest h n = (h, n)
+sort_also _ i state tree rest h n = first_of (assumption, search)
+
+pub also_sort : (sort : Place) → IsSort sort → (state : State) (tree : Tree) (rest : State) → Also sort state tree rest → (at_mark s.Star state ≡ true → home tree ≡ p.PointerLayer) × KeepsParams (params_of tree) state rest
+unfolding Also
+also_sort p.AnyDeclarator i state tree rest h = h
+also_sort _ i state tree rest h = first_of (assumption, search)
+
+pub sort_outside : (sort : Place) → IsSort sort → (is_scope sort ≡ false) × (is_specs sort ≡ false) × (has_words sort ≡ false)
+unfolding is_scope
+sort_outside p.AnyDeclarator i = (refl, refl, refl)
+sort_outside _ i = first_of (assumption, search)
+
+-- Names and parameters through layers
+
+pub first_name_none : (name : Option (List ℕ)) → first_name name None ≡ name
+first_name_none None = refl
+first_name_none (Some name) = refl
+
+first_list_none : (parts : Option Trees) → first_list parts None ≡ parts
+first_list_none None = refl
+first_list_none (Some parts) = refl
+
+pub name_behind_line : (line : ℕ) (tree : Tree) → name_among (At line ▹ tree ▹ none) ≡ name_of tree
+unfolding name_of
+name_behind_line line tree = first_name_none (name_of tree)
+
+pub params_behind_line : (line : ℕ) (tree : Tree) → params_among (At line ▹ tree ▹ none) ≡ params_of tree
+unfolding params_of suffix_params
+params_behind_line line (Leaf word) = refl
+params_behind_line line (At other) = refl
+params_behind_line line (Node form parts) = first_list_none (params_of (Node form parts))
+
+pub params_single : (tree : Tree) → params_among (tree ▹ none) ≡ params_of tree
+unfolding params_of suffix_params
+params_single (Leaf word) = refl
+params_single (At other) = refl
+params_single (Node form parts) = first_list_none (params_of (Node form parts))
+
+-- a base that is a node, with its suffixes
+pub name_direct : (base : Tree) (suffixes : Trees) → name_among (base ▹ Node f.Suffixes suffixes ▹ none) ≡ name_of base
+unfolding name_of leads_to_name
+name_direct base suffixes = first_name_none (name_of base)
+
+pub params_direct : (form : Form) (parts suffixes : Trees) → params_among (Node form parts ▹ Node f.Suffixes suffixes ▹ none) ≡ params_of (Node form parts)
+unfolding params_of leads_to_name
+params_direct form parts suffixes = first_list_none (params_of (Node form parts))
+
+-- The words `const`
+
+with_words : State → List Token → State
+with_words state ws = record { words = ws; scope = state.scope; params = state.params }
+
+const_past : (state : State) (token : Token) (tokens : List Token) → kind_is_key k.Const (first_kind (token ∷ tokens)) ≡ true → past (Key k.Const) (with_words state (token ∷ tokens)) ≡ Some (with_words state tokens)
+unfolding with_words
+const_past state token tokens e = ap (λ b. if b then Some (with_words state tokens) else None) e
+
+consts_from : (bound : ℕ) (state : State) (ws : List Token) → PartsTook bound (replicate (leading_consts ws) (key k.Const)) (with_words state ws) none (with_words state (behind_consts ws))
+consts_from bound state [] = took_none bound (with_words state [])
+consts_from bound state (token ∷ tokens) = by (kind_is_key k.Const (first_kind (token ∷ tokens))) refl (consts_from bound state tokens) where
+  by : (b : Bool) → kind_is_key k.Const (first_kind (token ∷ tokens)) ≡ b → PartsTook bound (replicate (leading_consts tokens) (key k.Const)) (with_words state tokens) none (with_words state (behind_consts tokens)) → PartsTook bound (replicate (if b then suc (leading_consts tokens) else zero) (key k.Const)) (with_words state (token ∷ tokens)) none (with_words state (if b then behind_consts tokens else token ∷ tokens))
+  by true e more =
+      took_both bound (key k.Const ∷ []) (replicate (leading_consts tokens) (key k.Const)) (with_words state (token ∷ tokens)) (with_words state tokens) (with_words state (behind_consts tokens)) none none (took_word bound (Key k.Const) (with_words state (token ∷ tokens)) (with_words state tokens) (const_past state token tokens e)) more
+  by false e more = took_none bound (with_words state (token ∷ tokens))
+
+pub consts_took : (bound : ℕ) (state : State) → PartsTook bound (replicate (leading_consts state.words) (key k.Const)) state none (past_consts state)
+unfolding with_words
+consts_took bound state = consts_from bound state state.words
+
+-- Declarators that are read.
 
 -- More room
 
@@ -77,11 +191,9 @@ void_tokens : (state : State) (rest : List Token) → SpellsWords (Mark s.LeftPa
 unfolding SpellsWords keyword_number sign_number
 void_tokens state rest h = by state.words h where
   by : (ws : List Token) → SpellsWords (Mark s.LeftParen ∷ Key k.Void ∷ Mark s.RightParen ∷ []) ws rest → (kind_is_key k.Void (first_kind (behind_first ws)) && kind_is_mark s.RightParen (first_kind (behind_first (behind_first ws)))) ≡ true
-  by [] g = absurd g
-  by (a ∷ []) g = absurd g.1
-  by (a ∷ b ∷ []) g = absurd g.1.1
   by (a ∷ b ∷ c ∷ ws) g =
       and_from (kind_is_key k.Void (kind_of_word (word_of b))) (kind_is_mark s.RightParen (kind_of_word (word_of c))) (ap (λ w. kind_is_key k.Void (kind_of_word w)) (word_back (Key k.Void) b tt g.1.0)) (ap (λ w. kind_is_mark s.RightParen (kind_of_word w)) (word_back (Mark s.RightParen) c tt g.1.1.0))
+  by _ g = absurd assumption
 
 not_void : (state rest : State) (line : ℕ) (params : Tree) → Spells (filled (shape f.FunctionSuffix zero) (spell_all (At line ▹ params ▹ none))) state.words rest.words → (at_key k.Void (skip state) && at_mark s.RightParen (skip (skip state))) ≡ false → not (is_void (words_of (At line ▹ params ▹ none))) ≡ true
 unfolding shape spell
@@ -138,40 +250,17 @@ unfolding Also
 kept_params state tree rest before h =
     record { stands = h.stands; allowed = h.allowed; spelled = h.spelled; deep = h.deep; scope = h.scope; flag = h.flag; opens = h.opens; also = tt }
 
--- no node is a line
-pub no_line : (form : Form) → form_home form ≡ p.Line → ⊥
-unfolding form_home
-no_line f.Unit h = cc
-no_line _ h = cc
-
-pub no_key_line : (keyword : Keyword) → keyword_home keyword ≡ p.Line → ⊥
-unfolding keyword_home
-no_key_line k.Static h = cc
-no_key_line _ h = cc
-
-pub no_word_line : (word : Word) → word_home word ≡ p.Line → ⊥
-unfolding keyword_home
-no_word_line (Key keyword) h = no_key_line keyword h
-no_word_line _ h = cc
-
 -- the one part is a line
 only_line : (parts : Trees) (scope : Scope) → AllAllowed parts (p.Line ∷ []) scope → after_all parts (p.Line ∷ []) scope ≡ scope
 unfolding AllAllowed after is_scope Takes
-only_line none scope h = absurd h
-only_line (Leaf word ▹ none) scope h = refl
-only_line (At line ▹ none) scope h = refl
-only_line (Node form parts ▹ none) scope h = absurd (no_line form h.0)
-only_line (tree ▹ more ▹ rest) scope h = absurd h.2
+only_line (tree ▹ none) scope h = ap (λ x. after x scope) (is_line tree h.0).1
+only_line _ scope h = absurd assumption
 
 -- a line and one part
 pub line_one : (parts : Trees) (place : Place) (scope : Scope) → AllAllowed parts (p.Line ∷ place ∷ []) scope → (line : ℕ) × (tree : Tree) × (parts ≡ At line ▹ tree ▹ none)
 unfolding AllAllowed Takes
-line_one none place scope h = absurd h
-line_one (Leaf word ▹ tree ▹ none) place scope h = absurd (no_word_line word h.0)
-line_one (At line ▹ tree ▹ none) place scope h = (line, tree, refl)
-line_one (Node form parts ▹ tree ▹ none) place scope h = absurd (no_line form h.0)
-line_one (first ▹ none) place scope h = absurd h.2
-line_one (first ▹ tree ▹ more ▹ rest) place scope h = absurd h.2.2
+line_one (x ▹ tree ▹ none) place scope h = let l = is_line x h.0 in (l.0, tree, ap (λ y. y ▹ tree ▹ none) l.1)
+line_one _ place scope h = absurd assumption
 
 pub keeps_same : (o : Option Trees) (state a b : State) → b.params ≡ a.params → KeepsParams o state a → KeepsParams o state b
 keeps_same None state a b e h = tt
@@ -179,9 +268,6 @@ keeps_same (Some parts) state a b e h = subst (λ ps. AreParams state.scope.type
 
 mark_past : (sign : Sign) (state : State) → at_mark sign state ≡ true → past (Mark sign) state ≡ Some (skip state)
 mark_past sign state e = ap (λ b. if b then Some (skip state) else None) e
-
-mark_kind : (sign : Sign) (kind : Kind) → kind ≡ kinds.Mark sign → kind_is_mark s.Star kind ≡ kind_is_mark s.Star (kinds.Mark sign)
-mark_kind sign kind e = ap (kind_is_mark s.Star) e
 
 -- what was read behind a base
 record DirectSuffixes (start : State) (first : Bool) (x : Tree × State) : Type 0 where
@@ -197,16 +283,12 @@ pub record BaseTook (sort : Place) (state : State) (x : Tree × State) : Type 0 
   keeps : d.is_leaf x.0 ≡ false → KeepsParams (params_of x.0) state x.1
 
 name_named : (sort : Place) → d.may_name sort ≡ true → IsSort sort → (bytes : List ℕ) → Named sort (Some bytes)
-name_named p.Declarator m i bytes = refl
-name_named p.Abstract m i bytes = absurd (false≢true m)
 name_named p.AnyDeclarator m i bytes = tt
-name_named _ m i bytes = absurd i
+name_named _ m i bytes = first_of (assumption, cc)
 
 none_named : (sort : Place) → d.must_name sort ≡ false → IsSort sort → Named sort None
-none_named p.Declarator m i = absurd (true≢false m)
-none_named p.Abstract m i = refl
 none_named p.AnyDeclarator m i = tt
-none_named _ m i = absurd i
+none_named _ m i = first_of (assumption, search, cc)
 
 name_base : (state : State) → kind_at state ≡ kinds.Name → Layered p.Base state (Leaf (word_at state)) (skip state)
 unfolding Takes is_scope Also

@@ -1,4 +1,4 @@
-use Rattle.grammar_reading.proofs.complete.Conditions as conditions
+use Rattle.grammar_reading.proofs.complete.Texts as conditions
 use Rattle.grammar_reading.proofs.laws.conditions_are_read.Goals as goal
 
 pub returns-clause-read : goal.returns-clause-read

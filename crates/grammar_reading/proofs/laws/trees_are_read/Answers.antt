@@ -1,4 +1,4 @@
-use Rattle.grammar_reading.proofs.sound.Rooms as rooms
+use Rattle.grammar_reading.proofs.sound.Texts as rooms
 use Rattle.grammar_reading.proofs.laws.trees_are_read.Goals as goal
 
 pub returns : goal.returns
