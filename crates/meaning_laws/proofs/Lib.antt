@@ -3,3 +3,4 @@ pub mod counts
 pub mod soundness
 pub mod form
 pub mod agreement
+mod Words

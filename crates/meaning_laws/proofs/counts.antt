@@ -1,8 +1,6 @@
 pub mod Weighing
 pub mod Objects
-pub mod Pins
 pub mod Sorting
-pub mod Agreeing
 pub mod Checks
 pub mod Listed
 pub mod Freed

@@ -1,41 +1,98 @@
 -- The first instruction calls main, as the run of the core begins.
-use Rattle.std.proofs.Common.{◌≡◌, ℕ, zero, suc, ◌+◌, ◌-◌, Bool, List, [], ◌∷◌, length, Option, Some, refl, sym, ap, ◌∙◌, subst, arith}
-use Rattle.std.specs.Prelude.{slice_get}
-use Rattle.std.proofs.lemmas.Option.{get_or_from_slice_get}
-use Rattle.hs_base.specs.Object.{Object}
-use Rattle.hs_base.specs.State.{Frame, State}
-use Rattle.hs_base.specs.Trace.{Event, Ending, Enter}
-use Rattle.hs_base.specs.Runs as runs
-use Rattle.hs_base.specs.Place.{has_place}
-use Rattle.hs_base.specs.RunsEquations.{after_zero, after_stays}
-use Rattle.core_tree.specs.declared.program.Core.{Core}
-use Rattle.core_tree.specs.Sound.{IsSound, main_of}
-use Rattle.flat_code.specs.declared.program.Code.{Code}
-use Rattle.object_meaning.specs.objects.Making.{static_objects}
-use Rattle.object_meaning.specs.objects.Meaning as meaning
-use Rattle.object_meaning.specs.objects.Meaning.{line_of}
-use Rattle.meaning_laws.proofs.dangling.Beginning.{begins}
-use Rattle.object_meaning.specs.counted.Pinning.{Pins, AreExact}
-use Rattle.object_meaning.specs.counted.CountedMeaning as counted_meaning
-use Rattle.meaning_laws.specs.counted.Laws.{testing}
+use Rattle.meaning_laws.proofs.Words.Core.{Code, Core, Dangling, Ending, Enter, Event, Frame, Func, IsSound, Object, State, StmKind, after_stays, after_zero, has_place, main_of}
+use Rattle.meaning_laws.proofs.Words.Meaning.{AreAscending, AreExact, CodeMeansCore, CodeState, IsCompiled, Next, Pins, SameRun, SameState, TestedCodeMeansCore, counts_at, enough, first_numbers, holds_on, holds_pointer, is_among, line_of, main_in, pins_of, static_objects, tested_code, tested_core, testing}
+use Rattle.meaning_laws.proofs.Words.Std.{AllPairs, Bool, List, Option, Some, [], and_parts, ap, arith, cond, eq-eqb, eqb-false, eqb-true, false, false≢true, filter, get_or, get_or_from_slice_get, length, nat_eq, ne_eqb, or_cases, or_from, or_left, or_parts, range_with_len, refl, slice_get, subst, suc, sym, true, true≢false, zero, ℕ, ⊎_elim, ◌+◌, ◌-◌, ◌<◌, ◌||◌, ◌∙◌, ◌∷◌, ◌≡◌, ◌≢◌, ◌≤◌}
+use Rattle.meaning_laws.proofs.counts.Sorting.{those_among}
+use Rattle.meaning_laws.proofs.counts.Listed.{AreListed, holder_within}
+use Rattle.meaning_laws.proofs.dangling.Standing.{begins}
 use Rattle.meaning_laws.proofs.counts.Running.{Agree}
 use Rattle.meaning_laws.proofs.counts.Runs.{first_agrees, tested_runs_are_counted}
-use Rattle.object_meaning.specs.code.CodeState.{CodeState, Next, kept}
-use Rattle.object_meaning.specs.code.CodeMeaning as code_meaning
-use Rattle.object_meaning.specs.code.CodeMeaning.{enough, first_numbers, main_in, handed_value, hand_or_act}
-use Rattle.object_meaning.specs.code.Entering as entering
-use Rattle.object_meaning.specs.compiled.Compiled.{IsCompiled}
-use Rattle.object_meaning.specs.compiled.Sites.{AreAscending}
-use Rattle.meaning_laws.specs.compiled.SameRun.{SameState, SameRun}
-use Rattle.meaning_laws.specs.compiled.Testing.{tested_core, tested_code}
+use Rattle.object_meaning.specs.code.CodeState.{kept}
 use Rattle.meaning_laws.proofs.agreement.Following.{Tied, TiedAt, after_add, after_first, run_follows}
-use Rattle.meaning_laws.proofs.agreement.Entries.{frame_same, cost_same}
-use Rattle.meaning_laws.proofs.agreement.Calling.{entered_same}
-use Rattle.meaning_laws.proofs.agreement.Statics.{statics_same}
-use Rattle.meaning_laws.proofs.agreement.Listing.{are_listed}
-use Rattle.meaning_laws.proofs.agreement.Testing.{tested_ends}
-use Rattle.meaning_laws.proofs.agreement.Keeping.{Matches}
-use Rattle.meaning_laws.proofs.agreement.Stepping.{keeps_from, Stands, left, Within, tied, one_follows}
+use Rattle.meaning_laws.proofs.agreement.Keeping.{frame_same, cost_same, entered_same, Matches}
+use Rattle.meaning_laws.proofs.agreement.FirstPointers.{statics_same}
+use Rattle.meaning_laws.proofs.agreement.Testing.{tested_ends, untested}
+use Rattle.meaning_laws.proofs.agreement.Acting.{keeps_from, Stands, left, Within, tied, one_follows}
+use Rattle.core_tree.specs.declared.statements.StmKind.TheVariants as stm
+use Rattle.hs_base.specs.Runs as runs
+use Rattle.object_meaning.specs.objects.Meaning as meaning
+use Rattle.object_meaning.specs.counted.CountedMeaning as counted_meaning
+use Rattle.object_meaning.specs.code.CodeMeaning as code_meaning
+use Rattle.object_meaning.specs.code.Entering as entering
+
+-- Exact pins that ascend are the registers that count, in the order of their numbers.
+
+-- each number is above the one before it, and the first is not below a bound
+abbrev Ascends : ℕ → List ℕ → Type 0
+Ascends a [] = Unit {0}
+Ascends a (r ∷ registers) = (a ≤ r) × Ascends (r + 1) registers
+
+ascends_from : (a : ℕ) (registers : List ℕ) → AllPairs (λ one other. one < other) registers → ((k : ℕ) → k < length registers → a ≤ get_or registers k 0) → Ascends a registers
+ascends_from a [] pairs h = tt
+ascends_from a (r ∷ registers) pairs h =
+    let first : a ≤ r = h 0 (omega arith) in
+    (first, ascends_from (r + 1) registers (λ i j d lt within. pairs (suc i) (suc j) d (omega (arith, lt)) (omega (arith, within))) (λ k lt. let more : r < get_or registers k 0 = pairs 0 (suc k) 0 (omega arith) (omega (arith, lt)) in omega (arith, more)))
+
+-- none is below the bound
+none_below : (a : ℕ) (registers : List ℕ) (q : ℕ) → Ascends a registers → q < a → is_among registers q ≡ false
+none_below a [] q up lt = refl
+none_below a (r ∷ registers) q up lt =
+    or_from (nat_eq r q) (is_among registers q) (ne_eqb r q (λ e. omega (arith, e, up.0, lt))) (none_below (r + 1) registers q up.1 (omega (arith, up.0, lt)))
+
+-- the bound is the first or not among them
+first_is : (a r : ℕ) (registers : List ℕ) → Ascends a (r ∷ registers) → is_among (r ∷ registers) a ≡ true → r ≡ a
+first_is a r registers up h =
+    ⊎_elim
+    (λ here. eqb-true r a here)
+    (λ there. absurd (true≢false (sym there ∙ none_below (r + 1) registers a up.1 (omega (arith, up.0)))))
+    (or_cases (nat_eq r a) (is_among registers a) h)
+
+all_above : (a : ℕ) (registers : List ℕ) → Ascends a registers → is_among registers a ≡ false → Ascends (a + 1) registers
+all_above a [] up h = tt
+all_above a (r ∷ registers) up h =
+    let other : r ≢ a = eqb-false r a (or_parts (nat_eq r a) (is_among registers a) h).0 in
+    (omega (arith, up.0, other), up.1)
+
+module _ (test : ℕ → Bool) where
+  -- a list has those from a bound on that pass the test
+  abbrev HasThose : ℕ → List ℕ → Type 0
+  HasThose a registers = (r : ℕ) → a ≤ r → is_among registers r ≡ test r
+
+  from_first : (a n : ℕ) (passes : Bool) → test a ≡ passes → (registers : List ℕ) → Ascends a registers → HasThose a registers → ((others : List ℕ) → Ascends (a + 1) others → HasThose (a + 1) others → others ≡ filter test (range_with_len (a + 1) n)) → registers ≡ cond passes (a ∷ filter test (range_with_len (a + 1) n)) (filter test (range_with_len (a + 1) n))
+  from_first a n true e [] up has rest = absurd (false≢true (has a (omega arith) ∙ e))
+  from_first a n true e (r ∷ registers) up has rest =
+      let is : r ≡ a = first_is a r registers up (has a (omega arith) ∙ e) in
+      let behind = rest registers (subst (λ i. Ascends (i + 1) registers) is up.1) (λ q le. sym (ap (λ b. b || is_among registers q) (ne_eqb r q (λ i. omega (arith, i, is, le)))) ∙ has q (omega (arith, le))) in
+      ap (λ i. i ∷ registers) is ∙ ap (λ rs. a ∷ rs) behind
+  from_first a n false e registers up has rest =
+      rest registers (all_above a registers up (has a (omega arith) ∙ e)) (λ q le. has q (omega (arith, le)))
+
+  listed_from : (a n : ℕ) (registers : List ℕ) → Ascends a registers → HasThose a registers → ((r : ℕ) → test r ≡ true → r < a + n) → registers ≡ filter test (range_with_len a n)
+  listed_from a zero [] up has within = refl
+  listed_from a zero (r ∷ registers) up has within =
+      let passes : test r ≡ true = sym (has r up.0) ∙ or_left (nat_eq r r) (is_among registers r) (eq-eqb r r refl) in
+      absurd (omega (arith, up.0, within r passes))
+  listed_from a (suc n) registers up has within =
+      from_first a n (test a) refl registers up has (λ others more those. listed_from (a + 1) n others more those (λ r passes. omega (arith, within r passes)))
+
+-- a register that counts is one of its function
+holds_within : (func : Func) (point r : ℕ) → holds_on func point r ≡ true → r < length func.regs
+holds_within func point r h = holder_within func r (and_parts (holds_pointer func r) _ h).0
+
+counts_within : (func : Func) (point : ℕ) (kind : StmKind) (r : ℕ) → counts_at func point kind r ≡ true → r < length func.regs
+counts_within func point (stm.Call f answer args) r h =
+    holds_within func point r (and_parts (holds_on func point r) _ h).0
+counts_within func point (stm.Realloc q p n t) r h = holds_within func point r h
+counts_within func point (stm.Free p) r h = holds_within func point r h
+counts_within func point stm.Leave r h = holds_within func point r h
+counts_within func point kind r h = absurd (false≢true h)
+
+pub are_listed : (core : Core) (pins : Pins) → AreExact core pins → AreAscending pins → AreListed core pins
+are_listed core pins exact ascending f func here point stm at =
+    let pinned = pins_of pins f point in
+    listed_from (counts_at func point stm.kind) 0 (length func.regs) pinned (ascends_from 0 pinned (ascending f point) (λ k lt. omega arith)) (λ r le. those_among _ pinned (exact f func here point stm at) r) (λ r h. let within = counts_within func point stm.kind r h in omega (arith, within))
+
+-- The first instruction calls main, as the run of the core begins.
 
 module _ (core : Core) (pins : Pins) (code : Code) (sound : IsSound core) (exact : AreExact core pins) (ascending : AreAscending pins) (compiled : IsCompiled core pins code) (fits : List Event → Event → Bool) (refused : Event → Ending) (heap : ℕ) (input : List ℕ) where
   -- before the first instruction, from the statics and the number of main
@@ -142,3 +199,36 @@ module _ (core : Core) (pins : Pins) (code : Code) (sound : IsSound core) (exact
       let follows = run_follows (Stands core pins code) Matches (left core pins code) (testing fits refused (counted_meaning.step core pins heap)) code_step one total 1 (begun n) (runs.after code_step (runs.fresh c) 1) (begins_tied n) k in
       let ended = core_ends n in
       same_at n (tested_core core pins fits refused input n heap) (1 + follows.0) ended.0 ended.1 (subst (λ (q : code_meaning.Run). Both c (1 + follows.0) (tested_core core pins fits refused input n heap) q) (after_add code_step (runs.fresh c) 1 follows.0) follows.1)
+
+-- The meanings are the runs whose events are all let through.
+
+abbrev all_fit : List Event → Event → Bool
+all_fit trace e = true
+
+abbrev refused : Event → Ending
+refused e = Dangling
+
+untested_step : {S : Type 0} (step : List Event → S → runs.Next S Event Ending) → testing all_fit refused step ≡ step
+untested_step step = λ i trace s. untested refused trace (step trace s) i
+
+core_is : (core : Core) (pins : Pins) (input : List ℕ) (n heap : ℕ) → tested_core core pins all_fit refused input n heap ≡ counted_meaning.meaning core pins input n heap
+core_is core pins input n heap =
+    let run : counted_meaning.Run → counted_meaning.Run = λ r. runs.after (testing all_fit refused (counted_meaning.step core pins heap)) r (meaning.enough core r.state.state) in
+    let r = counted_meaning.begun core input n in
+    ap (λ next. run (runs.led [] next)) (untested refused [] (counted_meaning.first_call core input n))
+    ∙ ap (λ step. runs.after step r (meaning.enough core r.state.state)) (untested_step (counted_meaning.step core pins heap))
+
+code_is : (code : Code) (input : List ℕ) (n heap : ℕ) → tested_code code all_fit refused input n heap ≡ code_meaning.meaning code input n heap
+code_is code input n heap =
+    let c = code_meaning.start code input n in
+    ap (λ step. runs.after step (runs.fresh c) (code_meaning.enough code c.state)) (untested_step (code_meaning.step code heap))
+
+pub tested_means_core : TestedCodeMeansCore
+tested_means_core core pins code sound exact ascending compiled fits refused input n heap =
+    let ended = core_ends core pins code sound exact ascending compiled fits refused heap input n in
+    (ended.0, ended.1, same_tested core pins code sound exact ascending compiled fits refused heap input n)
+
+pub means_core : CodeMeansCore
+means_core core pins code sound exact ascending compiled input n heap =
+    let same = same_tested core pins code sound exact ascending compiled all_fit refused heap input n in
+    subst (λ (r : counted_meaning.Run). SameRun r (code_meaning.meaning code input n heap)) (core_is core pins input n heap) (subst (SameRun (tested_core core pins all_fit refused input n heap)) (code_is code input n heap) same)

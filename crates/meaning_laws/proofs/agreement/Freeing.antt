@@ -1,34 +1,13 @@
 -- Objects are freed and grown in code as in the core.
-use Rattle.std.proofs.Common.{◌≡◌, ℕ, List, [], ◌∷◌, ◌++◌, length, set, Some, Result, Ok, Err, refl, Bool, true, false}
-use Rattle.std.specs.Prelude.{slice_get, unwrap_or}
-use Rattle.hs_base.specs.declared.ends.Reason.{Reason}
-use Rattle.hs_base.specs.declared.values.Pointer.{Pointer}
+use Rattle.meaning_laws.proofs.Words.Core.{Code, Core, Func, Layout, Object, Pointer, Reason, Refusal, State, Stm, Value, freed_at, queued, site_of}
+use Rattle.meaning_laws.proofs.Words.Meaning.{IsCompiled, Pins, address, birth_of, counts_at, holds_on, made, no_place, pins_of, renumbered, start_of, with_new, with_objects}
+use Rattle.meaning_laws.proofs.Words.Std.{Bool, Err, List, Ok, Result, Some, [], false, length, refl, set, slice_get, true, unwrap_or, ℕ, ◌++◌, ◌∷◌, ◌≡◌}
 use Rattle.hs_base.specs.declared.values.Pointer.TheVariants as pointer
-use Rattle.hs_base.specs.declared.values.Value.{Value}
-use Rattle.hs_base.specs.Access.{Refusal}
-use Rattle.hs_base.specs.Freeing.{freed_at, queued}
-use Rattle.hs_base.specs.Object.{Object}
-use Rattle.hs_base.specs.State.{State}
-use Rattle.c_types.specs.declared.layouts.Layout.{Layout}
-use Rattle.core_tree.specs.declared.program.Core.{Core}
-use Rattle.core_tree.specs.declared.program.Func.{Func}
-use Rattle.core_tree.specs.declared.statements.Stm.{Stm}
-use Rattle.flat_code.specs.declared.program.Code.{Code}
-use Rattle.flat_code.specs.Sites.{site_of}
-use Rattle.object_meaning.specs.objects.Values.{address, start_of}
-use Rattle.object_meaning.specs.objects.Going.{with_objects}
-use Rattle.object_meaning.specs.objects.Making.{with_new}
-use Rattle.object_meaning.specs.objects.Heap.{birth_of, no_place, made}
-use Rattle.object_meaning.specs.counted.Pinning.{Pins, pins_of, holds_on, counts_at}
-use Rattle.object_meaning.specs.counted.Counting.{renumbered}
 use Rattle.object_meaning.specs.counted.Freeing as counted
 use Rattle.object_meaning.specs.code.Freeing as freeing
-use Rattle.object_meaning.specs.compiled.Compiled.{IsCompiled}
-use Rattle.meaning_laws.proofs.counts.Pins.{HasSorts}
-use Rattle.meaning_laws.proofs.counts.Sorting.{FitsIn, InOrder, set_sorts}
+use Rattle.meaning_laws.proofs.counts.Sorting.{HasSorts, FitsIn, InOrder, set_sorts}
 use Rattle.meaning_laws.proofs.counts.Listed.{AreListed}
-use Rattle.meaning_laws.proofs.agreement.Moved.{moved_same}
-use Rattle.meaning_laws.proofs.agreement.Keeping.{Follows, with_same, IsLast, acting, alike, arrives}
+use Rattle.meaning_laws.proofs.agreement.Keeping.{moved_same, Follows, with_same, IsLast, acting, alike, arrives}
 use Rattle.meaning_laws.proofs.agreement.Library.{none_both, made_both}
 use Rattle.meaning_laws.proofs.agreement.Scopes.{in_scope_follows}
 

@@ -1,30 +1,13 @@
 -- The instructions that hand over the operands of a statement.
-use Rattle.std.proofs.Common.{◌≡◌, ℕ, ℤ, suc, pos, negsuc, ◌+◌, ◌^◌, ◌<◌, Bool, true, false, cond, List, [], ◌∷◌, ◌++◌, map, length, Some, refl, sym, ap, ◌∙◌, subst, arith}
-use Rattle.std.specs.Prelude.{slice_get, slice_index, int_lt, ◌-ℤ◌, unsigned_abs}
-use Rattle.std.specs.List.{list_any}
-use Rattle.std.proofs.lemmas.Bool.{or_parts}
-use Rattle.std.proofs.lemmas.List.{append-nil, append_assoc}
-use Rattle.std.proofs.lemmas.Int.{ints, int_rem_euclid_is}
-use Rattle.hs_base.specs.declared.values.Value.{Value}
-use Rattle.hs_base.specs.State.{Frame, State}
-use Rattle.hs_base.specs.Trace.{Event, Ending}
+use Rattle.meaning_laws.proofs.Words.Core.{Atom, Code, Ending, Event, Frame, Instr, IsNumber, State, Value, after_zero, has_place}
+use Rattle.meaning_laws.proofs.Words.Meaning.{CodeState, act_at, at_point, hand, hand_of, hand_or_act, handed_value, holds_stale, instr, number, testing, unsigned, value_of}
+use Rattle.meaning_laws.proofs.Words.Std.{Bool, List, Some, [], ap, append-nil, append_assoc, arith, cond, false, int_lt, int_rem_euclid_is, ints, length, list_any, map, negsuc, or_parts, pos, refl, slice_get, slice_index, subst, suc, sym, true, unsigned_abs, ℕ, ℤ, ◌++◌, ◌+◌, ◌-ℤ◌, ◌<◌, ◌^◌, ◌∙◌, ◌∷◌, ◌≡◌}
 use Rattle.hs_base.specs.Runs as runs
-use Rattle.hs_base.specs.Place.{has_place}
-use Rattle.hs_base.specs.RunsEquations.{after_zero}
-use Rattle.core_tree.specs.declared.statements.Atom.{Atom}
 use Rattle.core_tree.specs.declared.statements.Atom.TheVariants as atom
-use Rattle.core_tree.specs.Sound.{IsNumber}
-use Rattle.flat_code.specs.declared.instructions.Instr.{Instr}
-use Rattle.flat_code.specs.declared.program.Code.{Code}
-use Rattle.object_meaning.specs.objects.Values.{number, value_of, holds_stale}
-use Rattle.object_meaning.specs.objects.Going.{at_point}
-use Rattle.meaning_laws.specs.counted.Laws.{testing}
-use Rattle.object_meaning.specs.code.CodeState.{CodeState}
-use Rattle.object_meaning.specs.code.CodeMeaning.{unsigned, handed_value, hand, hand_or_act, act_at, step}
+use Rattle.object_meaning.specs.code.CodeMeaning.{step}
 use Rattle.flat_code.specs.declared.instructions.Op.TheVariants as op
-use Rattle.object_meaning.specs.compiled.Handing.{instr, hand_of}
 use Rattle.meaning_laws.proofs.agreement.Following.{going, after_first}
-use Rattle.meaning_laws.proofs.form.Numbered.{InRange, AllInRange}
+use Rattle.meaning_laws.proofs.form.Instructions.{InRange, AllInRange}
 
 -- a number from 2^63 on is handed over by its low 64 bits
 large : (n : ℕ) → n < 2 ^ 64 → unsigned (pos n -ℤ pos (2 ^ 64)) ≡ pos n

@@ -1,26 +1,50 @@
 -- What an effect on the state of a core and the same effect on that of its code have in common.
-use Rattle.std.proofs.Common.{◌≡◌, ℕ, zero, suc, ◌+◌, ◌*◌, ◌<◌, ◌≤◌, Bool, true, false, List, [], map, length, Option, Some, None, Result, Ok, Err, refl, sym, ap, ◌∙◌, arith}
-use Rattle.std.specs.List.{sum_by}
-use Rattle.hs_base.specs.declared.values.Value.{Value}
-use Rattle.hs_base.specs.Access.{Refusal}
-use Rattle.hs_base.specs.Object.{Object, object_at}
-use Rattle.hs_base.specs.State.{State}
-use Rattle.hs_base.specs.Trace.{Event, Ending}
+use Rattle.meaning_laws.proofs.Words.Core.{Code, Core, Ending, Enter, Entry, Event, Frame, Func, Layout, Mem, Object, Refusal, Reg, State, Value, call_cost, object_at, site_of}
+use Rattle.meaning_laws.proofs.Words.Meaning.{CodeState, CountedState, IsCompiled, IsEntry, Next, Pins, SameFrames, SameState, answers, at_point, branch, changes, code_left, enough, fewer, more, onward, other_numbers, pins_of, pointer_of_register, put, renumbered, same_numbers, with_objects, write}
+use Rattle.meaning_laws.proofs.Words.Std.{Bool, Err, List, None, Ok, Option, Result, Some, [], ap, arith, drop, drop-map, enumerate_from, false, length, length-map, map, option_map_or, refl, slice_get, suc, sum_by, sum_by-cons, sym, true, unwrap_or, zero, ℕ, ◌*◌, ◌++◌, ◌+◌, ◌-◌, ◌<◌, ◌∙◌, ◌∷◌, ◌≡◌, ◌≤◌}
+use Rattle.meaning_laws.proofs.agreement.Places.{place_at, place_is}
+use Rattle.object_meaning.specs.counted.Pinning.{pinned}
 use Rattle.hs_base.specs.Runs as runs
-use Rattle.core_tree.specs.declared.program.Core.{Core}
-use Rattle.flat_code.specs.declared.program.Code.{Code}
 use Rattle.object_meaning.specs.objects.Going as going
-use Rattle.object_meaning.specs.objects.Going.{at_point, onward, put, write, with_objects, answers, changes}
-use Rattle.object_meaning.specs.objects.Meaning.{branch}
 use Rattle.object_meaning.specs.counted.CountedState as counted
-use Rattle.object_meaning.specs.counted.CountedState.{CountedState}
-use Rattle.object_meaning.specs.counted.Counting.{more, fewer, renumbered}
-use Rattle.object_meaning.specs.code.CodeState.{CodeState, Next, same_numbers, other_numbers}
 use Rattle.object_meaning.specs.code.Entering as entering
-use Rattle.object_meaning.specs.code.CodeMeaning.{enough, code_left}
-use Rattle.meaning_laws.specs.compiled.SameRun.{SameState}
-use Rattle.meaning_laws.proofs.agreement.Places.{place_at}
-use Rattle.meaning_laws.proofs.agreement.Moved.{waiting_frame, moved, moved_same}
+use Rattle.object_meaning.specs.objects.Values as core_values
+use Rattle.object_meaning.specs.objects.Making as making
+use Rattle.object_meaning.specs.objects.Calls as core_calls
+
+-- The state of a core as its code has it: the points are instructions.
+
+-- the running frame is at the first instruction of its statement
+abbrev pub moved_frame : Core → Frame → Frame
+moved_frame core frame = record frame { point = place_at core frame.func frame.point }
+
+-- a waiting frame is at the last instruction of its statement, which calls
+abbrev pub waiting_frame : Core → Frame → Frame
+waiting_frame core frame = record frame { point = place_at core frame.func (frame.point + 1) - 1 }
+
+abbrev pub moved : Core → State → State
+moved core s = record s { running = moved_frame core s.running; waiting = map (waiting_frame core) s.waiting }
+
+same_waiting : (core : Core) (frames : List Frame) → SameFrames frames (map (waiting_frame core) frames)
+same_waiting core [] = tt
+same_waiting core (frame ∷ frames) =
+    (record { func = refl; regs = refl; first_local = refl }, same_waiting core frames)
+
+-- the points alone differ
+pub moved_same : (core : Core) (s : State) (point : ℕ) → SameState s (at_point (moved core s) point)
+moved_same core s point = record {
+  objects = refl;
+  running = record { func = refl; regs = refl; first_local = refl };
+  waiting = same_waiting core s.waiting;
+  queue = refl;
+  scopes = refl;
+  input = refl;
+  steps = refl;
+}
+
+-- What an effect on the state of a core and the same effect on that of its code have in common.
+
+-- What an effect on the state of a core and the same effect on that of its code have in common.
 
 -- numbers that the states before and behind give are the same where the objects are
 abbrev pub ByObjects : (State → State → ℕ → ℕ) → (State → State → ℕ → ℕ) → Type 0
@@ -145,3 +169,121 @@ module _ (core : Core) (code : Code) (s : State) (q j : ℕ) (last : IsLast core
   pub goes_back : (m l : ℕ) → m + 1 ≡ s.steps → Both (going.goes (record s { steps = m }) [] (at_point (record s { steps = m }) l)) (going.goes (record (acting s) { steps = m }) [] (at_point (record (acting s) { steps = m }) (place_at core s.running.func l)))
   goes_back m l e =
       (refl, moved_same core (record s { steps = m }) q, record { same = refl; left = omega (arith, last.here, last.within, ap (λ k. k * (length code.instrs + 1)) e) })
+
+-- A function is entered in code as it is in its core.
+
+firsts : (regs : List Reg) → map entering.first_value (map (λ (r : Reg). r.pointer) regs) ≡ map core_values.first_value regs
+firsts [] = refl
+firsts (r ∷ regs) = ap (λ vs. core_values.first_value r ∷ vs) (firsts regs)
+
+abbrev layouts : List Mem → List Layout
+layouts mems = map (λ (m : Mem). m.layout) mems
+
+-- layouts by their numbers
+numbered : (code : Code) (numbers : List ℕ) (mems : List Mem) → map (slice_get code.layouts) numbers ≡ map (λ (m : Mem). Some m.layout) mems → map (entering.layout_in code) numbers ≡ layouts mems
+numbered code [] [] e = refl
+numbered code [] (m ∷ mems) e = absurd (cc)
+numbered code (n ∷ numbers) [] e = absurd (cc)
+numbered code (n ∷ numbers) (m ∷ mems) e =
+    let first : slice_get code.layouts n ≡ Some m.layout = cc in
+    let rest : map (slice_get code.layouts) numbers ≡ map (λ (m : Mem). Some m.layout) mems = cc in
+    ap (λ o. option_map_or (λ (l : Layout). l) o entering.no_layout ∷ map (entering.layout_in code) numbers) first
+    ∙ ap (λ ls. m.layout ∷ ls) (numbered code numbers mems rest)
+
+sizes : (mems : List Mem) → map (λ (l : Layout). l.size) (layouts mems) ≡ map (λ (m : Mem). m.layout.size) mems
+sizes [] = refl
+sizes (m ∷ mems) = ap (λ ns. m.layout.size ∷ ns) (sizes mems)
+
+objects : (g k : ℕ) (mems : List Mem) → map (entering.local_object g) (enumerate_from k (layouts mems)) ≡ map (making.local_object g) (enumerate_from k mems)
+objects g k [] = refl
+objects g k (m ∷ mems) = ap (λ os. making.local_object g (k, m) ∷ os) (objects g (k + 1) mems)
+
+module _ (core : Core) (pins : Pins) (code : Code) (compiled : IsCompiled core pins code) (g : ℕ) (callee : Func) (here : slice_get core.funcs g ≡ Some callee) where
+  entry : Entry
+  entry = (compiled.functions g callee here).0
+
+  found : slice_get code.funcs g ≡ Some entry
+  unfolding entry
+  found = (compiled.functions g callee here).1
+
+  is_entry : IsEntry core code g callee entry
+  unfolding entry
+  is_entry = (compiled.functions g callee here).2
+
+  -- the memory locals of a core, and their layouts in code
+  abbrev mems : List Mem
+  mems = core_calls.locals_of (slice_get core.funcs g)
+
+  locals_same : entering.locals_of code (slice_get code.funcs g) ≡ layouts mems
+  locals_same =
+      ap (entering.locals_of code) found
+      ∙ numbered code entry.mems callee.mems is_entry.mems
+      ∙ ap (λ o. layouts (core_calls.locals_of o)) (sym here)
+
+  pub objects_same : map (entering.local_object g) (enumerate_from 0 (entering.locals_of code (slice_get code.funcs g))) ≡ making.local_objects g mems
+  objects_same = ap (λ ls. map (entering.local_object g) (enumerate_from 0 ls)) locals_same ∙ objects g 0 mems
+
+  pub count_same : length (entering.locals_of code (slice_get code.funcs g)) ≡ length mems
+  count_same = ap (λ (ls : List Layout). length ls) locals_same ∙ length-map mems (λ (m : Mem). m.layout)
+
+  kinds : entering.kinds_of (slice_get code.funcs g) ≡ map (λ (r : Reg). r.pointer) callee.regs
+  kinds = ap entering.kinds_of found ∙ is_entry.kinds
+
+  registers : core_calls.registers_of (slice_get core.funcs g) ≡ callee.regs
+  registers = ap core_calls.registers_of here
+
+  first_values : (n : ℕ) → map entering.first_value (drop n (entering.kinds_of (slice_get code.funcs g))) ≡ map core_values.first_value (drop n (core_calls.registers_of (slice_get core.funcs g)))
+  first_values n =
+      ap (λ ks. map entering.first_value (drop n ks)) kinds
+      ∙ ap (map entering.first_value) (drop-map (λ (r : Reg). r.pointer) n callee.regs)
+      ∙ firsts (drop n callee.regs)
+      ∙ ap (λ regs. map core_values.first_value (drop n regs)) (sym registers)
+
+  first_place : entering.first_of (slice_get code.funcs g) ≡ place_at core g 0
+  first_place = omega (arith, ap entering.first_of found, is_entry.first, place_is core g callee here 0)
+
+  pub frame_same : (values : List Value) (n : ℕ) → entering.new_frame code g values n ≡ moved_frame core (core_calls.new_frame core g values n)
+  frame_same values n =
+      let made : ℕ → List Value → Frame = λ point regs. record { func = g; point = point; regs = values ++ regs; first_local = n } in
+      ap (λ p. made p (map entering.first_value (drop (length values) (entering.kinds_of (slice_get code.funcs g))))) first_place
+      ∙ ap (made (place_at core g 0)) (first_values (length values))
+
+  pub cost_same : entering.cost_of code (slice_get code.funcs g) ≡ core_calls.cost_of (slice_get core.funcs g)
+  cost_same =
+      let many : length (entering.kinds_of (slice_get code.funcs g)) ≡ length (core_calls.registers_of (slice_get core.funcs g)) = ap (λ (ks : List Bool). length ks) kinds ∙ length-map callee.regs (λ (r : Reg). r.pointer) ∙ ap (λ (regs : List Reg). length regs) (sym registers) in
+      ap (λ n. call_cost n (map (λ (l : Layout). l.size) (entering.locals_of code (slice_get code.funcs g)))) many
+      ∙ ap (call_cost (length (core_calls.registers_of (slice_get core.funcs g)))) (ap (map (λ (l : Layout). l.size)) locals_same ∙ sizes mems)
+
+-- A call does in code what it does in the core.
+
+module _ (core : Core) (pins : Pins) (code : Code) (compiled : IsCompiled core pins code) (g : ℕ) (callee : Func) (here : slice_get core.funcs g ≡ Some callee) where
+  -- the state in which a function begins, of a core and of its code
+  pub entered_same : (s : State) (values : List Value) (waiting : List Frame) → entering.with_locals code (record (moved core s) { running = entering.new_frame code g values (length s.objects); waiting = map (waiting_frame core) waiting }) ≡ moved core (core_calls.with_locals core (record s { running = core_calls.new_frame core g values (length s.objects); waiting = waiting }))
+  entered_same s values waiting =
+      let made : List Object → Frame → State = λ objects frame. record (moved core s) { objects = s.objects ++ objects; running = frame; waiting = map (waiting_frame core) waiting } in
+      ap (λ os. made os (entering.new_frame code g values (length s.objects))) (objects_same core pins code compiled g callee here)
+      ∙ ap (made (making.local_objects g (core_calls.locals_of (slice_get core.funcs g)))) (frame_same core pins code compiled g callee here values (length s.objects))
+
+  module _ (s : State) (q j : ℕ) (last : IsLast core code s q j) (own : unwrap_or (site_of code.sites q) [] ≡ pins_of pins s.running.func s.running.point) where
+    abbrev there : State
+    there = acting core code s q j last s
+
+    -- the frame that calls waits at the last instruction of its statement
+    waits : there.running ≡ waiting_frame core s.running
+    waits =
+        ap (λ p. let frame : Frame = record s.running { point = p } in frame) (omega (arith, last.next))
+
+    -- and its pins count
+    pub call_follows : (line : ℕ) (values : List Value) (numbers : ℕ → ℕ) (m : ℕ) → m + 1 ≡ s.steps → Follows core code s j (counted.other_numbers (λ before after. more numbers (pinned pins before.running)) numbers (core_calls.call core line g values (record s { steps = m }))) (entering.call code line g values numbers (record there { steps = m }))
+    call_follows line values numbers m e =
+        let t : State = record s { steps = m } in
+        let begun : Frame → State = λ frame. entering.with_locals code (record (moved core t) { running = entering.new_frame code g values (length s.objects); waiting = frame ∷ map (waiting_frame core) s.waiting }) in (
+          ap (λ cost. Enter cost line ∷ []) (cost_same core pins code compiled g callee here),
+          refl,
+          record {
+            same = ap begun waits ∙ entered_same t values (s.running ∷ s.waiting);
+            left = omega (arith, last.here, last.next, last.within, ap (λ k. k * (length code.instrs + 1)) e, sum_by-cons (code_left code) (waiting_frame core s.running) (map (waiting_frame core) s.waiting));
+          },
+          ap (λ rs. more numbers (map (pointer_of_register s.running) rs)) own,
+          (moved_same core t q, refl),
+        )

@@ -1,26 +1,10 @@
 -- Built-in functions, printf and new objects do the same to the state of a core and to that of its code.
-use Rattle.std.proofs.Common.{ℕ, List, [], ◌∷◌, map, Option, Some, None, Result, Ok, Err, pos, negsuc, refl, Bool, true, false}
+use Rattle.meaning_laws.proofs.Words.Core.{Code, Core, Exit, In, Layout, LibName, Object, Out, Pointer, Refusal, State, Trap, Value}
+use Rattle.meaning_laws.proofs.Words.Meaning.{address, birth_in, birth_of, byte_in, call_lib, ended_by, filled, get_byte, if_done, made, no_place, number, number_at, pointer_at, print, print_format, put_line, with_new, with_objects}
+use Rattle.meaning_laws.proofs.Words.Std.{Bool, Err, List, None, Ok, Option, Result, Some, [], false, map, negsuc, pos, refl, true, ℕ, ◌∷◌}
 use Rattle.hs_base.specs.declared.ends.TrapKind.TheVariants as trap
-use Rattle.hs_base.specs.declared.values.Pointer.{Pointer}
 use Rattle.hs_base.specs.declared.values.Pointer.TheVariants as pointer
-use Rattle.hs_base.specs.declared.values.Value.{Value}
-use Rattle.hs_base.specs.Access.{Refusal}
-use Rattle.hs_base.specs.Object.{Object}
-use Rattle.hs_base.specs.State.{State}
-use Rattle.hs_base.specs.Trace.{Out, In, Exit, Trap}
-use Rattle.c_types.specs.declared.layouts.Layout.{Layout}
-use Rattle.core_tree.specs.declared.program.Core.{Core}
-use Rattle.core_tree.specs.declared.statements.LibName.{LibName}
 use Rattle.core_tree.specs.declared.statements.LibName.TheVariants as lib
-use Rattle.flat_code.specs.declared.program.Code.{Code}
-use Rattle.object_meaning.specs.objects.Values.{number, address, number_at, pointer_at}
-use Rattle.object_meaning.specs.objects.Going.{with_objects, ended_by, if_done}
-use Rattle.object_meaning.specs.objects.Making.{with_new}
-use Rattle.object_meaning.specs.objects.Heap.{birth_of, made, no_place}
-use Rattle.object_meaning.specs.objects.Printing.{print}
-use Rattle.object_meaning.specs.objects.Builtins.{byte_in, get_byte, put_line, filled, call_lib}
-use Rattle.object_meaning.specs.objects.Meaning.{print_format}
-use Rattle.object_meaning.specs.counted.Counting.{birth_in}
 use Rattle.object_meaning.specs.counted.CountedMeaning as counted
 use Rattle.object_meaning.specs.code.CodeMeaning as code_meaning
 use Rattle.meaning_laws.proofs.agreement.Keeping.{ByObjects, renumbered_same, IsLast, acting, Both, alike, writes, stops, answers_both}

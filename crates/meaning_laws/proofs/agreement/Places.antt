@@ -1,18 +1,7 @@
 -- Where the statements of a core stand in its code.
-use Rattle.std.proofs.Common.{◌≡◌, ℕ, ◌+◌, ◌<◌, ◌≤◌, List, length, take, Option, Some, None, ap, subst, arith}
-use Rattle.std.specs.Prelude.{slice_get}
-use Rattle.std.specs.List.{sum_by}
-use Rattle.std.proofs.lemmas.List.{take-take}
-use Rattle.std.proofs.lemmas.List.Sums.{sum_by_more, sum_by-take-le}
-use Rattle.std.proofs.lemmas.Option.{slice_get_within, get_or_from_slice_get}
-use Rattle.core_tree.specs.declared.program.Core.{Core}
-use Rattle.core_tree.specs.declared.program.Func.{Func}
-use Rattle.core_tree.specs.declared.statements.Stm.{Stm}
-use Rattle.flat_code.specs.declared.program.Code.{Code}
-use Rattle.object_meaning.specs.counted.Pinning.{Pins}
-use Rattle.object_meaning.specs.compiled.Handing.{code_length}
-use Rattle.object_meaning.specs.compiled.Places.{body_length, first_of, place_of}
-use Rattle.object_meaning.specs.compiled.Compiled.{IsCompiled}
+use Rattle.meaning_laws.proofs.Words.Core.{Code, Core, Func, Stm}
+use Rattle.meaning_laws.proofs.Words.Meaning.{IsCompiled, Pins, body_length, code_length, first_of, place_of}
+use Rattle.meaning_laws.proofs.Words.Std.{List, None, Option, Some, ap, arith, get_or_from_slice_get, length, slice_get, slice_get_within, subst, sum_by, sum_by-take-le, sum_by_more, take, take-take, ℕ, ◌+◌, ◌<◌, ◌≡◌, ◌≤◌}
 
 -- the first instruction of the statement at a point of a function that may not be there
 abbrev pub placed : Core → ℕ → Option Func → ℕ → ℕ

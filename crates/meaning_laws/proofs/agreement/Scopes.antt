@@ -1,33 +1,54 @@
 -- Scopes are opened and closed alike, and a check decides alike.
-use Rattle.std.proofs.Common.{◌≡◌, ℕ, zero, suc, ◌+◌, List, [], map, Option, Some, None, refl, sym, ap, subst}
-use Rattle.std.specs.Prelude.{slice_get, unwrap_or}
-use Rattle.hs_base.specs.declared.ends.Reason.TheVariants as reason
-use Rattle.hs_base.specs.declared.values.Value.{Value}
-use Rattle.hs_base.specs.Freeing.{check_numbers, line_of_free, buried}
-use Rattle.hs_base.specs.Object.{Object, object_at}
-use Rattle.hs_base.specs.State.{State}
-use Rattle.hs_base.specs.Trace.{Event, BadFree}
-use Rattle.core_tree.specs.declared.program.Core.{Core}
-use Rattle.core_tree.specs.declared.program.Func.{Func}
-use Rattle.core_tree.specs.declared.statements.Stm.{Stm}
-use Rattle.flat_code.specs.declared.program.Code.{Code}
-use Rattle.flat_code.specs.Sites.{site_of}
+use Rattle.meaning_laws.proofs.Words.Core.{BadFree, Code, Core, Event, Frame, Func, Holder, Object, State, Stm, Value, buried, check_numbers, is_pointer_to, line_of_free, object_at, site_of}
+use Rattle.meaning_laws.proofs.Words.Meaning.{IsCompiled, Pins, SameState, at_point, bury, counts_at, holds_on, inside_objects, more, pins_of, pointer_of_register, without_those_inside}
+use Rattle.meaning_laws.proofs.Words.Std.{List, None, Option, Some, [], ap, filter, flat_map, map, refl, reverse, slice_get, subst, suc, sym, unwrap_or, zero, ℕ, ◌++◌, ◌+◌, ◌∙◌, ◌∷◌, ◌≡◌}
+use Rattle.object_meaning.specs.code.Checking.{in_pins}
+use Rattle.meaning_laws.proofs.counts.Sorting.{HasSorts, CallsIt, Calls, InOrder, same_func}
+use Rattle.meaning_laws.proofs.counts.Listed.{AreListed, held_by_pins, holders_by_pins, turned}
+use Rattle.meaning_laws.proofs.agreement.Keeping.{waiting_frame, moved, moved_same, Alike, Follows, IsLast, acting, arrives}
+use Rattle.meaning_laws.proofs.agreement.Returns.{pins_waiting}
 use Rattle.object_meaning.specs.objects.Holding.{first_of}
-use Rattle.object_meaning.specs.objects.Scoping as scoping
-use Rattle.object_meaning.specs.objects.Scoping.{bury}
-use Rattle.object_meaning.specs.counted.Pinning.{Pins, pins_of, pointer_of_register, holds_on, counts_at}
-use Rattle.object_meaning.specs.counted.CountedState as counted
-use Rattle.object_meaning.specs.counted.Counting.{more, without_those_inside}
-use Rattle.object_meaning.specs.counted.Checking as counted_checking
+use Rattle.hs_base.specs.declared.ends.Holder.TheVariants as holder
+use Rattle.core_tree.specs.declared.statements.StmKind.TheVariants as stm
+use Rattle.object_meaning.specs.objects.Holding as holding
 use Rattle.object_meaning.specs.code.Checking as checking
-use Rattle.object_meaning.specs.compiled.Compiled.{IsCompiled}
-use Rattle.meaning_laws.specs.compiled.SameRun.{SameState}
-use Rattle.meaning_laws.proofs.counts.Pins.{HasSorts}
-use Rattle.meaning_laws.proofs.counts.Sorting.{InOrder}
-use Rattle.meaning_laws.proofs.counts.Listed.{AreListed}
-use Rattle.meaning_laws.proofs.agreement.Moved.{moved_same}
-use Rattle.meaning_laws.proofs.agreement.Keeping.{Alike, Follows, IsLast, acting, arrives}
-use Rattle.meaning_laws.proofs.agreement.Holders.{holders_same}
+use Rattle.hs_base.specs.declared.ends.Reason.TheVariants as reason
+use Rattle.object_meaning.specs.objects.Scoping as scoping
+use Rattle.object_meaning.specs.counted.CountedState as counted
+use Rattle.object_meaning.specs.counted.Checking as counted_checking
+
+-- The holders of an object are the same in a core and in its code.
+
+-- the pinned registers of a frame that point to an object, from their numbers
+abbrev held_in : ℕ → Frame → List ℕ → List Holder
+held_in x frame registers =
+    map (λ r. holder.Register frame.func r) (filter (λ r. is_pointer_to x (pointer_of_register frame r)) registers)
+
+module _ (core : Core) (pins : Pins) (code : Code) (compiled : IsCompiled core pins code) (x : ℕ) where
+  one_waiting : (callee : ℕ) (frame : Frame) → CallsIt core callee frame → in_pins code x (waiting_frame core frame) ≡ held_by_pins pins x frame
+  one_waiting callee frame w =
+      let called : Stm = record { line = w.line; kind = stm.Call callee w.answer w.args } in
+      ap (held_in x frame) (pins_waiting core pins code compiled frame.func w.func w.here frame.point called w.at refl)
+
+  all_waiting : (callee : ℕ) (waiting : List Frame) → Calls core callee waiting → flat_map (in_pins code x) (reverse (map (waiting_frame core) waiting)) ≡ flat_map (held_by_pins pins x) (reverse waiting)
+  all_waiting callee [] h = refl
+  all_waiting callee (frame ∷ waiting) h =
+      turned (in_pins code x) (waiting_frame core frame) (map (waiting_frame core) waiting)
+      ∙ ap (λ hs. hs ++ in_pins code x (waiting_frame core frame)) (all_waiting frame.func waiting h.1)
+      ∙ ap (λ hs. flat_map (held_by_pins pins x) (reverse waiting) ++ hs) (one_waiting callee frame h.0)
+      ∙ sym (turned (held_by_pins pins x) frame waiting)
+
+  -- at a statement where objects may be freed, also where its registers and objects were changed
+  pub holders_same : AreListed core pins → (s : State) (func : Func) (here : slice_get core.funcs s.running.func ≡ Some func) → InOrder core s → (stm : Stm) → slice_get func.body s.running.point ≡ Some stm → ((r : ℕ) → counts_at func s.running.point stm.kind r ≡ holds_on func s.running.point r) → (q : ℕ) → unwrap_or (site_of code.sites q) [] ≡ pins_of pins s.running.func s.running.point → (objects : List Object) (regs : List Value) → HasSorts func regs → (left : List ℕ) → (let t : State = record s { objects = objects; running = record s.running { regs = regs } } in checking.holders code (at_point (moved core t) q) x left ≡ holding.holders core t x left)
+  holders_same listed s func here order stm at all q own objects regs sorts left =
+      let frame : Frame = record s.running { regs = regs } in
+      let t : State = record s { objects = objects; running = frame; queue = [] } in
+      let calm : InOrder core t = record { sorts = λ g there. subst (λ (f : Func). HasSorts f regs) (same_func core s.running.func func g here there) sorts; calls = order.calls; once = tt } in
+      ap (λ hs. inside_objects left x objects ++ hs ++ held_in x frame (unwrap_or (site_of code.sites q) [])) (all_waiting s.running.func s.waiting order.calls)
+      ∙ ap (λ rs. inside_objects left x objects ++ flat_map (held_by_pins pins x) (reverse s.waiting) ++ held_in x frame rs) own
+      ∙ sym (holders_by_pins core pins listed x t func here stm at all calm left)
+
+-- Scopes are opened and closed alike, and a check decides alike.
 
 -- a scope is opened
 pub enter_follows : (core : Core) (code : Code) (s : State) (q j : ℕ) (last : IsLast core code s q j) (numbers : ℕ → ℕ) → Follows core code s j (counted.same_numbers numbers (scoping.enter s)) (checking.enter numbers (acting core code s q j last s))

@@ -1,18 +1,12 @@
 -- Runs in which each event is tested before it comes.
-use Rattle.std.proofs.Common.{◌≡◌, ℕ, zero, suc, ◌+◌, ◌<◌, ◌≤◌, Bool, true, false, cond, List, [], ◌∷◌, Option, Some, None, refl, sym, ap, ◌∙◌, subst, arith}
-use Rattle.hs_base.specs.State.{State}
-use Rattle.hs_base.specs.Trace.{Event, Ending}
-use Rattle.hs_base.specs.Runs.{Next, Goes, Stops, Ran, led, moved, after, tested}
-use Rattle.hs_base.specs.RunsEquations.{after_zero, after_stays}
-use Rattle.core_tree.specs.declared.program.Core.{Core}
-use Rattle.core_tree.specs.Sound.{IsSound}
+use Rattle.meaning_laws.proofs.Words.Core.{Core, Ending, Event, Goes, IsSound, Ran, State, Stops, after, after_stays, after_zero, led, moved, tested}
+use Rattle.meaning_laws.proofs.Words.Meaning.{LeavesLess, testing}
+use Rattle.meaning_laws.proofs.Words.Std.{Bool, List, None, Option, Some, [], ap, arith, cond, false, refl, subst, suc, sym, true, zero, ℕ, ◌+◌, ◌<◌, ◌∙◌, ◌∷◌, ◌≡◌, ◌≤◌}
+use Rattle.hs_base.specs.Runs.{Next}
 use Rattle.object_meaning.specs.objects.Going as going
 use Rattle.object_meaning.specs.objects.Meaning as meaning
 use Rattle.object_meaning.specs.objects.Meaning.{enough}
-use Rattle.meaning_laws.specs.objects.Laws.{LeavesLess}
-use Rattle.meaning_laws.proofs.dangling.Falls.{step_falls_at}
-use Rattle.meaning_laws.proofs.dangling.Forward.{all_forward}
-use Rattle.meaning_laws.specs.counted.Laws.{testing}
+use Rattle.meaning_laws.proofs.dangling.Falls.{step_falls_at, all_forward}
 use Rattle.meaning_laws.proofs.agreement.Following.{after_first}
 
 -- A test that lets every event through

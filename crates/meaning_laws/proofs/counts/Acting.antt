@@ -1,50 +1,18 @@
 -- Each statement of a sound core in turn does the same in both meanings.
-use Rattle.std.proofs.Common.{◌≡◌, ℕ, pos, negsuc, ◌+◌, ◌*◌, Bool, not, List, [], ◌∷◌, ◌++◌, length, map, Option, Some, None, Result, Ok, Err, refl, sym, ap, ◌∙◌, subst}
-use Rattle.std.specs.Prelude.{slice_get}
-use Rattle.hs_base.specs.declared.ends.IntKind.TheVariants.{I32}
-use Rattle.hs_base.specs.declared.values.Pointer.{Pointer}
-use Rattle.hs_base.specs.declared.values.Value.{Value}
-use Rattle.hs_base.specs.Access.{Refusal, and_then}
-use Rattle.hs_base.specs.Numbers.{wrapped}
-use Rattle.hs_base.specs.Object.{Object}
-use Rattle.hs_base.specs.Place.{has_place}
-use Rattle.hs_base.specs.State.{State}
-use Rattle.hs_base.specs.Trace.{Event, Out, In}
-use Rattle.c_types.specs.declared.layouts.Layout.{Layout}
-use Rattle.core_tree.specs.declared.statements.LibName.{LibName}
+use Rattle.meaning_laws.proofs.Words.Core.{Core, Event, Func, GivesResult, I32, In, IsSound, IsTyped, Layout, LibName, Object, Out, Pointer, Refusal, State, Stm, StmKind, Value, and_then, has_place, lib_gives, wrapped}
+use Rattle.meaning_laws.proofs.Words.Meaning.{AreCounts, AreExact, Changes, Good, Holds, IsPlain, OnDone, Pins, address, answers, any_done, any_said, at_point, birth_in, byte_in, bytes_in, call_lib, compared, compared_plain, copied_changes, difference_plain, filled, get_byte, goes, if_done, is_null, kept, loaded_plain, made, needed, number, number_at, number_of, on_one, on_two_plain, order_of, pointer_at, pointer_of, print, put_line, renumbered, set_changes, size_in, statement_at, statement_in, stored_pointer_changes, stored_same, string_at, then_done, truth, truth_plain, value_of, values_of, with_objects, write}
+use Rattle.meaning_laws.proofs.Words.Std.{Bool, Err, List, None, Ok, Option, Result, Some, [], ap, length, map, negsuc, not, pos, refl, slice_get, subst, sym, ℕ, ◌*◌, ◌++◌, ◌+◌, ◌∙◌, ◌∷◌, ◌≡◌}
 use Rattle.core_tree.specs.declared.statements.LibName.TheVariants as lib
-use Rattle.core_tree.specs.declared.statements.Stm.{Stm}
-use Rattle.core_tree.specs.declared.statements.StmKind.{StmKind}
 use Rattle.core_tree.specs.declared.statements.StmKind.TheVariants as stm
-use Rattle.core_tree.specs.declared.program.Func.{Func}
-use Rattle.core_tree.specs.declared.program.Core.{Core}
-use Rattle.core_tree.specs.Sorts.{GivesResult, IsTyped, lib_gives}
-use Rattle.core_tree.specs.Sound.{IsSound}
-use Rattle.object_meaning.specs.objects.Values.{number, address, value_of, number_of, pointer_of, number_at, pointer_at, size_in, bytes_in}
 use Rattle.object_meaning.specs.objects.Going as object_going
-use Rattle.object_meaning.specs.objects.Going.{goes, onward, write, with_objects, if_done, answers, at_point}
-use Rattle.object_meaning.specs.objects.Holding.{statement_in, statement_at}
-use Rattle.object_meaning.specs.objects.Arithmetic.{on_one, truth, compared}
-use Rattle.object_meaning.specs.objects.Heap.{made}
-use Rattle.object_meaning.specs.objects.Strings.{string_at, order_of}
-use Rattle.object_meaning.specs.objects.Printing.{print}
-use Rattle.object_meaning.specs.objects.Builtins.{byte_in, get_byte, put_line, filled, call_lib}
 use Rattle.object_meaning.specs.objects.Meaning as object
-use Rattle.object_meaning.specs.objects.Meaning.{is_null, values_of, format_in}
-use Rattle.meaning_laws.specs.objects.Dangling.{needed}
-use Rattle.meaning_laws.specs.objects.Good.{Holds, Good}
-use Rattle.meaning_laws.proofs.dangling.Operands.{operands_fresh}
-use Rattle.meaning_laws.proofs.dangling.Acting.{found}
-use Rattle.object_meaning.specs.counted.Pinning.{Pins, AreExact}
-use Rattle.object_meaning.specs.counted.CountedState.{kept, same_numbers}
-use Rattle.object_meaning.specs.counted.Counting.{birth_in, renumbered}
+use Rattle.meaning_laws.proofs.dangling.Returning.{operands_fresh}
+use Rattle.meaning_laws.proofs.dangling.Standing.{found}
+use Rattle.object_meaning.specs.counted.CountedState.{same_numbers}
 use Rattle.object_meaning.specs.counted.CountedMeaning as counted
 use Rattle.object_meaning.specs.counted.CountedMeaning.{behind_lib}
-use Rattle.meaning_laws.specs.counted.Counts.{AreCounts}
-use Rattle.meaning_laws.proofs.counts.Pins.{HasSorts}
-use Rattle.meaning_laws.proofs.counts.Sorting.{FitsIn, InOrder, gives_pointer, gives_pointer_result, plain_fits, value_fits}
-use Rattle.meaning_laws.specs.counted.TouchedEquations.{OnDone, any_done, then_done, IsPlain, Any, any_said, truth_plain, on_two_plain, difference_plain, compared_plain, loaded_plain, stored_same, Changes, stored_pointer_changes, copied_changes, set_changes}
-use Rattle.meaning_laws.proofs.counts.Agreeing.{Agrees, Alters, alters_agree, Plain, write_order, on_order, write_plain, answers_plain, changes_plain, renumbered_counts, changes_alter, step_plain, branch_plain, made_plain}
+use Rattle.meaning_laws.proofs.counts.Sorting.{HasSorts, FitsIn, InOrder, gives_pointer, gives_pointer_result, plain_fits, value_fits, Agrees, Alters, alters_agree, Plain, write_order, on_order, write_plain, answers_plain, changes_plain, renumbered_counts, changes_alter, step_plain, branch_plain, made_plain}
+use Rattle.meaning_laws.specs.counted.TouchedEquations.{Any}
 use Rattle.meaning_laws.proofs.counts.Freed.{leave_agrees, free_agrees, grow_agrees}
 use Rattle.meaning_laws.proofs.counts.Calling.{call_agrees, return_agrees}
 

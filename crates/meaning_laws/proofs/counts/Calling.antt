@@ -1,41 +1,18 @@
 -- Calls, and the end of memory locals at returns.
-use Rattle.std.proofs.Common.{◌≡◌, ℕ, zero, suc, pos, ◌+◌, Bool, true, false, cond, not, ◌||◌, nat_eq, List, [], ◌∷◌, ◌++◌, length, map, drop, Option, Some, None, refl, sym, ap, ◌∙◌, subst, arith}
-use Rattle.std.specs.Prelude.{slice_get}
-use Rattle.std.specs.List.{range_with_len}
-use Rattle.std.proofs.lemmas.Bool.{ne_eqb, eq-eqb, true≢false, or_left}
-use Rattle.std.proofs.lemmas.List.{length-append}
-use Rattle.std.proofs.lemmas.List.Sums.{sum_by-cons}
-use Rattle.hs_base.specs.declared.ends.Holder.{Holder}
-use Rattle.hs_base.specs.declared.values.Value.{Value}
-use Rattle.hs_base.specs.Freeing.{is_pointer_to, pointers_to, first_held, end_numbers, ended}
-use Rattle.hs_base.specs.State.{State, Frame}
-use Rattle.core_tree.specs.declared.program.Core.{Core}
-use Rattle.core_tree.specs.declared.program.Func.{Func}
-use Rattle.core_tree.specs.declared.statements.Atom.{Atom}
-use Rattle.core_tree.specs.declared.statements.Stm.{Stm}
+use Rattle.meaning_laws.proofs.Words.Core.{Atom, Core, Frame, Func, GivesResult, Holder, IsSound, IsTyped, State, Stm, TakesCall, Value, answer_sort, end_numbers, ended, first_held, is_pointer_to, pointers_to}
+use Rattle.meaning_laws.proofs.Words.Meaning.{Alive, AreCounts, AreExact, Pins, answer_register, escapes, fewer, first_value, in_all_waiting, inside_objects, is_among, is_some_held, kept, locals_of, more, number, pins_of, pointer_in, pointer_of_register, registers_of, returned, running_locals, statement_at, values_of, with_objects, without_those_inside}
+use Rattle.meaning_laws.proofs.Words.Std.{Bool, List, None, Option, Some, [], ap, arith, cond, drop, eq-eqb, false, length, length-append, map, nat_eq, ne_eqb, not, or_left, pos, range_with_len, refl, slice_get, subst, suc, sum_by-cons, sym, true, true≢false, zero, ℕ, ◌++◌, ◌+◌, ◌||◌, ◌∙◌, ◌∷◌, ◌≡◌}
 use Rattle.core_tree.specs.declared.statements.StmKind.TheVariants as stm
-use Rattle.core_tree.specs.Sorts.{TakesCall, GivesResult, IsTyped}
-use Rattle.core_tree.specs.Sound.{IsSound, answer_sort}
-use Rattle.object_meaning.specs.objects.Values.{number, first_value, pointer_in}
-use Rattle.object_meaning.specs.objects.Going.{with_objects}
-use Rattle.object_meaning.specs.objects.Holding.{is_among, inside_objects, in_all_waiting, is_some_held, statement_at, answer_register}
 use Rattle.object_meaning.specs.objects.Calls as object
-use Rattle.object_meaning.specs.objects.Calls.{registers_of, locals_of, running_locals, escapes}
 use Rattle.object_meaning.specs.objects.Meaning as object_meaning
-use Rattle.object_meaning.specs.objects.Meaning.{values_of, returned}
-use Rattle.meaning_laws.specs.objects.Good.{Alive, HasLocals}
-use Rattle.meaning_laws.proofs.dangling.Unheld.{answer_is}
-use Rattle.object_meaning.specs.counted.Pinning.{Pins, AreExact, pins_of, pinned, pointer_of_register}
-use Rattle.object_meaning.specs.counted.CountedState.{kept}
-use Rattle.object_meaning.specs.counted.Counting.{more, fewer, without_those_inside}
+use Rattle.meaning_laws.specs.objects.Good.{HasLocals}
+use Rattle.meaning_laws.proofs.dangling.Burying.{answer_is}
+use Rattle.object_meaning.specs.counted.Pinning.{pinned}
 use Rattle.object_meaning.specs.counted.Returning as counted
 use Rattle.object_meaning.specs.counted.CountedMeaning as counted_meaning
-use Rattle.meaning_laws.specs.counted.Counts.{AreCounts}
 use Rattle.meaning_laws.proofs.counts.Weighing.{Once}
 use Rattle.meaning_laws.proofs.counts.Objects.{locals_living, living_split, ended_living}
-use Rattle.meaning_laws.proofs.counts.Pins.{HasSorts}
-use Rattle.meaning_laws.proofs.counts.Sorting.{FitsIn, plain_fits, value_fits, argument_sorts, CallsIt, Calls, Orderly, InOrder, same_func, with_order}
-use Rattle.meaning_laws.proofs.counts.Agreeing.{Agrees, Alters, alters_agree, step_plain}
+use Rattle.meaning_laws.proofs.counts.Sorting.{HasSorts, FitsIn, plain_fits, value_fits, argument_sorts, CallsIt, Calls, Orderly, InOrder, same_func, with_order, Agrees, Alters, alters_agree, step_plain}
 use Rattle.meaning_laws.proofs.counts.Checks.{some_is_positive, first_same, pinned_is, held_all_waiting}
 use Rattle.meaning_laws.proofs.dangling.Returning.{in_range, out_range}
 

@@ -1,36 +1,16 @@
 -- The check at the end of the outermost scope: the numbers decide as the holders do.
-use Rattle.std.proofs.Common.{◌≡◌, ℕ, ◌+◌, Bool, true, cond, not, ◌&&◌, nat_eq, List, [], ◌∷◌, ◌++◌, length, reverse, Option, Some, None, refl, sym, ap, ◌∙◌, subst, arith, ⊎_elim}
-use Rattle.std.specs.Prelude.{slice_get}
-use Rattle.std.specs.List.{sum_by, flat_map}
-use Rattle.std.proofs.lemmas.Bool.{ne_eqb, cases_Bool, false≢true}
-use Rattle.std.proofs.lemmas.List.{reverse-append, length-append}
-use Rattle.std.proofs.lemmas.List.Concat.{flat_map-append}
-use Rattle.std.proofs.lemmas.List.Sums.{sum_by-cons}
-use Rattle.hs_base.specs.declared.ends.Holder.{Holder}
-use Rattle.hs_base.specs.Freeing.{is_pointer_to, pointers_to, first_held, check_numbers}
-use Rattle.hs_base.specs.Object.{object_at}
-use Rattle.hs_base.specs.State.{State, Frame}
-use Rattle.hs_base.specs.Trace.{Event}
-use Rattle.core_tree.specs.declared.program.Core.{Core}
-use Rattle.core_tree.specs.declared.program.Func.{Func}
-use Rattle.core_tree.specs.declared.statements.Stm.{Stm}
+use Rattle.meaning_laws.proofs.Words.Core.{Core, Event, Frame, Func, Holder, State, Stm, check_numbers, first_held, is_live, is_pointer_to, object_at, pointers_to}
+use Rattle.meaning_laws.proofs.Words.Meaning.{Alive, AreCounts, AreExact, Pins, Sane, answer_register, counts_at, holders, holds_on, holds_pointer, in_all_waiting, in_registers, in_running, in_waiting, inside_objects, is_among, is_held, is_live_at, is_live_in, is_some_held, kept, more, numbered, pins_of, pointer_of_register, statement_at, takes_answer, without_those_inside}
+use Rattle.meaning_laws.proofs.Words.Std.{Bool, List, None, Option, Some, [], ap, arith, cases_Bool, cond, false≢true, flat_map, flat_map-append, length, length-append, nat_eq, ne_eqb, not, refl, reverse, reverse-append, slice_get, subst, sum_by, sum_by-cons, sym, true, ℕ, ⊎_elim, ◌&&◌, ◌++◌, ◌+◌, ◌∙◌, ◌∷◌, ◌≡◌}
 use Rattle.core_tree.specs.declared.statements.StmKind.TheVariants as stm
-use Rattle.core_tree.specs.Lives.{is_live}
-use Rattle.object_meaning.specs.objects.Holding.{is_among, inside_objects, is_live_in, is_live_at, statement_at, answer_register, takes_answer, in_registers, in_running, in_waiting, in_all_waiting, holders, is_some_held}
 use Rattle.object_meaning.specs.objects.Scoping as object
-use Rattle.object_meaning.specs.objects.Scoping.{is_held}
-use Rattle.meaning_laws.specs.objects.Good.{Alive, Sane}
-use Rattle.meaning_laws.proofs.dangling.Unheld.{answer_is}
-use Rattle.object_meaning.specs.counted.Pinning.{Pins, AreExact, counts_at, holds_pointer, holds_on, pins_of, pinned, pointer_of_register}
-use Rattle.object_meaning.specs.counted.CountedState.{kept, numbered}
-use Rattle.object_meaning.specs.counted.Counting.{more, without_those_inside}
+use Rattle.meaning_laws.proofs.dangling.Burying.{answer_is}
+use Rattle.object_meaning.specs.counted.Pinning.{pinned}
 use Rattle.object_meaning.specs.counted.Checking as counted
-use Rattle.meaning_laws.specs.counted.Counts.{in_pins, AreCounts}
+use Rattle.meaning_laws.specs.counted.Counts.{in_pins}
 use Rattle.meaning_laws.proofs.counts.Weighing.{Once}
 use Rattle.meaning_laws.proofs.counts.Objects.{living_split, buried_living}
-use Rattle.meaning_laws.proofs.counts.Pins.{HasSorts, once_from, those_among, held_registers}
-use Rattle.meaning_laws.proofs.counts.Sorting.{CallsIt, Calls, InOrder}
-use Rattle.meaning_laws.proofs.counts.Agreeing.{Agrees, Alters, alters_agree}
+use Rattle.meaning_laws.proofs.counts.Sorting.{HasSorts, once_from, those_among, held_registers, CallsIt, Calls, InOrder, Agrees, Alters, alters_agree}
 use Rattle.meaning_laws.proofs.dangling.Returning.{queued_lives}
 
 -- Numbers and lists

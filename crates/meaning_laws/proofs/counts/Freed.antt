@@ -1,44 +1,18 @@
 -- Frees, growing objects, and the scopes that they open for themselves.
-use Rattle.std.proofs.Common.{◌≡◌, ℕ, zero, suc, ◌+◌, Bool, true, false, cond, not, ◌&&◌, nat_eq, List, [], ◌∷◌, ◌++◌, length, Some, Result, Ok, Err, refl, sym, ◌∙◌, arith, ⊎_elim}
-use Rattle.std.specs.Prelude.{slice_get, min}
-use Rattle.std.proofs.lemmas.Bool.{true≢false, eqb-false, or_parts, false_from_ne_true}
-use Rattle.hs_base.specs.declared.ends.Reason.{Reason}
-use Rattle.hs_base.specs.declared.values.Pointer.{Pointer}
+use Rattle.meaning_laws.proofs.Words.Core.{Core, Event, Func, Layout, Object, Pointer, Reason, Refusal, State, Stm, Value, freed_at, is_dead, is_heap, is_queued, object_at}
+use Rattle.meaning_laws.proofs.Words.Meaning.{Alive, AreCounts, AreExact, Changes, OnDone, Pins, Sane, address, birth_of, copied, copied_changes, counts_at, ended_by, enqueue, goes, heap_object, holds_on, is_among, kept, onward, put, renumbered, start_of, stops_after, with_new, with_objects}
+use Rattle.meaning_laws.proofs.Words.Std.{Bool, Err, List, Ok, Result, Some, [], arith, cond, eqb-false, false, false_from_ne_true, length, min, nat_eq, not, or_parts, refl, slice_get, suc, sym, true, true≢false, zero, ℕ, ⊎_elim, ◌&&◌, ◌++◌, ◌+◌, ◌∙◌, ◌∷◌, ◌≡◌}
 use Rattle.hs_base.specs.declared.values.Pointer.TheVariants as pointer
-use Rattle.hs_base.specs.declared.values.Value.{Value}
-use Rattle.hs_base.specs.Access.{Refusal}
-use Rattle.hs_base.specs.Freeing.{is_heap, freed_at}
-use Rattle.hs_base.specs.Object.{Object, is_dead, is_queued, object_at}
-use Rattle.hs_base.specs.State.{State}
-use Rattle.hs_base.specs.Trace.{Event}
-use Rattle.c_types.specs.declared.layouts.Layout.{Layout}
-use Rattle.core_tree.specs.declared.program.Core.{Core}
-use Rattle.core_tree.specs.declared.program.Func.{Func}
-use Rattle.core_tree.specs.declared.statements.Stm.{Stm}
-use Rattle.object_meaning.specs.objects.Values.{address, start_of}
-use Rattle.object_meaning.specs.objects.Going.{goes, onward, put, with_objects, stops_after, ended_by}
-use Rattle.object_meaning.specs.objects.Making.{heap_object, with_new}
-use Rattle.object_meaning.specs.objects.Memory.{copied}
-use Rattle.object_meaning.specs.objects.Holding.{is_among}
 use Rattle.object_meaning.specs.objects.Scoping as object_scopes
 use Rattle.object_meaning.specs.objects.Heap as object
-use Rattle.object_meaning.specs.objects.Heap.{birth_of, enqueue}
-use Rattle.meaning_laws.specs.objects.Good.{Alive, Sane}
-use Rattle.meaning_laws.proofs.dangling.Alive.{append_grows, queue_sane, among_cases}
+use Rattle.meaning_laws.proofs.dangling.Touching.{append_grows, queue_sane, among_cases, Done, copied_done}
 use Rattle.meaning_laws.proofs.dangling.Touching as touching
-use Rattle.meaning_laws.proofs.dangling.Touching.{Done, copied_done}
 use Rattle.meaning_laws.proofs.dangling.Standing.{new_sane, new_alive}
-use Rattle.object_meaning.specs.counted.Pinning.{Pins, AreExact, counts_at, holds_on}
-use Rattle.object_meaning.specs.counted.CountedState.{kept}
-use Rattle.object_meaning.specs.counted.Counting.{renumbered}
 use Rattle.object_meaning.specs.counted.Checking as counted_scopes
 use Rattle.object_meaning.specs.counted.Freeing as counted
-use Rattle.meaning_laws.specs.counted.Counts.{AreCounts}
 use Rattle.meaning_laws.proofs.counts.Weighing.{Once}
 use Rattle.meaning_laws.proofs.counts.Objects.{queued_same}
-use Rattle.meaning_laws.proofs.counts.Sorting.{FitsIn, InOrder, at_order, with_order}
-use Rattle.meaning_laws.specs.counted.TouchedEquations.{OnDone, Changes, copied_changes}
-use Rattle.meaning_laws.proofs.counts.Agreeing.{Agrees, alters_agree, on_order, renumbered_counts, new_living, none_plain, made_plain}
+use Rattle.meaning_laws.proofs.counts.Sorting.{FitsIn, InOrder, at_order, with_order, Agrees, alters_agree, on_order, renumbered_counts, new_living, none_plain, made_plain}
 use Rattle.meaning_laws.proofs.counts.Checks.{checked_agrees}
 
 -- Queues

@@ -1,30 +1,12 @@
 -- Where pins stand in the order of their registers, they give the holders in order.
-use Rattle.std.proofs.Common.{◌≡◌, ℕ, zero, suc, pos, ◌+◌, ◌<◌, ◌≤◌, Bool, true, false, cond, not, ◌&&◌, List, [], ◌∷◌, ◌++◌, length, map, get_or, reverse, Option, Some, None, refl, sym, ap, ◌∙◌, subst, arith, ⊎_elim}
-use Rattle.std.specs.Prelude.{filter, slice_get}
-use Rattle.std.specs.List.{flat_map, enumerate_from, range_with_len}
-use Rattle.std.specs.Option.{option_map_or}
-use Rattle.std.proofs.lemmas.Bool.{cases_lt, and_parts, true≢false, false_from_ne_true}
-use Rattle.std.proofs.lemmas.List.{get_or_past, reverse-append, append-nil}
-use Rattle.std.proofs.lemmas.List.Concat.{flat_map-append}
-use Rattle.std.proofs.lemmas.Option.{slice_get_within}
-use Rattle.hs_base.specs.declared.ends.Holder.{Holder}
+use Rattle.meaning_laws.proofs.Words.Core.{Core, EachStatement, Frame, Func, Holder, State, Stm, Value, is_live, is_pointer_to}
+use Rattle.meaning_laws.proofs.Words.Meaning.{Pins, answer_register, counts_at, holders, holds_on, holds_pointer, in_all_waiting, in_registers, in_running, in_waiting, inside_objects, is_live_at, is_live_in, number, pins_of, pointer_in, pointer_of_register, statement_at, takes_answer}
+use Rattle.meaning_laws.proofs.Words.Std.{Bool, List, None, Option, Some, [], and_parts, ap, append-nil, arith, cases_lt, cond, enumerate_from, false, false_from_ne_true, filter, flat_map, flat_map-append, get_or, get_or_past, length, map, not, option_map_or, pos, range_with_len, refl, reverse, reverse-append, slice_get, slice_get_within, subst, suc, sym, true, true≢false, zero, ℕ, ⊎_elim, ◌&&◌, ◌++◌, ◌+◌, ◌<◌, ◌∙◌, ◌∷◌, ◌≡◌, ◌≤◌}
 use Rattle.hs_base.specs.declared.ends.Holder.TheVariants as holder
-use Rattle.hs_base.specs.declared.values.Value.{Value}
-use Rattle.hs_base.specs.Freeing.{is_pointer_to}
-use Rattle.hs_base.specs.State.{State, Frame}
-use Rattle.core_tree.specs.declared.program.Core.{Core}
-use Rattle.core_tree.specs.declared.program.Func.{Func}
 use Rattle.core_tree.specs.declared.program.Reg.{Reg as Register}
-use Rattle.core_tree.specs.declared.statements.Stm.{Stm}
 use Rattle.core_tree.specs.declared.statements.StmKind.TheVariants as stm
-use Rattle.core_tree.specs.Lives.{is_live}
-use Rattle.core_tree.specs.Sound.{EachStatement}
-use Rattle.object_meaning.specs.objects.Values.{number, pointer_in}
-use Rattle.object_meaning.specs.objects.Holding.{inside_objects, is_live_in, is_live_at, statement_at, answer_register, takes_answer, in_registers, in_running, in_waiting, in_all_waiting, holders}
-use Rattle.meaning_laws.proofs.dangling.Unheld.{answer_is}
-use Rattle.object_meaning.specs.counted.Pinning.{Pins, pins_of, pointer_of_register, holds_pointer, holds_on, counts_at}
-use Rattle.meaning_laws.proofs.counts.Pins.{HasSorts}
-use Rattle.meaning_laws.proofs.counts.Sorting.{CallsIt, Calls, InOrder}
+use Rattle.meaning_laws.proofs.dangling.Burying.{answer_is}
+use Rattle.meaning_laws.proofs.counts.Sorting.{HasSorts, CallsIt, Calls, InOrder}
 use Rattle.meaning_laws.proofs.counts.Checks.{points_from}
 
 -- the pinned registers of a frame that point to an object

@@ -1,22 +1,8 @@
 -- Pointers inside objects: how many there are once some objects change or die, and how many holders that is.
-use Rattle.std.proofs.Common.{◌≡◌, ℕ, ◌+◌, Bool, true, false, cond, ◌||◌, nat_eq, List, [], ◌∷◌, ◌++◌, length, map, get_or, refl, sym, ap, ◌∙◌, subst, arith}
-use Rattle.std.specs.Prelude.{filter}
-use Rattle.std.specs.List.{sum_by, enumerate_from}
-use Rattle.std.proofs.lemmas.Bool.{eq-eqb, true≢false, or_left, or_right}
-use Rattle.std.proofs.lemmas.List.{get_or-set_other, length-map}
-use Rattle.std.proofs.lemmas.List.Sums.{sum_by-cons}
-use Rattle.hs_base.specs.declared.ends.Holder.{Holder}
-use Rattle.hs_base.specs.declared.values.Pointer.{Pointer}
-use Rattle.hs_base.specs.Access.{with_object}
-use Rattle.hs_base.specs.Freeing.{is_pointer_to, pointers_to, pointers_inside, objects_of, queued, buried, buried_standing, ended}
-use Rattle.hs_base.specs.Object.{Object, Standing, Live, Queued, Dead, is_dead, is_queued, no_object, object_at}
-use Rattle.core_tree.specs.declared.program.Mem.{Mem}
-use Rattle.object_meaning.specs.objects.Making.{local_object, local_objects}
-use Rattle.object_meaning.specs.objects.Holding.{is_among, inside_one, counted_inside, inside_objects}
-use Rattle.meaning_laws.specs.objects.Good.{Alive, Sane}
-use Rattle.meaning_laws.specs.counted.Counts.{living, inside_living}
+use Rattle.meaning_laws.proofs.Words.Core.{Dead, Holder, Live, Mem, Object, Pointer, Queued, Standing, buried, buried_standing, ended, is_dead, is_pointer_to, is_queued, no_object, object_at, objects_of, pointers_inside, pointers_to, queued, with_object}
+use Rattle.meaning_laws.proofs.Words.Meaning.{Alive, Sane, append_living, counted_inside, inside_living, inside_objects, inside_one, is_among, living, local_object, local_objects, no_pointers, set_living, set_same}
+use Rattle.meaning_laws.proofs.Words.Std.{Bool, List, [], ap, arith, cond, enumerate_from, eq-eqb, false, filter, get_or, get_or-set_other, length, length-map, map, nat_eq, or_left, or_right, refl, subst, sum_by, sum_by-cons, sym, true, true≢false, ℕ, ◌++◌, ◌+◌, ◌||◌, ◌∙◌, ◌∷◌, ◌≡◌}
 use Rattle.meaning_laws.proofs.counts.Weighing.{Once, weigh, weigh_same, weigh_both, sum_weigh, filter_weigh, flat_weigh, sum_among}
-use Rattle.meaning_laws.specs.counted.CountsEquations.{set_living, set_same, no_pointers, append_living}
 
 -- One object changes
 

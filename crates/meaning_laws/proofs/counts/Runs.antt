@@ -1,35 +1,18 @@
 -- The two meanings have the same runs.
-use Rattle.std.proofs.Common.{◌≡◌, ℕ, zero, suc, ◌+◌, Bool, List, [], ◌∷◌, map, Option, Some, None, refl, sym, subst, arith}
-use Rattle.std.specs.Prelude.{slice_get}
-use Rattle.std.specs.List.{enumerate_from}
-use Rattle.std.proofs.lemmas.List.Sums.{sum_by-cons}
-use Rattle.hs_base.specs.Freeing.{pointers_to, pointers_inside}
-use Rattle.hs_base.specs.Object.{Object}
-use Rattle.hs_base.specs.State.{State}
-use Rattle.hs_base.specs.Trace.{Event, Ending}
+use Rattle.meaning_laws.proofs.Words.Core.{Core, Ending, Event, Func, IsSound, Object, State, main_of, pointers_inside, pointers_to}
+use Rattle.meaning_laws.proofs.Words.Meaning.{AreCounts, AreExact, CountedState, CountsAreHolders, EachStateIsCounted, Good, Pins, TestedRunsAreCounted, first_value, inside_living, kept, living, locals_of, registers_of, static_object, static_objects, testing}
+use Rattle.meaning_laws.proofs.Words.Std.{Bool, List, None, Option, Some, [], arith, enumerate_from, map, refl, slice_get, subst, suc, sum_by-cons, sym, zero, ℕ, ◌+◌, ◌∷◌, ◌≡◌}
 use Rattle.hs_base.specs.Runs as runs
-use Rattle.core_tree.specs.declared.program.Core.{Core}
-use Rattle.core_tree.specs.declared.program.Func.{Func}
 use Rattle.core_tree.specs.declared.program.Static as program
-use Rattle.core_tree.specs.Sound.{IsSound, main_of}
-use Rattle.object_meaning.specs.objects.Values.{first_value}
 use Rattle.object_meaning.specs.objects.Going as going
-use Rattle.object_meaning.specs.objects.Making.{static_object, static_objects}
-use Rattle.object_meaning.specs.objects.Calls.{registers_of, locals_of}
 use Rattle.object_meaning.specs.objects.Meaning as object
-use Rattle.meaning_laws.specs.objects.Good.{Good}
 use Rattle.meaning_laws.specs.objects.Laws.{StaysGood}
-use Rattle.meaning_laws.proofs.dangling.Acting.{step_stays_at}
-use Rattle.meaning_laws.proofs.dangling.Beginning.{begins}
-use Rattle.object_meaning.specs.counted.Pinning.{Pins, AreExact}
-use Rattle.object_meaning.specs.counted.CountedState.{CountedState, Next, kept}
+use Rattle.meaning_laws.proofs.dangling.Standing.{step_stays_at, begins}
+use Rattle.object_meaning.specs.counted.CountedState.{Next}
 use Rattle.object_meaning.specs.counted.CountedMeaning as counted
-use Rattle.meaning_laws.specs.counted.Counts.{living, inside_living, AreCounts, SameRun}
-use Rattle.meaning_laws.specs.counted.Laws.{testing, CountsAreHolders, EachStateIsCounted, TestedRunsAreCounted}
+use Rattle.meaning_laws.specs.counted.Counts.{SameRun}
 use Rattle.meaning_laws.proofs.counts.Objects.{locals_living}
-use Rattle.meaning_laws.proofs.counts.Pins.{HasSorts}
-use Rattle.meaning_laws.proofs.counts.Sorting.{InOrder, first_sorts}
-use Rattle.meaning_laws.proofs.counts.Agreeing.{Counted, Agrees, Alters, alters_agree}
+use Rattle.meaning_laws.proofs.counts.Sorting.{HasSorts, InOrder, first_sorts, Counted, Agrees, Alters, alters_agree}
 use Rattle.meaning_laws.proofs.counts.Acting.{step_agrees}
 use Rattle.meaning_laws.proofs.counts.Running.{Agree, StatesAgree, RunsAgree, led_agree, tested_agree, after_agree}
 

@@ -1,11 +1,6 @@
 -- Sums over a list by items and their places.
-use Rattle.std.proofs.Common.{◌≡◌, ℕ, zero, suc, ◌+◌, ◌<◌, Bool, true, false, cond, ◌||◌, nat_eq, List, [], ◌∷◌, length, get_or, refl, sym, ap, subst, arith}
-use Rattle.std.specs.Prelude.{filter}
-use Rattle.std.specs.List.{sum_by, flat_map, enumerate_from}
-use Rattle.std.proofs.lemmas.Bool.{ne_eqb, eq-eqb}
-use Rattle.std.proofs.lemmas.List.{length-append}
-use Rattle.std.proofs.lemmas.List.Sums.{sum_by-cons}
-use Rattle.object_meaning.specs.objects.Holding.{is_among}
+use Rattle.meaning_laws.proofs.Words.Meaning.{is_among}
+use Rattle.meaning_laws.proofs.Words.Std.{Bool, List, [], ap, arith, cond, enumerate_from, eq-eqb, false, filter, flat_map, get_or, length, length-append, nat_eq, ne_eqb, refl, subst, suc, sum_by, sum_by-cons, sym, true, zero, ℕ, ◌+◌, ◌<◌, ◌||◌, ◌∷◌, ◌≡◌}
 
 -- each of a list stands there once
 abbrev pub Once : List ℕ → Type 0

@@ -1,40 +1,14 @@
 -- Each statement that does not end the run makes `enough` smaller, so every run ends.
-use Rattle.meaning_laws.specs.objects.Laws.{LeavesLess}
-use Rattle.std.proofs.Common.{◌≡◌, ℕ, zero, suc, ◌+◌, ◌*◌, ◌<◌, ◌≤◌, Bool, true, false, List, [], ◌∷◌, length, Option, Some, None, Result, Ok, Err, pos, negsuc, refl, sym, ap, subst, arith}
-use Rattle.std.specs.Prelude.{slice_get}
-use Rattle.std.specs.List.{sum_by}
-use Rattle.std.proofs.lemmas.List.Sums.{sum_by-cons, get_or-le-sum_by}
-use Rattle.std.proofs.lemmas.Option.{slice_get_within, get_or_from_slice_get}
-use Rattle.hs_base.specs.declared.ends.Reason.{Reason}
-use Rattle.hs_base.specs.declared.values.Pointer.{Pointer}
+use Rattle.meaning_laws.proofs.Words.Core.{Core, Ending, Event, Frame, Func, IsSound, Layout, LibName, Object, Pointer, Reason, Refusal, State, Stm, StmKind, Value, ended, first_held, freed_at, has_place, one_end}
+use Rattle.meaning_laws.proofs.Words.Meaning.{LeavesLess, Run, address, answer_register, answers, at_point, begun, birth_of, branch, bury, byte_in, call, call_lib, changes, decided, end_locals, enqueue, escapes, filled, free, free_named, get_byte, go_back, goes, grow, grow_named, grow_old, grown, if_done, in_scope, is_held, leave, made, meaning, number, number_at, number_of, onward, print, put, put_line, resumed, returned, running_locals, size, size_in, start_of, statement_at, statement_in, step, unless_reads_stale, values_of, with_new, with_objects, with_register, with_step, write}
+use Rattle.meaning_laws.proofs.Words.Std.{Bool, Err, List, None, Ok, Option, Result, Some, [], ap, arith, false, get_or-le-sum_by, get_or_from_slice_get, length, negsuc, pos, refl, slice_get, slice_get_within, subst, suc, sum_by, sum_by-cons, sym, true, zero, ℕ, ◌*◌, ◌+◌, ◌<◌, ◌∷◌, ◌≡◌, ◌≤◌}
+use Rattle.object_meaning.specs.objects.Going.{Next}
+use Rattle.object_meaning.specs.objects.Meaning.{act, act_at, body_length, code_left, enough, step_by}
+use Rattle.core_tree.specs.Sound.{LeadsOn}
 use Rattle.hs_base.specs.declared.values.Pointer.TheVariants as pointer
-use Rattle.hs_base.specs.declared.values.Value.{Value}
-use Rattle.hs_base.specs.Access.{Refusal}
-use Rattle.hs_base.specs.Freeing.{freed_at, first_held, ended}
-use Rattle.hs_base.specs.Place.{has_place}
-use Rattle.hs_base.specs.Object.{Object}
-use Rattle.hs_base.specs.State.{State, Frame}
-use Rattle.hs_base.specs.Trace.{Event, Ending}
 use Rattle.hs_base.specs.Runs as runs
-use Rattle.hs_base.specs.RunsEquations.{one_end}
-use Rattle.c_types.specs.declared.layouts.Layout.{Layout}
-use Rattle.core_tree.specs.declared.statements.LibName.{LibName}
 use Rattle.core_tree.specs.declared.statements.LibName.TheVariants as lib
-use Rattle.core_tree.specs.declared.statements.Stm.{Stm}
-use Rattle.core_tree.specs.declared.statements.StmKind.{StmKind}
 use Rattle.core_tree.specs.declared.statements.StmKind.TheVariants as stm
-use Rattle.core_tree.specs.declared.program.Func.{Func}
-use Rattle.core_tree.specs.declared.program.Core.{Core}
-use Rattle.object_meaning.specs.objects.Values.{number, address, start_of, number_of, number_at, size_in}
-use Rattle.object_meaning.specs.objects.Going.{Next, goes, at_point, onward, put, write, with_register, with_objects, with_step, if_done, answers, changes}
-use Rattle.object_meaning.specs.objects.Making.{with_new}
-use Rattle.object_meaning.specs.objects.Holding.{statement_in, statement_at, answer_register}
-use Rattle.object_meaning.specs.objects.Scoping.{is_held, bury, decided, leave, in_scope}
-use Rattle.object_meaning.specs.objects.Heap.{birth_of, made, enqueue, free_named, free, grown, grow_old, grow_named, grow}
-use Rattle.object_meaning.specs.objects.Printing.{print}
-use Rattle.object_meaning.specs.objects.Builtins.{byte_in, get_byte, put_line, filled, call_lib}
-use Rattle.object_meaning.specs.objects.Calls.{call, resumed, go_back, end_locals, escapes, running_locals}
-use Rattle.object_meaning.specs.objects.Meaning.{Run, branch, values_of, returned, act, unless_reads_stale, act_at, step, begun, meaning, body_length, code_left, size, enough, step_by}
 
 -- a statement's targets lie ahead of it, but for that of a loop
 abbrev pub IsForward : ℕ → StmKind → Type 0
@@ -201,17 +175,12 @@ module _ (core : Core) (s : State) (inside : s.running.point < body_length (slic
   end_falls line answer (Some birth) = tt
 
   act_falls : (fits : ℕ → Bool) (line : ℕ) (kind : StmKind) → IsForward s.running.point kind → LeavesLess core s (act core fits line kind s)
-  act_falls fits line (stm.Set r a) h = omega arith
-  act_falls fits line (stm.Conv k r a) h = omega arith
-  act_falls fits line (stm.Un op k r a) h = omega arith
   act_falls fits line (stm.Bin op k r a b) h = answers_falls line (Some r) _
-  act_falls fits line (stm.Cmp op r a b) h = omega arith
   act_falls fits line (stm.Add r p a n) h = answers_falls line (Some r) _
   act_falls fits line (stm.Sub r p a n) h = answers_falls line (Some r) _
   act_falls fits line (stm.Off r p c) h = answers_falls line (Some r) _
   act_falls fits line (stm.Diff r p q n) h = answers_falls line (Some r) _
   act_falls fits line (stm.Pcmp op r p q) h = answers_falls line (Some r) _
-  act_falls fits line (stm.Test r p) h = omega arith
   act_falls fits line (stm.Load k r p) h = answers_falls line (Some r) _
   act_falls fits line (stm.Loadp r p) h = answers_falls line (Some r) _
   act_falls fits line (stm.Store k p a) h = changes_falls line _
@@ -229,11 +198,11 @@ module _ (core : Core) (s : State) (inside : s.running.point < body_length (slic
   act_falls fits line (stm.Free p) h = free_falls line _
   act_falls fits line (stm.Lib name r args) h = lib_falls line name r _
   act_falls fits line (stm.Printf r k args) h = print_falls line r _ _
-  act_falls fits line stm.Enter h = omega arith
   act_falls fits line stm.Leave h = leave_falls s.scopes
   act_falls fits line (stm.Return a) h =
       let answer = returned s a in
       let locals = running_locals core s in end_falls line answer (first_held (escapes core answer s locals) locals)
+  act_falls fits line kind h = omega arith
 
   checked_falls : (b : Bool) (fits : ℕ → Bool) (stm : Stm) → IsForward s.running.point stm.kind → LeavesLess core s (unless_reads_stale b core fits stm s)
   checked_falls true fits stm h = tt
@@ -299,3 +268,14 @@ module _ (core : Core) (all : AllForward core) where
   meaning_is input n heap k e h =
       let m = ends input n heap in
       one_end (step core heap) (begun core input n) m.0 e (enough core (begun core input n).state) k m.1 h
+
+-- The statements of a sound core go forward, but for the loops.
+
+is_forward : (point : ℕ) (kind : StmKind) → LeadsOn point kind → IsForward point kind
+is_forward point (stm.Jump l) h = h 0 0 (omega arith)
+is_forward point (stm.Zero a l) h = h 1 0 (omega arith)
+is_forward point (stm.Case a v l) h = h 1 0 (omega arith)
+is_forward point _ h = tt
+
+pub all_forward : (core : Core) → IsSound core → AllForward core
+all_forward core sound f func e point stm h = is_forward point stm.kind ((sound.functions f func e).ahead point stm h)

@@ -1,34 +1,14 @@
 -- A core without frees and memory locals ends plainly: its queue stays empty, and no call ends a local.
-use Rattle.std.proofs.Common.{◌≡◌, ◌≢◌, ℕ, zero, suc, Bool, true, false, List, [], ◌∷◌, length, Option, Some, None, Result, Ok, Err, IsTrue, refl, sym, ap, subst}
-use Rattle.std.specs.Prelude.{slice_get}
-use Rattle.std.specs.List.{range_with_len}
-use Rattle.hs_base.specs.declared.values.Pointer.{Pointer}
-use Rattle.hs_base.specs.declared.values.Value.{Value}
-use Rattle.hs_base.specs.Access.{Refusal, Trapped, ReadsDead}
-use Rattle.hs_base.specs.Freeing.{first_held}
-use Rattle.hs_base.specs.Object.{Object}
-use Rattle.hs_base.specs.State.{State, Frame}
-use Rattle.hs_base.specs.Trace.{Event, Ending, Exit, Trap, Spent, BadFree, Escape, Dangling, OutOfStack}
+use Rattle.meaning_laws.proofs.Words.Core.{BadFree, Core, Dangling, Ending, Escape, Event, Exit, Frame, Func, Layout, LibName, Mem, Object, OutOfStack, Pointer, ReadsDead, Refusal, Spent, State, Stm, StmKind, Trap, Trapped, Value, first_held, pieces_of}
+use Rattle.meaning_laws.proofs.Words.Meaning.{FreesNothing, Run, answers, begun, branch, call_lib, changes, decided, end_locals, ended_by, escapes, filled, format_in, get_byte, go_back, if_done, is_held, is_plain, leave, locals_of, made, meaning, print, printed, put_line, returned, running_locals, statement_in, step, unless_reads_stale, values_of, with_objects, with_step}
+use Rattle.meaning_laws.proofs.Words.Std.{Bool, Err, IsTrue, List, None, Ok, Option, Result, Some, [], ap, false, length, range_with_len, refl, slice_get, subst, suc, sym, true, zero, ℕ, ◌∷◌, ◌≡◌, ◌≢◌}
 use Rattle.hs_base.specs.Runs as runs
-use Rattle.c_types.specs.declared.layouts.Layout.{Layout}
-use Rattle.c_print.specs.Pieces.{pieces_of}
-use Rattle.core_tree.specs.declared.statements.LibName.{LibName}
 use Rattle.core_tree.specs.declared.statements.LibName.TheVariants as lib
-use Rattle.core_tree.specs.declared.statements.Stm.{Stm}
-use Rattle.core_tree.specs.declared.statements.StmKind.{StmKind}
 use Rattle.core_tree.specs.declared.statements.StmKind.TheVariants as stm
-use Rattle.core_tree.specs.declared.program.Func.{Func}
-use Rattle.core_tree.specs.declared.program.Mem.{Mem}
-use Rattle.core_tree.specs.declared.program.Core.{Core}
-use Rattle.object_meaning.specs.objects.Going.{Next, answers, changes, ended_by, if_done, with_objects, with_step}
-use Rattle.object_meaning.specs.objects.Holding.{statement_in}
-use Rattle.object_meaning.specs.objects.Scoping.{decided, is_held, leave}
-use Rattle.object_meaning.specs.objects.Heap.{made}
-use Rattle.object_meaning.specs.objects.Printing.{print, printed}
-use Rattle.object_meaning.specs.objects.Builtins.{call_lib, filled, get_byte, put_line}
-use Rattle.object_meaning.specs.objects.Calls.{end_locals, escapes, give_back, go_back, locals_of, running_locals}
-use Rattle.object_meaning.specs.objects.Meaning.{Run, act, act_at, branch, format_in, step, unless_reads_stale, values_of, returned, begun, meaning, enough}
-use Rattle.meaning_laws.specs.objects.Laws.{FreesNothing, is_plain, may_free}
+use Rattle.object_meaning.specs.objects.Going.{Next}
+use Rattle.object_meaning.specs.objects.Calls.{give_back}
+use Rattle.object_meaning.specs.objects.Meaning.{act, act_at, enough}
+use Rattle.meaning_laws.specs.objects.Laws.{may_free}
 
 -- an end without a free and without an escape
 abbrev is_tame : Ending → Bool
@@ -128,24 +108,18 @@ module _ (s : State) (none : s.queue ≡ []) where
         (tame_back answer s.waiting _)
 
     tame_act : (fits : ℕ → Bool) (line : ℕ) (kind : StmKind) → may_free kind ≡ false → locals_of (slice_get core.funcs s.running.func) ≡ [] → IsTame (act core fits line kind s)
-    tame_act fits line (stm.Set r a) f m = none
-    tame_act fits line (stm.Conv k r a) f m = none
-    tame_act fits line (stm.Un op k r a) f m = none
     tame_act fits line (stm.Bin op k r a b) f m = tame_answers line (Some r) _
-    tame_act fits line (stm.Cmp op r a b) f m = none
     tame_act fits line (stm.Add r p a size) f m = tame_answers line (Some r) _
     tame_act fits line (stm.Sub r p a size) f m = tame_answers line (Some r) _
     tame_act fits line (stm.Off r p distance) f m = tame_answers line (Some r) _
     tame_act fits line (stm.Diff r p q size) f m = tame_answers line (Some r) _
     tame_act fits line (stm.Pcmp op r p q) f m = tame_answers line (Some r) _
-    tame_act fits line (stm.Test r p) f m = none
     tame_act fits line (stm.Load k r p) f m = tame_answers line (Some r) _
     tame_act fits line (stm.Loadp r p) f m = tame_answers line (Some r) _
     tame_act fits line (stm.Store k p a) f m = tame_changes line _
     tame_act fits line (stm.Storep p q) f m = tame_changes line _
     tame_act fits line (stm.Copy p q n) f m = tame_changes line _
     tame_act fits line (stm.Clear p n) f m = tame_changes line _
-    tame_act fits line (stm.Jump l) f m = none
     tame_act fits line (stm.Zero a l) f m = tame_branch _ l
     tame_act fits line (stm.Case a v l) f m = tame_branch _ l
     tame_act fits line (stm.Loop l) f m = tame_step s.steps _ (λ k. none)
@@ -157,9 +131,9 @@ module _ (s : State) (none : s.queue ≡ []) where
     tame_act fits line (stm.Lib name r args) f m = tame_lib line name r _
     tame_act fits line (stm.Printf r k args) f m =
         let text = printed s.objects (pieces_of (format_in (slice_get core.funcs s.running.func) k)) (values_of s args) in tame_print line r text.bytes text.refused
-    tame_act fits line stm.Enter f m = none
     tame_act fits line stm.Leave f m = tame_leave s.scopes
     tame_act fits line (stm.Return a) f m = tame_return line (returned s a) m
+    tame_act fits line kind f m = none
 
 module _ (core : Core) (plain : FreesNothing core) where
   no_locals : (f : ℕ) (o : Option Func) → slice_get core.funcs f ≡ o → locals_of o ≡ []

@@ -1,31 +1,159 @@
 -- A return: the memory locals of the call end, and the newest waiting frame goes on behind its call.
-use Rattle.std.proofs.Common.{◌≡◌, ℕ, zero, suc, ◌+◌, ◌<◌, ◌≤◌, Bool, true, false, nat_eq, List, [], ◌∷◌, length, Option, Some, None, refl, sym, ap, ◌∙◌, subst, arith, ⊎_elim}
-use Rattle.std.specs.Prelude.{slice_get, Contains}
-use Rattle.std.specs.List.{range_with_len}
-use Rattle.std.proofs.lemmas.Bool.{true≢false, false≢true, cases_lt, cases_eq, eqb-true, eqb-false, ne_eqb, or_cases, or_parts, or_from, false_from_ne_true}
-use Rattle.std.proofs.lemmas.List.{get_or_past, get_or-set_same, get_or-set_other, length-set}
-use Rattle.hs_base.specs.declared.values.Value.{Value}
-use Rattle.hs_base.specs.Access.{with_object}
-use Rattle.hs_base.specs.Freeing.{is_heap, is_pointer_to, ended, first_held}
-use Rattle.hs_base.specs.Object.{Object, Standing, Live, Queued, Dead, is_dead, is_queued, no_object, object_at}
-use Rattle.hs_base.specs.State.{State, Frame}
-use Rattle.core_tree.specs.declared.statements.Stm.{Stm}
+use Rattle.meaning_laws.proofs.Words.Core.{Atom, Core, Dead, Frame, Func, Integer, IsSound, IsTyped, Live, Mem, Object, Queued, Sort, Standing, State, Stm, StmKind, TakesCall, TakesFormat, Value, atom_sort, ended, first_held, is_dead, is_heap, is_live, is_pointer_to, is_queued, is_register, lib_takes, live_by_edge, live_by_paths, live_by_read, no_object, object_at, operands, with_object}
+use Rattle.meaning_laws.proofs.Words.Meaning.{Good, Holds, HoldsFresh, IsKept, Sane, Waits, WaitsAt, answer_register, at_point, escapes, holds_stale, in_all_waiting, in_waiting, inside_objects, is_among, locals_of, needed, number, pointer_in, put, register, resumed, running_locals, statement_at, takes_answer, value_of, with_register}
+use Rattle.meaning_laws.proofs.Words.Std.{Bool, Contains, List, None, Option, Some, [], and_from, and_parts, ap, arith, cases_eq, cases_lt, eq-eqb, eqb-false, eqb-true, false, false_from_ne_true, false≢true, get_or, get_or-set_other, get_or-set_same, get_or_past, length, length-set, list_any, map, nat_eq, ne_eqb, not, not-true, not_from_false, option_map, option_map_or, or_cases, or_from, or_left, or_parts, or_right, pos, range_with_len, refl, set, slice_get, slice_get_within, subst, suc, sym, true, true≢false, zero, ℕ, ⊎_elim, ◌&&◌, ◌+◌, ◌<◌, ◌||◌, ◌∙◌, ◌∷◌, ◌≡◌, ◌≤◌}
+use Rattle.core_tree.specs.Statements.{reads, writes, reads_at, writes_at, edges, edges_at, written}
+use Rattle.core_tree.specs.Sound.{IsFunction, goes, scopes_after}
+use Rattle.meaning_laws.proofs.dangling.Touching.{Grows, fresh_grows}
+use Rattle.meaning_laws.proofs.dangling.Burying.{NoHolder, none_append, none_reverse, none_first, answer_is, Loses, spared_fresh, spared_slots, spared_waits}
+use Rattle.core_tree.specs.Sorts.{Pointer}
 use Rattle.core_tree.specs.declared.statements.StmKind.TheVariants as stm
-use Rattle.core_tree.specs.declared.program.Func.{Func}
-use Rattle.core_tree.specs.declared.program.Core.{Core}
-use Rattle.core_tree.specs.Lives.{is_live}
-use Rattle.core_tree.specs.Sound.{IsSound, goes}
-use Rattle.object_meaning.specs.objects.Values.{pointer_in}
-use Rattle.object_meaning.specs.objects.Going.{with_register}
-use Rattle.object_meaning.specs.objects.Holding.{is_among, statement_at, answer_register, takes_answer, inside_objects, in_waiting, in_all_waiting}
-use Rattle.object_meaning.specs.objects.Calls.{locals_of, running_locals, escapes, resumed}
-use Rattle.meaning_laws.specs.objects.Good.{HoldsFresh, Sane, IsKept, WaitsAt, Waits, Holds, Good}
-use Rattle.meaning_laws.proofs.dangling.Lively.{live_back, edge_at}
-use Rattle.meaning_laws.specs.objects.Dangling.{needed}
-use Rattle.meaning_laws.proofs.dangling.Frames.{set_register}
-use Rattle.meaning_laws.specs.objects.Dangling.{register}
-use Rattle.meaning_laws.proofs.dangling.Unheld.{NoHolder, none_append, none_reverse, none_first, answer_is}
-use Rattle.meaning_laws.proofs.dangling.Burying.{Loses, spared_fresh, spared_slots, spared_waits}
+use Rattle.core_tree.specs.declared.statements.Atom.TheVariants as atom
+use Rattle.core_tree.specs.declared.program.Static as program
+
+-- A register that is needed at a point is live after each point that leads there.
+
+module _ (body : List Stm) (point next r : ℕ) (edge : Contains (edges_at body point) next) where
+  pub live_back : needed body next r ≡ true → is_live body point r ≡ true
+  live_back h =
+      (live_by_paths body point r).1
+      (⊎_elim
+      (λ read. live_by_read body r point next edge read)
+      (λ goes.
+      let both = and_parts (not (writes_at body next r)) (is_live body next r) goes in
+      live_by_edge body r point next edge (not-true _ both.0) ((live_by_paths body next r).0 both.1))
+      (or_cases (reads_at body next r) _ h))
+
+module _ (body : List Stm) (point r : ℕ) (stm : Stm) (at : slice_get body point ≡ Some stm) where
+  pub needed_read : reads stm.kind r ≡ true → needed body point r ≡ true
+  needed_read h =
+      let e : reads_at body point r ≡ reads stm.kind r = ap (λ (o : Option Stm). option_map_or (λ (t : Stm). reads t.kind r) o false) at in
+      ap (λ b. b || (not (writes_at body point r) && is_live body point r)) (e ∙ h)
+
+  pub needed_live : writes stm.kind r ≡ false → is_live body point r ≡ true → needed body point r ≡ true
+  needed_live w l =
+      let e : writes_at body point r ≡ writes stm.kind r = ap (λ (o : Option Stm). option_map_or (λ (t : Stm). writes t.kind r) o false) at in
+      or_right (reads_at body point r) _ (and_from (not (writes_at body point r)) (is_live body point r) (not_from_false _ (e ∙ w)) l)
+
+  pub edge_at : (next : ℕ) → Contains (edges stm.kind point) next → Contains (edges_at body point) next
+  edge_at next h =
+      let e : edges_at body point ≡ edges stm.kind point = ap (λ (o : Option Stm). option_map_or (λ (t : Stm). edges t.kind point) o []) at in
+      subst (λ (ps : List ℕ). Contains ps next) (sym e) h
+
+-- What holds of the state of a run before each statement, and within one before the run moves on.
+
+pub kept_grows : (old new : List Object) → Grows old new → (b : ℕ) → IsKept old b → IsKept new b
+kept_grows old new g b h = (g.alive b h.0, g.sort b h.0 ∙ h.1)
+
+waits_at_grow : (core : Core) (old new : List Object) → Grows old new → (top depth : ℕ) (frame : Frame) → WaitsAt core old top depth frame → WaitsAt core new top depth frame
+waits_at_grow core old new g top depth frame w = record {
+  func = w.func;
+  here = w.here;
+  line = w.line;
+  callee = w.callee;
+  answer = w.answer;
+  args = w.args;
+  at = w.at;
+  locals = λ k lt. kept_grows old new g (frame.first_local + k) (w.locals k lt);
+  below = w.below;
+  above = w.above;
+  fresh = λ r live free. fresh_grows old new g _ (w.fresh r live free);
+  opens = w.opens;
+}
+
+pub waits_grow : (core : Core) (old new : List Object) → Grows old new → (top total : ℕ) (waiting : List Frame) → Waits core old top total waiting → Waits core new top total waiting
+waits_grow core old new g top total [] h = h
+waits_grow core old new g top total (frame ∷ waiting) h =
+    (h.0, h.1, h.2, waits_at_grow core old new g top h.0 frame h.3, waits_grow core old new g frame.first_local h.1 waiting h.4)
+
+-- the objects grow; other scopes, another input and other steps left change nothing
+pub holds_with : (core : Core) (func : Func) (wanted : List Stm → ℕ → ℕ → Bool) (total : ℕ) (s : State) → Holds core func wanted total s → (objects : List Object) (queue : List ℕ) (scopes : ℕ) (input : List ℕ) (steps : ℕ) → Grows s.objects objects → Sane objects queue → Holds core func wanted total (record { objects = objects; running = s.running; waiting = s.waiting; queue = queue; scopes = scopes; input = input; steps = steps })
+holds_with core func wanted total s h objects queue scopes input steps g sane = record {
+  here = h.here;
+  inside = h.inside;
+  sane = sane;
+  statics = λ k lt. kept_grows s.objects objects g k (h.statics k lt);
+  locals = λ k lt. kept_grows s.objects objects g (s.running.first_local + k) (h.locals k lt);
+  below = omega (arith, h.below, g.longer);
+  above = h.above;
+  fresh = λ r w. fresh_grows s.objects objects g _ (h.fresh r w);
+  depth = h.depth;
+  others = h.others;
+  sum = h.sum;
+  opens = h.opens;
+  waits = waits_grow core s.objects objects g s.running.first_local h.others s.waiting h.waits;
+}
+
+-- a register other than the written one is as before, and the written one has the value or none
+pub set_register : (objects : List Object) (regs : List Value) (r q : ℕ) (v : Value) → HoldsFresh objects v → ((q ≡ r → ⊥) → HoldsFresh objects (get_or regs q (number (pos 0)))) → HoldsFresh objects (get_or (set regs r v) q (number (pos 0)))
+set_register objects regs r q v f other =
+    ⊎_elim
+    (λ e.
+    ⊎_elim
+    (λ lt. subst (HoldsFresh objects) (sym (ap (λ n. get_or (set regs r v) n (number (pos 0))) e ∙ get_or-set_same regs r v (number (pos 0)) lt)) f)
+    (λ le. subst (HoldsFresh objects) (sym (get_or_past (set regs r v) q (number (pos 0)) (omega (arith, length-set regs r v)))) refl)
+    (cases_lt r (length regs)))
+    (λ n. subst (HoldsFresh objects) (sym (get_or-set_other regs r q v (number (pos 0)) n)) (other n))
+    (cases_eq q r)
+
+module _ (core : Core) (func : Func) where
+  -- within a statement, once its register is written
+  pub ready_put : (total : ℕ) (s : State) → Holds core func needed total s → (stm : Stm) → slice_get func.body s.running.point ≡ Some stm → (r : Option ℕ) → written stm.kind ≡ r → (v : Value) → HoldsFresh s.objects v → Holds core func is_live total (put s r v)
+  ready_put total s h stm at None e v f = record {
+    here = h.here;
+    inside = h.inside;
+    sane = h.sane;
+    statics = h.statics;
+    locals = h.locals;
+    below = h.below;
+    above = h.above;
+    fresh = λ q live. h.fresh q (needed_live func.body s.running.point q stm at (not_written q) live);
+    depth = h.depth;
+    others = h.others;
+    sum = h.sum;
+    opens = h.opens;
+    waits = h.waits;
+  } where
+    not_written : (q : ℕ) → writes stm.kind q ≡ false
+    not_written q = rw e refl
+  ready_put total s h stm at (Some r) e v f = record {
+    here = h.here;
+    inside = h.inside;
+    sane = h.sane;
+    statics = h.statics;
+    locals = h.locals;
+    below = h.below;
+    above = h.above;
+    fresh = λ q live. set_register s.objects s.running.regs r q v f (λ n. h.fresh q (needed_live func.body s.running.point q stm at (not_written q n) live));
+    depth = h.depth;
+    others = h.others;
+    sum = h.sum;
+    opens = h.opens;
+    waits = h.waits;
+  } where
+    not_written : (q : ℕ) → (q ≡ r → ⊥) → writes stm.kind q ≡ false
+    not_written q n = rw e (ne_eqb r q (λ i. n (sym i)))
+
+  module _ (sound : IsFunction core func) where
+    -- the run moves on to a point that an edge leads to
+    pub moves : (total new : ℕ) (t : State) → (h : Holds core func is_live total t) → (stm : Stm) → slice_get func.body t.running.point ≡ Some stm → (next : ℕ) → Contains (edges stm.kind t.running.point) next → new ≡ scopes_after stm.kind h.depth + h.others → Holds core func needed new (at_point t next)
+    moves total new t h stm at next edge sum = record {
+      here = h.here;
+      inside = subst (λ p. p < length func.body) edge.2 (sound.inside t.running.point stm at edge.0 next edge.1);
+      sane = h.sane;
+      statics = h.statics;
+      locals = h.locals;
+      below = h.below;
+      above = h.above;
+      fresh = λ r w. h.fresh r (live_back func.body t.running.point next r (edge_at func.body t.running.point r stm at next edge) w);
+      depth = scopes_after stm.kind h.depth;
+      others = h.others;
+      sum = sum;
+      opens = goes t.running.point next h.depth stm h.opens at edge;
+      waits = h.waits;
+    }
+
+-- A return: the memory locals of the call end, and the newest waiting frame goes on behind its call.
 
 -- Objects that end
 
@@ -217,3 +345,85 @@ module _ (core : Core) (sound : IsSound core) (t : State) (caller : Frame) (rest
   resumed_good =
       let same : answer_register (statement_at core caller) ≡ w.answer = answer_is core caller w.func (called w.answer) w.here w.at in
       (w.func, resumes (answer_register (statement_at core caller)) same)
+
+-- The operands of a statement of a sound core do not point to dead objects.
+
+module _ (core : Core) (func : Func) where
+  -- what an operand names is there
+  abbrev pub Exists : Atom → Type 0
+  Exists a = (sort : Sort) × (atom_sort core func a ≡ Some sort)
+
+  abbrev pub AllExist : List Atom → Type 0
+  AllExist [] = Unit {0}
+  AllExist (a ∷ atoms) = Exists a × AllExist atoms
+
+  all_taken : (sorts : List Sort) (atoms : List Atom) → map (atom_sort core func) atoms ≡ map (λ (sort : Sort). Some sort) sorts → AllExist atoms
+  all_taken sorts [] e = tt
+  all_taken [] (a ∷ atoms) e = absurd (cc)
+  all_taken (sort ∷ sorts) (a ∷ atoms) e =
+      let h : atom_sort core func a ≡ Some sort = cc in
+      let rest : map (atom_sort core func) atoms ≡ map (λ (sort : Sort). Some sort) sorts = cc in
+      ((sort, h), all_taken sorts atoms rest)
+
+  call_exist : (args : List Atom) (o : Option Func) → TakesCall core func args o → AllExist args
+  call_exist args None h = absurd h
+  call_exist args (Some callee) h = all_taken _ args h
+
+  format_exist : (args : List Atom) (o : Option (List ℕ)) → TakesFormat core func args o → AllExist args
+  format_exist args None h = absurd h
+  format_exist args (Some format) h = all_taken _ args h.1
+
+  pub typed_exist : (kind : StmKind) → IsTyped core func kind → AllExist (operands kind)
+  typed_exist (stm.Set r a) h = ((h.0, h.2), tt)
+  typed_exist (stm.Conv k r a) h = ((Integer, h.1), tt)
+  typed_exist (stm.Un op k r a) h = ((Integer, h.1), tt)
+  typed_exist (stm.Bin op k r a b) h = ((Integer, h.1), ((Integer, h.2), tt))
+  typed_exist (stm.Cmp op r a b) h = ((Integer, h.1), ((Integer, h.2), tt))
+  typed_exist (stm.Add r p a n) h = ((Pointer, h.1), ((Integer, h.2), tt))
+  typed_exist (stm.Sub r p a n) h = ((Pointer, h.1), ((Integer, h.2), tt))
+  typed_exist (stm.Off r p c) h = ((Pointer, h.1), tt)
+  typed_exist (stm.Diff r p q n) h = ((Pointer, h.1), ((Pointer, h.2), tt))
+  typed_exist (stm.Pcmp op r p q) h = ((Pointer, h.1), ((Pointer, h.2), tt))
+  typed_exist (stm.Test r p) h = ((Pointer, h.1), tt)
+  typed_exist (stm.Load k r p) h = ((Pointer, h.1), tt)
+  typed_exist (stm.Loadp r p) h = ((Pointer, h.1), tt)
+  typed_exist (stm.Store k p a) h = ((Pointer, h.0), ((Integer, h.1), tt))
+  typed_exist (stm.Storep p q) h = ((Pointer, h.0), ((Pointer, h.1), tt))
+  typed_exist (stm.Copy p q n) h = ((Pointer, h.0), ((Pointer, h.1), tt))
+  typed_exist (stm.Clear p n) h = ((Pointer, h), tt)
+  typed_exist (stm.Zero a l) h = ((Integer, h), tt)
+  typed_exist (stm.Case a v l) h = ((Integer, h), tt)
+  typed_exist (stm.Call f r args) h = call_exist args (slice_get core.funcs f) h.1
+  typed_exist (stm.Malloc r n t) h = ((Integer, h.1), tt)
+  typed_exist (stm.Calloc r m n t) h = ((Integer, h.1), ((Integer, h.2), tt))
+  typed_exist (stm.Realloc r p n t) h = ((Pointer, h.1), ((Integer, h.2), tt))
+  typed_exist (stm.Free p) h = ((Pointer, h), tt)
+  typed_exist (stm.Lib name r args) h = all_taken (lib_takes name) args h.1
+  typed_exist (stm.Printf r k args) h = format_exist args (slice_get func.formats k) h.1
+  typed_exist (stm.Return (Some a)) h = ((h.0, h.1), tt)
+  typed_exist kind h = tt
+
+there : {A B : Type 0} (f : A → B) (o : Option A) (y : B) → option_map f o ≡ Some y → (x : A) × (o ≡ Some x)
+there f None y e = absurd (cc)
+there f (Some x) y e = (x, refl)
+
+module _ (core : Core) (func : Func) (total : ℕ) (s : State) (h : Holds core func needed total s) where
+  atom_fresh : (a : Atom) → Exists core func a → ((r : ℕ) → is_register r a ≡ true → HoldsFresh s.objects (register s.running r)) → HoldsFresh s.objects (value_of s.running a)
+  atom_fresh (atom.Reg r) i f = f r (eq-eqb r r refl)
+  atom_fresh (atom.Int n) i f = refl
+  atom_fresh atom.Null i f = refl
+  atom_fresh (atom.Static k) i f =
+      let x = there (λ (_ : program.Static). Pointer) (slice_get core.statics k) i.0 i.1 in
+      (h.statics k (slice_get_within core.statics k x.0 x.1)).0
+  atom_fresh (atom.Mem k) i f =
+      let x = there (λ (_ : Mem). Pointer) (slice_get func.mems k) i.0 i.1 in
+      (h.locals k (slice_get_within func.mems k x.0 x.1)).0
+
+  none_stale : (atoms : List Atom) → AllExist core func atoms → ((r : ℕ) → list_any (is_register r) atoms ≡ true → HoldsFresh s.objects (register s.running r)) → list_any (holds_stale s.objects) (map (value_of s.running) atoms) ≡ false
+  none_stale [] i f = refl
+  none_stale (a ∷ atoms) i f =
+      or_from (holds_stale s.objects (value_of s.running a)) _ (atom_fresh a i.0 (λ r e. f r (or_left (is_register r a) _ e))) (none_stale atoms i.1 (λ r e. f r (or_right (is_register r a) _ e)))
+
+  pub operands_fresh : (stm : Stm) → slice_get func.body s.running.point ≡ Some stm → IsTyped core func stm.kind → list_any (holds_stale s.objects) (map (value_of s.running) (operands stm.kind)) ≡ false
+  operands_fresh stm at typed =
+      none_stale (operands stm.kind) (typed_exist core func stm.kind typed) (λ r e. h.fresh r (needed_read func.body s.running.point r stm at e))

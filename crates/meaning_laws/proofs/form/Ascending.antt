@@ -1,13 +1,6 @@
 -- Lists of sites that ascend, and the pins of an instruction in them.
-use Rattle.std.proofs.Common.{◌≡◌, ℕ, zero, suc, ◌+◌, ◌<◌, ◌≤◌, ◌≢◌, List, [], ◌∷◌, ◌++◌, length, Some, None, refl, sym, ◌∙◌, ap, subst, arith, cond}
-use Rattle.std.specs.Prelude.{slice_get, All, AllPairs, Contains}
-use Rattle.std.specs.List.{flat_map, enumerate_from}
-use Rattle.std.proofs.lemmas.Bool.{eq-eqb, ne_eqb}
-use Rattle.std.proofs.lemmas.List.Elements.{All-nil, All-cons, All-append, All-weaker, Contains-append_left, Contains-append_right}
-use Rattle.std.proofs.lemmas.List.Kept.{AllPairs-cons}
-use Rattle.std.proofs.lemmas.Option.{slice_get_within, get_or_from_slice_get}
-use Rattle.flat_code.specs.declared.program.Site.{Site}
-use Rattle.flat_code.specs.Sites.{site_of}
+use Rattle.meaning_laws.proofs.Words.Core.{Site, site_of}
+use Rattle.meaning_laws.proofs.Words.Std.{All, All-append, All-cons, All-nil, All-weaker, AllPairs, AllPairs-cons, Contains, Contains-append_left, Contains-append_right, List, None, Some, [], ap, arith, cond, enumerate_from, eq-eqb, flat_map, get_or_from_slice_get, length, ne_eqb, refl, slice_get, slice_get_within, subst, suc, sym, zero, ℕ, ◌++◌, ◌+◌, ◌<◌, ◌∙◌, ◌∷◌, ◌≡◌, ◌≢◌, ◌≤◌}
 
 abbrev Before : Site → Site → Type 0
 Before one other = one.instr < other.instr

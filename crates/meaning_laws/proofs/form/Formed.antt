@@ -1,15 +1,8 @@
 -- The code of a sound core is well formed.
-use Rattle.std.specs.Prelude.{◌≤◌}
-use Rattle.c_types.specs.declared.layouts.Layout.{Layout}
+use Rattle.meaning_laws.proofs.Words.Core.{Code, Core, IsLayoutOfType, IsShort, IsSound, IsWellFormed, Layout}
+use Rattle.meaning_laws.proofs.Words.Meaning.{AreAscending, AreExact, IsCompiled, Pins}
+use Rattle.meaning_laws.proofs.Words.Std.{◌≤◌}
 use Rattle.c_types.specs.Layouts.{IsSound as IsSoundLayout}
-use Rattle.core_tree.specs.declared.program.Core.{Core}
-use Rattle.core_tree.specs.LayoutsOfTypes.{IsLayoutOfType}
-use Rattle.core_tree.specs.Sound.{IsSound}
-use Rattle.flat_code.specs.declared.program.Code.{Code}
-use Rattle.flat_code.specs.WellFormed.{IsShort, IsWellFormed}
-use Rattle.object_meaning.specs.counted.Pinning.{Pins, AreExact}
-use Rattle.object_meaning.specs.compiled.Compiled.{IsCompiled}
-use Rattle.object_meaning.specs.compiled.Sites.{AreAscending}
 use Rattle.meaning_laws.proofs.form.Functions.{functions, starts}
 use Rattle.meaning_laws.proofs.form.Instructions.{instructions}
 use Rattle.meaning_laws.proofs.form.Lengths.{lists_are_short}

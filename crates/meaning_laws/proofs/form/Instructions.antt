@@ -1,33 +1,67 @@
 -- Each instruction of the code of a sound core is well formed.
-use Rattle.std.proofs.Common.{◌≡◌, ℕ, zero, suc, pos, ◌+◌, ◌^◌, ◌<◌, ◌≤◌, List, [], ◌∷◌, Bool, true, false, cond, Option, Some, sym, subst, arith}
-use Rattle.std.specs.Prelude.{slice_get, IsSome, ℤ, ◌-ℤ◌, int_lt}
-use Rattle.std.proofs.lemmas.Option.{none-some, same_Some, slice_get_within, get_or_from_slice_get}
-use Rattle.core_tree.specs.declared.program.Core.{Core}
-use Rattle.core_tree.specs.declared.statements.Atom.{Atom}
-use Rattle.core_tree.specs.declared.statements.Atom.TheVariants as atom
-use Rattle.core_tree.specs.Sorts.{Sort, atom_sort}
-use Rattle.core_tree.specs.Sound.{IsSound, IsNumber}
-use Rattle.flat_code.specs.declared.instructions.Instr.{Instr}
-use Rattle.flat_code.specs.declared.instructions.Op.TheVariants as op
-use Rattle.flat_code.specs.declared.program.Code.{Code}
-use Rattle.flat_code.specs.declared.program.Entry.{Entry}
-use Rattle.flat_code.specs.Table.{hands}
-use Rattle.flat_code.specs.WellFormed.{IsInstr, EachInstr, HandsOrTakes, HasResult, NamesWhatIsThere, Takes, end_of}
-use Rattle.object_meaning.specs.counted.Pinning.{Pins, AreExact}
-use Rattle.object_meaning.specs.compiled.Handing.{instr, hand_of}
-use Rattle.meaning_laws.proofs.form.Numbered.{InRange, AllInRange, handed_in_range}
-use Rattle.object_meaning.specs.compiled.Compiled.{IsCompiled}
-use Rattle.object_meaning.specs.compiled.Sites.{AreAscending}
-use Rattle.meaning_laws.proofs.form.Doing.{doing, does_not_hand, Numbers}
-use Rattle.meaning_laws.proofs.form.Flow.{hand_leads, hand_leads_on, hand_starts_afresh, first_inside, last_inside, leads_inside, leads_ahead, leads_afresh}
-use Rattle.meaning_laws.proofs.form.Handed.{handed_all}
-use Rattle.meaning_laws.proofs.form.Handing.{each_hand}
-use Rattle.meaning_laws.proofs.form.Returns.{answered}
+use Rattle.meaning_laws.proofs.Words.Core.{Atom, Code, Core, EachInstr, Entry, HandsOrTakes, HasNumbers, HasResult, Instr, IsInstr, IsNumber, IsSound, NamesWhatIsThere, Sort, StmKind, Takes, atom_numbers, atom_sort, end_of, hands, operands}
+use Rattle.meaning_laws.proofs.Words.Meaning.{AreAscending, AreExact, IsCompiled, Pins, hand_of, handed_atoms, instr}
+use Rattle.meaning_laws.proofs.Words.Std.{All, Bool, IsSome, List, Option, Some, [], arith, cond, false, flat_map, flat_map-cons, get_or-append-add, get_or_append_left, get_or_from_slice_get, int_lt, length, length-append, none-some, pos, same_Some, slice_get, slice_get_within, subst, suc, sym, true, zero, ℕ, ℤ, ◌++◌, ◌+◌, ◌-ℤ◌, ◌<◌, ◌^◌, ◌∷◌, ◌≡◌, ◌≤◌}
+use Rattle.meaning_laws.proofs.form.Typing.{doing, does_not_hand, Numbers, atoms_there, takes_its_operands, gives_its_result, names_what_is_there}
+use Rattle.meaning_laws.proofs.form.Flow.{hand_leads, hand_leads_on, hand_starts_afresh, first_inside, last_inside, leads_inside, leads_ahead, leads_afresh, handed_all}
+use Rattle.meaning_laws.proofs.form.Sorts.{each_hand, hands_over, handed_is}
+use Rattle.meaning_laws.proofs.form.Functions.{answered}
 use Rattle.meaning_laws.proofs.form.Pinned.{LiveByPaths}
 use Rattle.meaning_laws.proofs.form.Sites.{hand_site, does_site}
-use Rattle.meaning_laws.proofs.form.Sorts.{hands_over, handed_is}
 use Rattle.meaning_laws.proofs.form.Spots.{Spot, places, start, last, atoms, each_instr}
-use Rattle.meaning_laws.proofs.form.Typing.{atoms_there, takes_its_operands, gives_its_result, names_what_is_there}
+use Rattle.core_tree.specs.declared.statements.Atom.TheVariants as atom
+use Rattle.core_tree.specs.declared.statements.StmKind.TheVariants as stm
+use Rattle.flat_code.specs.declared.instructions.Op.TheVariants as op
+
+-- The integers that a statement of a sound core hands over are in range.
+
+-- an operand that is an integer is in range
+abbrev pub InRange : Atom → Type 0
+InRange (atom.Int n) = IsNumber n
+InRange a = Unit {0}
+
+abbrev pub AllInRange : List Atom → Type 0
+AllInRange [] = Unit {0}
+AllInRange (a ∷ atoms) = InRange a × AllInRange atoms
+
+module _ {X : Type 0} (P : X → Type 0) where
+  all_front : (xs ys : List X) → All P (xs ++ ys) → All P xs
+  all_front xs ys h k d lt =
+      subst P (get_or_append_left xs ys d k lt) (h k d (omega (arith, length-append xs ys)))
+
+  all_back : (xs ys : List X) → All P (xs ++ ys) → All P ys
+  all_back xs ys h k d lt =
+      subst P (get_or-append-add xs ys k d) (h (length xs + k) d (omega (arith, length-append xs ys)))
+
+in_range : (a : Atom) → All IsNumber (atom_numbers a) → InRange a
+in_range (atom.Int n) h = h 0 n (omega arith)
+in_range (atom.Reg r) h = tt
+in_range atom.Null h = tt
+in_range (atom.Static k) h = tt
+in_range (atom.Mem k) h = tt
+
+all_in_range : (atoms : List Atom) → All IsNumber (flat_map atom_numbers atoms) → AllInRange atoms
+all_in_range [] h = tt
+all_in_range (a ∷ atoms) h =
+    let both = subst (All IsNumber) (flat_map-cons atom_numbers a atoms) h in
+    (in_range a (all_front IsNumber (atom_numbers a) _ both), all_in_range atoms (all_back IsNumber (atom_numbers a) _ both))
+
+-- operands, and a number behind them
+with_own : (atoms : List Atom) (n : ℤ) → All IsNumber (flat_map atom_numbers atoms ++ n ∷ []) → AllInRange atoms × IsNumber n
+with_own atoms n h =
+    (all_in_range atoms (all_front IsNumber (flat_map atom_numbers atoms) (n ∷ []) h), all_back IsNumber (flat_map atom_numbers atoms) (n ∷ []) h 0 n (omega arith))
+
+without_own : (atoms : List Atom) → All IsNumber (flat_map atom_numbers atoms ++ []) → AllInRange atoms
+without_own atoms h = all_in_range atoms (all_front IsNumber (flat_map atom_numbers atoms) [] h)
+
+pub handed_in_range : (kind : StmKind) → HasNumbers kind → AllInRange (handed_atoms kind)
+handed_in_range (stm.Off r p c) h = let o = with_own (p ∷ []) c h.numbers in (o.0.0, (o.1, tt))
+handed_in_range (stm.Case a v l) h = let o = with_own (a ∷ []) v h.numbers in (o.0.0, (o.1, tt))
+handed_in_range (stm.Copy p q n) h = let o = with_own (p ∷ q ∷ []) n h.numbers in (o.0.0, (o.0.1.0, (o.1, tt)))
+handed_in_range (stm.Clear p n) h = let o = with_own (p ∷ []) n h.numbers in (o.0.0, (o.1, tt))
+handed_in_range kind h = without_own (operands kind) h.numbers
+
+-- Each instruction of the code of a sound core is well formed.
 
 hand_gives_nothing : (code : Code) (entry : Entry) (a : Atom) → HasResult code entry (hand_of a) (hand_of a).op
 hand_gives_nothing code entry a = each_hand (λ (i : Instr). HasResult code entry i i.op) (λ r. tt) (λ n. tt) (λ n. tt) tt (λ k. tt) (λ k. tt) a

@@ -1,19 +1,8 @@
 -- The lists of the code of a sound core are short.
-use Rattle.std.proofs.Common.{◌≡◌, ℕ, ◌+◌, ◌*◌, ◌≤◌, List, [], ◌∷◌, length, refl, arith}
-use Rattle.std.specs.List.{sum_by}
-use Rattle.std.proofs.lemmas.List.Sums.{sum_by-cons, sum_by-le-sum_by}
-use Rattle.core_tree.specs.declared.program.Core.{Core}
-use Rattle.core_tree.specs.declared.program.Func.{Func}
-use Rattle.core_tree.specs.declared.statements.Stm.{Stm}
-use Rattle.core_tree.specs.declared.statements.StmKind.{StmKind}
+use Rattle.meaning_laws.proofs.Words.Core.{AreShort, Code, Core, Func, IsShort, IsSound, Stm, StmKind, code_size, operands}
+use Rattle.meaning_laws.proofs.Words.Meaning.{IsCompiled, Pins, code_length}
+use Rattle.meaning_laws.proofs.Words.Std.{List, [], arith, length, refl, sum_by, sum_by-cons, sum_by-le-sum_by, ℕ, ◌*◌, ◌+◌, ◌∷◌, ◌≡◌, ◌≤◌}
 use Rattle.core_tree.specs.declared.statements.StmKind.TheVariants as stm
-use Rattle.core_tree.specs.Statements.{operands}
-use Rattle.core_tree.specs.Sound.{IsSound, code_size}
-use Rattle.flat_code.specs.declared.program.Code.{Code}
-use Rattle.flat_code.specs.WellFormed.{IsShort, AreShort}
-use Rattle.object_meaning.specs.counted.Pinning.{Pins}
-use Rattle.object_meaning.specs.compiled.Handing.{code_length}
-use Rattle.object_meaning.specs.compiled.Compiled.{IsCompiled}
 use Rattle.meaning_laws.proofs.form.Parts.{before_all}
 use Rattle.meaning_laws.proofs.form.Places.{weight, func_length}
 use Rattle.meaning_laws.proofs.form.Sorts.{kinds_are, mems_are}

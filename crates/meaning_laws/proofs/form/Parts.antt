@@ -1,11 +1,5 @@
 -- Items that each take up some places, one after another: to which item a place belongs.
-use Rattle.std.proofs.Common.{◌≡◌, ℕ, suc, ◌+◌, ◌-◌, ◌<◌, ◌≤◌, List, [], ◌∷◌, length, take, Some, refl, ◌∙◌, ap, arith, ⊎_elim}
-use Rattle.std.specs.Prelude.{slice_get}
-use Rattle.std.specs.List.{sum_by}
-use Rattle.std.proofs.lemmas.Bool.{cases_lt, cases_order}
-use Rattle.std.proofs.lemmas.List.{take-take, take_all}
-use Rattle.std.proofs.lemmas.List.Sums.{sum_by-cons, sum_by_more, sum_by-take-le}
-use Rattle.std.proofs.lemmas.Option.{slice_get_within, get_or_from_slice_get}
+use Rattle.meaning_laws.proofs.Words.Std.{List, Some, [], ap, arith, cases_lt, cases_order, get_or_from_slice_get, length, refl, slice_get, slice_get_within, suc, sum_by, sum_by-cons, sum_by-take-le, sum_by_more, take, take-take, take_all, ℕ, ⊎_elim, ◌+◌, ◌-◌, ◌<◌, ◌∙◌, ◌∷◌, ◌≡◌, ◌≤◌}
 
 module _ {X : Type 0} (weight : X → ℕ) where
   -- the places before an item

@@ -1,27 +1,13 @@
 -- The pins of a statement are the registers that count at the last of its instructions.
-use Rattle.std.proofs.Common.{◌≡◌, ℕ, ◌≢◌, ◌&&◌, Bool, true, false, not, cond, Option, Some, None, refl, sym, ◌∙◌, ap}
-use Rattle.std.specs.Prelude.{◌↔◌, List, slice_get, option_map, nat_eq, IsTrue}
-use Rattle.std.specs.Option.{option_map_or}
-use Rattle.std.proofs.lemmas.Bool.{both_ways, and_parts, and_from, ne_eqb, eqb-false, not-true, not_from_false}
-use Rattle.core_tree.specs.declared.program.Core.{Core}
-use Rattle.core_tree.specs.declared.program.Func.{Func}
-use Rattle.core_tree.specs.declared.program.Reg.{Reg}
-use Rattle.core_tree.specs.declared.statements.StmKind.{StmKind}
+use Rattle.meaning_laws.proofs.Words.Core.{ArePins, Code, Core, Counts, Func, Instr, Integer, IsSound, Reg, Sort, Stm, StmKind, answered, is_live}
+use Rattle.meaning_laws.proofs.Words.Meaning.{AreAscending, AreExact, IsCompiled, Pins, counts_at, holds_on, holds_pointer, may_free, pins_of, takes_answer}
+use Rattle.meaning_laws.proofs.Words.Std.{Bool, IsTrue, List, None, Option, Some, and_from, and_parts, ap, both_ways, cond, eqb-false, false, nat_eq, ne_eqb, not, not-true, not_from_false, option_map, option_map_or, refl, slice_get, sym, true, ℕ, ◌&&◌, ◌↔◌, ◌∙◌, ◌≡◌, ◌≢◌}
 use Rattle.core_tree.specs.declared.statements.StmKind.TheVariants as stm
-use Rattle.core_tree.specs.declared.statements.Stm.{Stm}
-use Rattle.core_tree.specs.Lives.{IsLive, is_live}
-use Rattle.core_tree.specs.Sorts.{Sort, Integer, Pointer}
+use Rattle.core_tree.specs.Lives.{IsLive}
+use Rattle.core_tree.specs.Sorts.{Pointer}
 use Rattle.core_tree.specs.Sorts as core_sorts
-use Rattle.core_tree.specs.Sound.{IsSound}
-use Rattle.object_meaning.specs.objects.Holding.{takes_answer}
-use Rattle.object_meaning.specs.counted.Pinning.{Pins, pins_of, holds_pointer, holds_on, counts_at, AreExact}
-use Rattle.flat_code.specs.declared.instructions.Instr.{Instr}
 use Rattle.flat_code.specs.declared.instructions.Op.TheVariants as op
-use Rattle.flat_code.specs.declared.program.Code.{Code}
-use Rattle.flat_code.specs.Sites.{answered, Counts, ArePins}
-use Rattle.object_meaning.specs.compiled.Compiled.{IsCompiled}
-use Rattle.object_meaning.specs.compiled.Sites.{may_free, AreAscending}
-use Rattle.meaning_laws.proofs.form.Doing.{doing, chosen_is}
+use Rattle.meaning_laws.proofs.form.Typing.{doing, chosen_is}
 use Rattle.meaning_laws.proofs.form.Lives.{same_lives}
 use Rattle.meaning_laws.proofs.form.Sorts.{register_is}
 use Rattle.meaning_laws.proofs.form.Spots.{Spot, places, last}

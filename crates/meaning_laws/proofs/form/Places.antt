@@ -1,13 +1,10 @@
 -- Where the statements of a core stand in its code, and to which of them an instruction belongs.
-use Rattle.std.proofs.Common.{◌≡◌, ℕ, ◌+◌, ◌-◌, ◌<◌, ◌≤◌, length, Some, arith}
-use Rattle.std.specs.Prelude.{slice_get}
-use Rattle.core_tree.specs.declared.program.Core.{Core}
-use Rattle.core_tree.specs.declared.program.Func.{Func}
-use Rattle.core_tree.specs.declared.statements.Stm.{Stm}
-use Rattle.object_meaning.specs.compiled.Handing.{handed_atoms, code_length}
-use Rattle.object_meaning.specs.compiled.Places.{body_length, first_of, place_of}
+use Rattle.meaning_laws.proofs.Words.Core.{Atom, Code, Core, Func, Instr, Stm, StmKind}
+use Rattle.meaning_laws.proofs.Words.Meaning.{IsCompiled, Pins, body_length, code_length, first_of, hand_of, handed_atoms, place_of}
+use Rattle.meaning_laws.proofs.Words.Std.{Some, ap, arith, cases_lt, inl, inr, length, refl, same_Some, slice_get, sym, ℕ, ⊎_elim, ◌+◌, ◌-◌, ◌<◌, ◌∙◌, ◌≡◌, ◌≤◌, ◌⊎◌}
 use Rattle.meaning_laws.proofs.form.Parts.{part_at, before_more, before_all, before_later, before_end, one_part}
-use Rattle.meaning_laws.proofs.dangling.Acting.{found as element}
+use Rattle.meaning_laws.proofs.dangling.Standing.{found as element}
+use Rattle.meaning_laws.proofs.form.Typing.{doing, as_doing, Numbers}
 
 abbrev pub weight : Stm → ℕ
 weight stm = code_length stm.kind
@@ -84,3 +81,42 @@ module _ (core : Core) where
     pub same_point : (n m j k : ℕ) (x y : Stm) → slice_get func.body n ≡ Some x → slice_get func.body m ≡ Some y → j ≤ length (handed_atoms x.kind) → k ≤ length (handed_atoms y.kind) → place n + j ≡ place m + k → n ≡ m
     same_point n m j k x y at_n at_m a b same =
         one_part weight func.body n m j k x y at_n at_m (omega arith) (omega arith) (omega arith)
+
+-- Each instruction of a statement hands one of its operands over, or does what the statement does.
+
+-- the instruction hands the operand of a number over
+abbrev pub Hands : StmKind → ℕ → Instr → Type 0
+Hands kind k i = (a : Atom) × (slice_get (handed_atoms kind) k ≡ Some a) × (hand_of a ≡ i)
+
+-- the instruction stands behind all operands, and does what the statement does
+abbrev pub DoesAll : Code → Func → (ℕ → ℕ) → StmKind → ℕ → Instr → Type 0
+DoesAll code func place kind k i =
+    (n : ℕ) × (k ≡ length (handed_atoms kind)) × (doing place kind n ≡ i) × Numbers code func kind n
+
+module _ (core : Core) {pins : Pins} (code : Code) (is : IsCompiled core pins code) (f : ℕ) (func : Func) (here : slice_get core.funcs f ≡ Some func) (point : ℕ) (stm : Stm) (found : slice_get func.body point ≡ Some stm) where
+  abbrev at : ℕ
+  at = place core f func here point
+
+  abbrev last : ℕ
+  last = length (handed_atoms stm.kind)
+
+  hands : (k : ℕ) (i : Instr) → k < last → slice_get code.instrs (at + k) ≡ Some i → Hands stm.kind k i
+  hands k i h there =
+      let a = element (handed_atoms stm.kind) k h in
+      let stands = (is.statements f point func stm here found).hands k a.0 a.1 in
+      (a.0, a.1, same_Some (hand_of a.0) i (sym stands ∙ there))
+
+  does : (i : Instr) → slice_get code.instrs (at + last) ≡ Some i → DoesAll code func (place core f func here) stm.kind last i
+  does i there =
+      let stands = (is.statements f point func stm here found).does in
+      let d = as_doing core code f func stm.kind stands.0 stands.2 in
+      (d.0, refl, sym d.1 ∙ same_Some stands.0 i (sym stands.1 ∙ there), d.2)
+
+  pub role : (k : ℕ) (i : Instr) → k ≤ last → slice_get code.instrs (at + k) ≡ Some i → Hands stm.kind k i ⊎ DoesAll code func (place core f func here) stm.kind k i
+  role k i h there =
+      ⊎_elim
+      (λ (less : k < last). inl (hands k i less there))
+      (λ (more : last ≤ k).
+      let e : k ≡ last = omega arith in
+      let d = does i (ap (λ n. slice_get code.instrs (at + n)) (sym e) ∙ there) in inr (d.0, e, d.2, d.3))
+      (cases_lt k last)

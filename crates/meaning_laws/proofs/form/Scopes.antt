@@ -1,32 +1,15 @@
 -- Paths through compiled code lead over the statements of paths through the core, and open and close the same scopes.
-use Rattle.std.proofs.Common.{◌≡◌, ℕ, ◌+◌, ◌<◌, ◌≤◌, List, [], ◌∷◌, length, map, Option, Some, None, refl, sym, ◌∙◌, ap, subst, arith, ◌⊎◌, ⊎_elim}
-use Rattle.std.specs.Prelude.{slice_get, Contains}
-use Rattle.std.proofs.lemmas.List.{length-map, get_or-map}
-use Rattle.std.proofs.lemmas.List.Elements.{All-contains}
-use Rattle.std.proofs.lemmas.Option.{slice_get_within, get_or_from_slice_get}
-use Rattle.core_tree.specs.declared.program.Core.{Core}
-use Rattle.core_tree.specs.declared.program.Func.{Func}
-use Rattle.core_tree.specs.declared.statements.Atom.{Atom}
-use Rattle.core_tree.specs.declared.statements.Stm.{Stm}
-use Rattle.core_tree.specs.declared.statements.StmKind.{StmKind}
+use Rattle.meaning_laws.proofs.Words.Core.{Atom, ClosesWhatIsOpen, Code, Core, Entry, Func, HasScopes, Instr, IsSound, Opens, Stm, StmKind, edges, scopes_after}
+use Rattle.meaning_laws.proofs.Words.Meaning.{IsCompiled, IsEntry, Pins, hand_of, handed_atoms}
+use Rattle.meaning_laws.proofs.Words.Std.{All-contains, Contains, List, None, Option, Some, [], ap, arith, get_or-map, get_or_from_slice_get, length, length-map, map, refl, slice_get, slice_get_within, subst, sym, ℕ, ⊎_elim, ◌+◌, ◌<◌, ◌∙◌, ◌∷◌, ◌≡◌, ◌≤◌, ◌⊎◌}
 use Rattle.core_tree.specs.declared.statements.StmKind.TheVariants as stm
-use Rattle.core_tree.specs.Sound.{IsSound}
 use Rattle.core_tree.specs.Sound as cores
 use Rattle.core_tree.specs.Statements as statements
-use Rattle.flat_code.specs.declared.instructions.Instr.{Instr}
-use Rattle.flat_code.specs.declared.program.Code.{Code}
-use Rattle.flat_code.specs.declared.program.Entry.{Entry}
-use Rattle.flat_code.specs.Table.{edges, scopes_after}
-use Rattle.flat_code.specs.WellFormed.{IsAt, Opens, HasScopes, ClosesWhatIsOpen}
 use Rattle.flat_code.specs.WellFormed as form
-use Rattle.object_meaning.specs.counted.Pinning.{Pins}
-use Rattle.object_meaning.specs.compiled.Handing.{hand_of, handed_atoms}
-use Rattle.object_meaning.specs.compiled.Compiled.{IsCompiled, IsEntry}
-use Rattle.meaning_laws.proofs.form.Doing.{doing, same_scopes, same_edges}
+use Rattle.meaning_laws.proofs.form.Typing.{doing, same_scopes, same_edges}
 use Rattle.meaning_laws.proofs.form.Flow.{hand_edges, hand_scopes, hand_closes_nothing}
-use Rattle.meaning_laws.proofs.form.Roles.{Hands, DoesAll, role}
-use Rattle.meaning_laws.proofs.form.Places.{place, place_more, same_point}
-use Rattle.meaning_laws.proofs.dangling.Acting.{found as element}
+use Rattle.meaning_laws.proofs.form.Places.{Hands, DoesAll, role, place, place_more, same_point}
+use Rattle.meaning_laws.proofs.dangling.Standing.{found as element}
 
 pub contains_one : (x y : ℕ) → Contains (x ∷ []) y → x ≡ y
 contains_one x y h = let e : h.0 ≡ 0 = omega (arith, h.1) in rw e at h.2

@@ -1,31 +1,12 @@
 -- The sites of the code of a sound core: they ascend, and an instruction has the site that it must have.
-use Rattle.std.proofs.Common.{◌≡◌, ℕ, ◌+◌, ◌<◌, ◌≤◌, ◌≢◌, Bool, true, false, cond, [], ◌∷◌, length, Some, None, refl, sym, ◌∙◌, ap, subst, arith}
-use Rattle.std.specs.Prelude.{slice_get, All, AllPairs, Contains}
-use Rattle.std.proofs.lemmas.Bool.{both_ways}
-use Rattle.std.proofs.lemmas.List.Elements.{All-nil, All-cons, All-weaker}
-use Rattle.std.proofs.lemmas.Option.{same_Some, slice_get-get_or}
-use Rattle.core_tree.specs.declared.program.Core.{Core}
-use Rattle.core_tree.specs.declared.program.Func.{Func}
-use Rattle.core_tree.specs.declared.statements.Atom.{Atom}
-use Rattle.core_tree.specs.declared.statements.Stm.{Stm}
-use Rattle.core_tree.specs.declared.statements.StmKind.{StmKind}
+use Rattle.meaning_laws.proofs.Words.Core.{Atom, Code, Core, Entry, Func, HasSite, Instr, IsAt, IsSound, Site, Stm, StmKind, has_site, site_of}
+use Rattle.meaning_laws.proofs.Words.Meaning.{AreAscending, AreExact, IsCompiled, Pins, first_of, func_sites, hand_of, handed_atoms, may_free, pins_of, place_of, sites_of, statement_sites}
+use Rattle.meaning_laws.proofs.Words.Std.{All, All-cons, All-nil, All-weaker, AllPairs, Bool, Contains, None, Some, [], ap, arith, both_ways, cond, false, length, refl, same_Some, slice_get, slice_get-get_or, subst, sym, true, ℕ, ◌+◌, ◌<◌, ◌∙◌, ◌∷◌, ◌≡◌, ◌≢◌, ◌≤◌}
 use Rattle.core_tree.specs.declared.statements.StmKind.TheVariants as stm
-use Rattle.core_tree.specs.Sound.{IsSound}
-use Rattle.object_meaning.specs.counted.Pinning.{Pins, pins_of, AreExact}
-use Rattle.flat_code.specs.declared.instructions.Instr.{Instr}
-use Rattle.flat_code.specs.declared.program.Code.{Code}
-use Rattle.flat_code.specs.declared.program.Entry.{Entry}
-use Rattle.flat_code.specs.declared.program.Site.{Site}
-use Rattle.flat_code.specs.Sites.{has_site, site_of, HasSite}
-use Rattle.flat_code.specs.WellFormed.{IsAt}
-use Rattle.object_meaning.specs.compiled.Handing.{hand_of, handed_atoms}
-use Rattle.object_meaning.specs.compiled.Places.{first_of, place_of}
-use Rattle.object_meaning.specs.compiled.Compiled.{IsCompiled}
-use Rattle.object_meaning.specs.compiled.Sites.{may_free, statement_sites, func_sites, sites_of, AreAscending}
 use Rattle.meaning_laws.proofs.form.Ascending.{Ascend, none_ascend, one_ascends, all_ascend, all_hold, one_is_in, no_site, site_found}
-use Rattle.meaning_laws.proofs.form.Doing.{doing, as_doing}
+use Rattle.meaning_laws.proofs.form.Typing.{doing, as_doing}
 use Rattle.meaning_laws.proofs.form.Flow.{first_inside, last_inside}
-use Rattle.meaning_laws.proofs.form.Handing.{each_hand}
+use Rattle.meaning_laws.proofs.form.Sorts.{each_hand}
 use Rattle.meaning_laws.proofs.form.Places.{place_more, place_all}
 use Rattle.meaning_laws.proofs.form.Spots.{Spot, places, start, last, atoms}
 use Rattle.meaning_laws.proofs.form.Pinned.{LiveByPaths, pins_are}

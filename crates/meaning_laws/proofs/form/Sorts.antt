@@ -1,24 +1,27 @@
 -- What is handed over for an operand has the operand's sort.
-use Rattle.std.proofs.Common.{◌≡◌, ℕ, zero, suc, pos, ◌^◌, Bool, true, false, cond, List, [], ◌∷◌, length, map, take, Option, Some, refl, sym, ◌∙◌, ap, arith}
-use Rattle.std.specs.Prelude.{ℤ, ◌-ℤ◌, slice_get, option_map, int_lt}
-use Rattle.std.proofs.lemmas.List.{length-map, take-map}
-use Rattle.core_tree.specs.declared.program.Core.{Core}
-use Rattle.core_tree.specs.declared.program.Func.{Func}
-use Rattle.core_tree.specs.declared.program.Mem.{Mem}
-use Rattle.core_tree.specs.declared.program.Reg.{Reg}
-use Rattle.core_tree.specs.declared.statements.Atom.{Atom}
+use Rattle.meaning_laws.proofs.Words.Core.{Atom, Code, Core, Entry, Func, Instr, Integer, Mem, Reg, Sort, atom_sort, handed_sort, hands, parameter_sorts, register_sort, register_sorts, sort_of}
+use Rattle.meaning_laws.proofs.Words.Meaning.{IsCompiled, IsEntry, Pins, hand_of, instr}
+use Rattle.meaning_laws.proofs.Words.Std.{Bool, List, Option, Some, [], ap, arith, cond, false, int_lt, length, length-map, map, option_map, pos, refl, slice_get, suc, sym, take, take-map, true, zero, ℕ, ℤ, ◌-ℤ◌, ◌^◌, ◌∙◌, ◌∷◌, ◌≡◌}
+use Rattle.core_tree.specs.Sorts.{Pointer}
 use Rattle.core_tree.specs.declared.statements.Atom.TheVariants as atom
-use Rattle.core_tree.specs.Sorts.{Sort, Integer, Pointer, atom_sort}
-use Rattle.core_tree.specs.Sorts as core_sorts
-use Rattle.flat_code.specs.declared.instructions.Instr.{Instr}
 use Rattle.flat_code.specs.declared.instructions.Op.TheVariants as op
-use Rattle.flat_code.specs.declared.program.Code.{Code}
-use Rattle.flat_code.specs.declared.program.Entry.{Entry}
-use Rattle.flat_code.specs.Table.{sort_of, register_sorts, register_sort, parameter_sorts, hands, handed_sort}
-use Rattle.object_meaning.specs.counted.Pinning.{Pins}
-use Rattle.object_meaning.specs.compiled.Handing.{instr, hand_of}
-use Rattle.object_meaning.specs.compiled.Compiled.{IsEntry, IsCompiled}
-use Rattle.meaning_laws.proofs.form.Handing.{each_hand}
+use Rattle.core_tree.specs.Sorts as core_sorts
+
+-- What holds of each instruction that hands a value over holds of that of each operand.
+
+module _ (P : Instr → Type 0) (registers : (r : ℕ) → P (instr op.HandReg r 0 0 (pos 0))) (integers : (n : ℤ) → P (instr op.HandInt 0 0 0 n)) (large : (n : ℤ) → P (instr op.HandUnsigned 0 0 0 n)) (null : P (instr op.HandNull 0 0 0 (pos 0))) (statics : (k : ℕ) → P (instr op.HandStatic k 0 0 (pos 0))) (locals : (k : ℕ) → P (instr op.HandLocal k 0 0 (pos 0))) where
+  each_integer : (b : Bool) (n m : ℤ) → P (cond b (instr op.HandInt 0 0 0 n) (instr op.HandUnsigned 0 0 0 m))
+  each_integer true n m = integers n
+  each_integer false n m = large m
+
+  pub each_hand : (a : Atom) → P (hand_of a)
+  each_hand (atom.Reg r) = registers r
+  each_hand (atom.Int n) = each_integer (int_lt n (pos (2 ^ 63))) n (n -ℤ pos (2 ^ 64))
+  each_hand atom.Null = null
+  each_hand (atom.Static k) = statics k
+  each_hand (atom.Mem k) = locals k
+
+-- What is handed over for an operand has the operand's sort.
 
 abbrev is_pointer : Reg → Bool
 is_pointer reg = reg.pointer

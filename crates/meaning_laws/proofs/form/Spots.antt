@@ -1,25 +1,10 @@
 -- Each instruction of compiled code hands over an operand of a statement, or does what a statement does.
-use Rattle.std.proofs.Common.{◌≡◌, ℕ, ◌+◌, ◌<◌, ◌≤◌, List, length, Option, Some, sym, ◌∙◌, ap, subst, arith, ⊎_elim}
-use Rattle.std.specs.Prelude.{slice_get}
-use Rattle.std.specs.Option.{option_map_or}
-use Rattle.std.proofs.lemmas.Bool.{cases_lt}
-use Rattle.std.proofs.lemmas.Option.{same_Some, slice_get_within, slice_get_past}
-use Rattle.core_tree.specs.declared.program.Core.{Core}
-use Rattle.core_tree.specs.declared.program.Func.{Func}
-use Rattle.core_tree.specs.declared.statements.Atom.{Atom}
-use Rattle.core_tree.specs.declared.statements.Stm.{Stm}
-use Rattle.flat_code.specs.declared.instructions.Instr.{Instr}
-use Rattle.flat_code.specs.declared.program.Code.{Code}
-use Rattle.flat_code.specs.declared.program.Entry.{Entry}
-use Rattle.flat_code.specs.WellFormed.{end_of, EachInstr}
-use Rattle.object_meaning.specs.counted.Pinning.{Pins}
-use Rattle.object_meaning.specs.compiled.Handing.{hand_of, handed_atoms}
-use Rattle.object_meaning.specs.compiled.Places.{first_of}
-use Rattle.object_meaning.specs.compiled.Compiled.{IsCompiled, IsEntry}
-use Rattle.meaning_laws.proofs.form.Doing.{doing, Numbers}
-use Rattle.meaning_laws.proofs.form.Places.{place, InStatement, in_statement}
-use Rattle.meaning_laws.proofs.form.Roles.{Hands, DoesAll, role}
-use Rattle.meaning_laws.proofs.dangling.Acting.{found as element}
+use Rattle.meaning_laws.proofs.Words.Core.{Atom, Code, Core, EachInstr, Entry, Func, Instr, Stm, end_of}
+use Rattle.meaning_laws.proofs.Words.Meaning.{IsCompiled, IsEntry, Pins, first_of, hand_of, handed_atoms}
+use Rattle.meaning_laws.proofs.Words.Std.{List, Option, Some, ap, arith, cases_lt, length, option_map_or, same_Some, slice_get, slice_get_past, slice_get_within, subst, sym, ℕ, ⊎_elim, ◌+◌, ◌<◌, ◌∙◌, ◌≡◌, ◌≤◌}
+use Rattle.meaning_laws.proofs.form.Typing.{doing, Numbers}
+use Rattle.meaning_laws.proofs.form.Places.{place, InStatement, in_statement, Hands, DoesAll, role}
+use Rattle.meaning_laws.proofs.dangling.Standing.{found as element}
 
 module _ (core : Core) {pins : Pins} (code : Code) (is : IsCompiled core pins code) where
   -- the function of an entry

@@ -1,27 +1,9 @@
 -- The statics of the code of a sound core.
-use Rattle.std.proofs.Common.{◌≡◌, ℕ, zero, suc, ◌+◌, ◌<◌, ◌≤◌, List, [], ◌∷◌, ◌++◌, length, map, replicate, Option, Some, refl, sym, ◌∙◌, ap, subst, arith}
-use Rattle.std.specs.Prelude.{slice_get, slice_index_or, unwrap_or, nat_eq, All, Contains}
-use Rattle.std.specs.List.{sum_by}
-use Rattle.std.specs.Option.{IsSomeAnd, option_map_or}
-use Rattle.std.proofs.lemmas.Bool.Decides.{nat_tests}
-use Rattle.std.proofs.lemmas.List.{length-append}
-use Rattle.std.proofs.lemmas.List.Elements.{All-weaker}
-use Rattle.std.proofs.lemmas.List.Sorted.{All-permutation, IsPermutation-map}
-use Rattle.std.proofs.lemmas.List.Sums.{sum_by-cons}
-use Rattle.std.proofs.lemmas.Map.Keys.{IsDistinct-IsPermutation}
-use Rattle.std.proofs.lemmas.Option.{same_Some, slice_get-get_or}
-use Rattle.hs_base.specs.Place.{block_size}
-use Rattle.c_types.specs.declared.layouts.Layout.{Layout}
-use Rattle.core_tree.specs.declared.program.Core.{Core}
-use Rattle.core_tree.specs.declared.program.Static.{Static}
-use Rattle.core_tree.specs.Sound.{IsSound}
+use Rattle.meaning_laws.proofs.Words.Core.{Code, Core, IsFirst, IsSound, IsTarget, Layout, Static, StaticInit, block_size, static_size}
+use Rattle.meaning_laws.proofs.Words.Meaning.{IsCompiled, IsStatic, Pins}
+use Rattle.meaning_laws.proofs.Words.Std.{All, All-permutation, All-weaker, Contains, IsDistinct-IsPermutation, IsPermutation-map, IsSomeAnd, List, Option, Some, [], ap, arith, length, length-append, map, nat_eq, nat_tests, option_map_or, refl, replicate, same_Some, slice_get, slice_get-get_or, slice_index_or, subst, suc, sum_by, sum_by-cons, sym, unwrap_or, zero, ℕ, ◌++◌, ◌+◌, ◌<◌, ◌∙◌, ◌∷◌, ◌≡◌, ◌≤◌}
 use Rattle.core_tree.specs.Sound as cores
-use Rattle.flat_code.specs.declared.program.Code.{Code}
-use Rattle.flat_code.specs.declared.program.StaticInit.{StaticInit}
-use Rattle.flat_code.specs.WellFormed.{IsFirst, IsTarget, static_size}
-use Rattle.object_meaning.specs.counted.Pinning.{Pins}
-use Rattle.object_meaning.specs.compiled.Compiled.{IsCompiled, IsStatic}
-use Rattle.meaning_laws.proofs.dangling.Acting.{found as element}
+use Rattle.meaning_laws.proofs.dangling.Standing.{found as element}
 use Rattle.meaning_laws.proofs.soundness.Lists.{all_at}
 
 -- lists whose elements have the same weights have the same sum

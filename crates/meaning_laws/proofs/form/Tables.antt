@@ -1,29 +1,10 @@
 -- The layouts, the formats and the lines of the code of a sound core.
-use Rattle.std.proofs.Common.{◌≡◌, ℕ, ◌<◌, ◌≤◌, ◌⊎◌, List, length, Option, Some, None, sym, ◌∙◌, ap, subst, arith, ⊎_elim}
-use Rattle.std.specs.Prelude.{slice_get, All, Any, Contains}
-use Rattle.std.proofs.lemmas.Bool.{cases_lt}
-use Rattle.std.proofs.lemmas.List.Elements.{All-contains, All-weaker}
-use Rattle.std.proofs.lemmas.Option.{slice_get-get_or, get_or_from_slice_get}
-use Rattle.c_print.specs.Format.{IsFormat}
-use Rattle.c_print.specs.Pieces.{pieces_of}
-use Rattle.c_types.specs.declared.layouts.Layout.{Layout}
+use Rattle.meaning_laws.proofs.Words.Core.{Atom, Code, Core, Func, IsFormat, IsLayout, IsLayoutOfType, IsShort, IsSound, IsTyped, Layout, Mem, Static, Stm, StmKind, TakesFormat, element_layouts, main_of, pieces_of}
+use Rattle.meaning_laws.proofs.Words.Meaning.{IsCompiled, IsFormatIn, IsLayoutIn, Pins, format_of, line_of}
+use Rattle.meaning_laws.proofs.Words.Std.{All, All-contains, All-weaker, Any, Contains, List, None, Option, Some, ap, arith, cases_lt, get_or_from_slice_get, length, slice_get, slice_get-get_or, subst, sym, ℕ, ⊎_elim, ◌<◌, ◌∙◌, ◌≡◌, ◌≤◌, ◌⊎◌}
 use Rattle.c_types.specs.Layouts.{IsSound as IsSoundLayout}
-use Rattle.core_tree.specs.declared.program.Core.{Core}
-use Rattle.core_tree.specs.declared.program.Func.{Func}
-use Rattle.core_tree.specs.declared.program.Mem.{Mem}
-use Rattle.core_tree.specs.declared.program.Static.{Static}
-use Rattle.core_tree.specs.declared.statements.Atom.{Atom}
-use Rattle.core_tree.specs.declared.statements.Stm.{Stm}
-use Rattle.core_tree.specs.declared.statements.StmKind.{StmKind}
 use Rattle.core_tree.specs.declared.statements.StmKind.TheVariants as stm
-use Rattle.core_tree.specs.LayoutsOfTypes.{IsLayoutOfType}
-use Rattle.core_tree.specs.Sorts.{TakesFormat, IsTyped}
-use Rattle.core_tree.specs.Sound.{IsSound, IsStatic, main_of, element_layouts}
-use Rattle.object_meaning.specs.objects.Meaning.{line_of}
-use Rattle.flat_code.specs.declared.program.Code.{Code}
-use Rattle.flat_code.specs.WellFormed.{IsLayout, IsShort}
-use Rattle.object_meaning.specs.counted.Pinning.{Pins}
-use Rattle.object_meaning.specs.compiled.Compiled.{IsCompiled, IsLayoutIn, IsFormatIn, format_of}
+use Rattle.core_tree.specs.Sound.{IsStatic}
 use Rattle.meaning_laws.proofs.form.Functions.{main_func}
 use Rattle.meaning_laws.proofs.form.Places.{first_more, in_function, InStatement, in_statement}
 use Rattle.meaning_laws.proofs.soundness.Lists.{all_at}

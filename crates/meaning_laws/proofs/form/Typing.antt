@@ -1,30 +1,109 @@
 -- What the statements of a sound core take, give and name, their instructions take, give and name.
-use Rattle.std.proofs.Common.{◌≡◌, ℕ, pos, ◌<◌, ◌≤◌, List, [], ◌∷◌, length, map, take, Option, Some, None, refl, sym, ◌∙◌, ap, subst, arith}
-use Rattle.std.specs.Prelude.{slice_get, All, IsSome, IfSome, ◌≤ℤ◌, ℤ}
-use Rattle.std.specs.Option.{IsSomeAnd}
-use Rattle.std.specs.List.{flat_map}
-use Rattle.std.proofs.lemmas.Int.{ints}
-use Rattle.std.proofs.lemmas.List.Elements.{All-nil, All-cons}
-use Rattle.c_types.specs.declared.layouts.Layout.{Layout}
-use Rattle.c_print.specs.Pieces.{pieces_of}
-use Rattle.core_tree.specs.declared.program.Core.{Core}
-use Rattle.core_tree.specs.declared.program.Func.{Func}
-use Rattle.core_tree.specs.declared.statements.Atom.{Atom}
-use Rattle.core_tree.specs.declared.statements.StmKind.{StmKind}
-use Rattle.core_tree.specs.declared.statements.StmKind.TheVariants as stm
-use Rattle.core_tree.specs.Sorts.{Sort, Integer, Pointer, atom_sort, TakesAll, TakesCall, TakesFormat, HasRegister, GivesResult, IsTyped, piece_takes}
-use Rattle.core_tree.specs.Sorts as core_sorts
-use Rattle.core_tree.specs.Sound.{HasNumbers}
-use Rattle.flat_code.specs.declared.instructions.Op.TheVariants as op
-use Rattle.flat_code.specs.declared.program.Code.{Code}
-use Rattle.flat_code.specs.declared.program.Entry.{Entry}
-use Rattle.flat_code.specs.Table.{register_sort, all_there, call_takes, format_takes}
-use Rattle.flat_code.specs.WellFormed.{Takes, GivesTo, HasResult, EachAnswer, NamesWhatIsThere, IsElementSize, IsElement}
-use Rattle.object_meaning.specs.counted.Pinning.{Pins}
-use Rattle.object_meaning.specs.compiled.Handing.{handed_atoms}
-use Rattle.object_meaning.specs.compiled.Compiled.{IsCompiled, IsEntry}
-use Rattle.meaning_laws.proofs.form.Doing.{doing, chooses, chosen_is, Numbers}
+use Rattle.meaning_laws.proofs.Words.Core.{Atom, Code, Core, EachAnswer, Entry, Func, GivesResult, GivesTo, HasNumbers, HasRegister, HasResult, Instr, Integer, IsElement, IsElementSize, IsTyped, Layout, NamesWhatIsThere, Op, Sort, StmKind, Takes, TakesAll, TakesCall, TakesFormat, all_there, atom_sort, call_takes, chosen, edges, format_takes, hands, piece_takes, pieces_of, register_sort, scopes_after}
+use Rattle.meaning_laws.proofs.Words.Meaning.{Does, IsCompiled, IsEntry, Pins, handed_atoms, instr, place_of, to}
+use Rattle.meaning_laws.proofs.Words.Std.{All, All-cons, All-nil, IfSome, IsSome, IsSomeAnd, List, None, Option, Some, [], ap, arith, false, flat_map, ints, length, map, option_map_or, pos, refl, slice_get, subst, sym, take, unwrap_or, ℕ, ℤ, ◌+◌, ◌<◌, ◌∙◌, ◌∷◌, ◌≡◌, ◌≤ℤ◌, ◌≤◌}
+use Rattle.core_tree.specs.Sorts.{Pointer}
 use Rattle.meaning_laws.proofs.form.Sorts.{register_is, parameters_are, kinds_are}
+use Rattle.core_tree.specs.declared.statements.LibName.TheVariants as lib
+use Rattle.core_tree.specs.declared.statements.StmKind.TheVariants as stm
+use Rattle.core_tree.specs.Statements as statements
+use Rattle.core_tree.specs.Sound as sound
+use Rattle.flat_code.specs.declared.instructions.Op.TheVariants as op
+use Rattle.core_tree.specs.Sorts as core_sorts
+
+-- The instruction that does what a statement does, as a function of the statement and of the number of its layout or format.
+
+-- an operation whose result may be left
+abbrev pub chooses : Option ℕ → Op → ℕ → Instr
+chooses r o b = instr o (unwrap_or r 0) b (option_map_or (λ _. 1) r 0) (pos 0)
+
+pub chosen_is : (r : Option ℕ) (o : Op) (b : ℕ) → chosen (chooses r o b) ≡ r
+chosen_is None o b = refl
+chosen_is (Some r) o b = refl
+
+-- n is the number of a layout or a format
+abbrev pub doing : (ℕ → ℕ) → StmKind → ℕ → Instr
+doing place (stm.Set r a) n = to r op.Set
+doing place (stm.Conv k r a) n = to r (op.Conv k)
+doing place (stm.Un o k r a) n = to r (op.Un o k)
+doing place (stm.Bin o k r a b) n = to r (op.Bin o k)
+doing place (stm.Cmp o r a b) n = to r (op.Cmp o)
+doing place (stm.Add r p a size) n = instr op.Add r 0 0 size
+doing place (stm.Sub r p a size) n = instr op.Sub r 0 0 size
+doing place (stm.Off r p c) n = instr op.Add r 0 0 (pos 1)
+doing place (stm.Diff r p q size) n = instr op.Diff r 0 0 size
+doing place (stm.Pcmp o r p q) n = to r (op.Pcmp o)
+doing place (stm.Test r p) n = to r op.Test
+doing place (stm.Load k r p) n = to r (op.Load k)
+doing place (stm.Loadp r p) n = to r op.Loadp
+doing place (stm.Store k p a) n = to 0 (op.Store k)
+doing place (stm.Storep p q) n = to 0 op.Storep
+doing place (stm.Copy p q m) n = to 0 op.Copy
+doing place (stm.Clear p m) n = to 0 op.Clear
+doing place (stm.Jump l) n = instr op.Jump 0 (place l) 0 (pos 0)
+doing place (stm.Zero a l) n = instr op.Zero 0 (place l) 0 (pos 0)
+doing place (stm.Case a v l) n = instr op.Case 0 (place l) 0 (pos 0)
+doing place (stm.Loop l) n = instr op.Loop 0 (place l) 0 (pos 0)
+doing place (stm.Call g r args) n = chooses r op.Call g
+doing place (stm.Malloc r m t) n = instr op.Malloc r n 0 (pos 0)
+doing place (stm.Calloc r m k t) n = instr op.Calloc r n 0 (pos 0)
+doing place (stm.Realloc r p m t) n = instr op.Realloc r n 0 (pos 0)
+doing place (stm.Free p) n = to 0 op.Free
+doing place (stm.Lib name r args) n = chooses r (op.Lib name) 0
+doing place (stm.Printf r format args) n = instr op.Printf r n 0 (pos 0)
+doing place stm.Enter n = to 0 op.Enter
+doing place stm.Leave n = to 0 op.Leave
+doing place (stm.Return None) n = to 0 op.Return
+doing place (stm.Return (Some a)) n = to 0 op.Give
+
+-- the number is that of the statement's layout or format
+abbrev pub Numbers : Code → Func → StmKind → ℕ → Type 0
+Numbers code func (stm.Malloc r m t) n = slice_get code.layouts n ≡ Some t
+Numbers code func (stm.Calloc r m k t) n = slice_get code.layouts n ≡ Some t
+Numbers code func (stm.Realloc r p m t) n = slice_get code.layouts n ≡ Some t
+Numbers code func (stm.Printf r format args) n = slice_get code.formats n ≡ slice_get func.formats format
+Numbers code func kind n = Unit {0}
+
+pub as_doing : (core : Core) (code : Code) (f : ℕ) (func : Func) (kind : StmKind) (i : Instr) → Does core code f func kind i → (n : ℕ) × (i ≡ doing (place_of core f func.body) kind n) × Numbers code func kind n
+as_doing core code f func (stm.Malloc r m t) i h = h
+as_doing core code f func (stm.Calloc r m k t) i h = h
+as_doing core code f func (stm.Realloc r p m t) i h = h
+as_doing core code f func (stm.Printf r format args) i h = h
+as_doing core code f func (stm.Call g None args) i h = (0, h, tt)
+as_doing core code f func (stm.Call g (Some r) args) i h = (0, h, tt)
+as_doing core code f func (stm.Lib name None args) i h = (0, h, tt)
+as_doing core code f func (stm.Lib name (Some r) args) i h = (0, h, tt)
+as_doing core code f func (stm.Return None) i h = (0, h, tt)
+as_doing core code f func (stm.Return (Some a)) i h = (0, h, tt)
+as_doing core code f func kind i h = (0, h, tt)
+
+pub does_not_hand : (place : ℕ → ℕ) (kind : StmKind) (n : ℕ) → hands (doing place kind n).op ≡ false
+does_not_hand place (stm.Return None) n = refl
+does_not_hand place (stm.Return (Some a)) n = refl
+does_not_hand place (stm.Set r a) n = refl
+does_not_hand place kind n = refl
+
+pub same_scopes : (place : ℕ → ℕ) (kind : StmKind) (n scopes : ℕ) → scopes_after (doing place kind n).op scopes ≡ sound.scopes_after kind scopes
+same_scopes place stm.Enter n scopes = refl
+same_scopes place stm.Leave n scopes = refl
+same_scopes place (stm.Return None) n scopes = refl
+same_scopes place (stm.Return (Some a)) n scopes = refl
+same_scopes place kind n scopes = refl
+
+-- the run goes on to the places of the points to which it goes in the core
+pub same_edges : (place : ℕ → ℕ) (kind : StmKind) (n point at : ℕ) → place (point + 1) ≡ at + 1 → edges (doing place kind n) (doing place kind n).op at ≡ map place (statements.edges kind point)
+same_edges place (stm.Jump l) n point at e = refl
+same_edges place (stm.Zero a l) n point at e = ap (λ next. next ∷ place l ∷ []) (omega arith)
+same_edges place (stm.Case a v l) n point at e = ap (λ next. next ∷ place l ∷ []) (omega arith)
+same_edges place (stm.Loop l) n point at e = refl
+same_edges place (stm.Return None) n point at e = refl
+same_edges place (stm.Return (Some a)) n point at e = refl
+same_edges place (stm.Lib lib.Exit r args) n point at e = refl
+same_edges place (stm.Lib lib.Abort r args) n point at e = refl
+same_edges place (stm.Lib name r args) n point at e = ap (λ next. next ∷ []) (omega arith)
+same_edges place kind n point at e = ap (λ next. next ∷ []) (omega arith)
+
+-- What the statements of a sound core take, give and name, their instructions take, give and name.
 
 one : {X : Type 0} {x y : X} → x ≡ y → ◌≡◌ {A = List X} (x ∷ []) (y ∷ [])
 one {X} e = ap (λ (x : X). x ∷ []) e
@@ -90,10 +169,8 @@ module _ (core : Core) (func : Func) where
   atoms_there (stm.Storep p q) h = two_there p q Pointer Pointer h.0 h.1
   atoms_there (stm.Copy p q n) h = three_there p q _ Pointer Pointer Integer h.0 h.1 refl
   atoms_there (stm.Clear p n) h = two_there p _ Pointer Integer h refl
-  atoms_there (stm.Jump l) h = none_there
   atoms_there (stm.Zero a l) h = one_there a Integer h
   atoms_there (stm.Case a v l) h = two_there a _ Integer Integer h refl
-  atoms_there (stm.Loop l) h = none_there
   atoms_there (stm.Call g r args) h = all_of_call args (slice_get core.funcs g) h.1
   atoms_there (stm.Malloc r n t) h = one_there n Integer h.1
   atoms_there (stm.Calloc r m n t) h = two_there m n Integer Integer h.1 h.2
@@ -101,10 +178,8 @@ module _ (core : Core) (func : Func) where
   atoms_there (stm.Free p) h = one_there p Pointer h
   atoms_there (stm.Lib name r args) h = all_of (core_sorts.lib_takes name) args h.1
   atoms_there (stm.Printf r format args) h = all_of_format args (slice_get func.formats format) h.1
-  atoms_there stm.Enter h = none_there
-  atoms_there stm.Leave h = none_there
-  atoms_there (stm.Return None) h = none_there
   atoms_there (stm.Return (Some a)) h = one_there a h.0 h.1
+  atoms_there kind h = none_there
 
 module _ (core : Core) {pins : Pins} (code : Code) (is : IsCompiled core pins code) (f : ℕ) (func : Func) (entry : Entry) (e : IsEntry core code f func entry) where
   -- What is taken
@@ -140,10 +215,8 @@ module _ (core : Core) {pins : Pins} (code : Code) (is : IsCompiled core pins co
   takes_its_operands place (stm.Storep p q) n h m = two h.0 h.1
   takes_its_operands place (stm.Copy p q k) n h m = three h.0 h.1 refl
   takes_its_operands place (stm.Clear p k) n h m = two h refl
-  takes_its_operands place (stm.Jump l) n h m = refl
   takes_its_operands place (stm.Zero a l) n h m = one h
   takes_its_operands place (stm.Case a v l) n h m = two h refl
-  takes_its_operands place (stm.Loop l) n h m = refl
   takes_its_operands place (stm.Call g r args) n h m = call_is_taken g args (slice_get core.funcs g) refl h.1
   takes_its_operands place (stm.Malloc r k t) n h m = one h.1
   takes_its_operands place (stm.Calloc r k l t) n h m = two h.1 h.2
@@ -152,10 +225,8 @@ module _ (core : Core) {pins : Pins} (code : Code) (is : IsCompiled core pins co
   takes_its_operands place (stm.Lib name r args) n h m = h.1
   takes_its_operands place (stm.Printf r format args) n h m =
       format_is_taken args (slice_get func.formats format) (slice_get code.formats n) m h.1
-  takes_its_operands place stm.Enter n h m = refl
-  takes_its_operands place stm.Leave n h m = refl
-  takes_its_operands place (stm.Return None) n h m = refl
   takes_its_operands place (stm.Return (Some a)) n h m = (h.0, one h.1)
+  takes_its_operands place kind n h m = refl
 
   -- What is given
 
@@ -196,26 +267,15 @@ module _ (core : Core) {pins : Pins} (code : Code) (is : IsCompiled core pins co
   gives_its_result place (stm.Test r p) n h m = register r Integer h.0
   gives_its_result place (stm.Load k r p) n h m = register r Integer h.0
   gives_its_result place (stm.Loadp r p) n h m = register r Pointer h.0
-  gives_its_result place (stm.Store k p a) n h m = tt
-  gives_its_result place (stm.Storep p q) n h m = tt
-  gives_its_result place (stm.Copy p q k) n h m = tt
-  gives_its_result place (stm.Clear p k) n h m = tt
-  gives_its_result place (stm.Jump l) n h m = tt
-  gives_its_result place (stm.Zero a l) n h m = tt
-  gives_its_result place (stm.Case a v l) n h m = tt
-  gives_its_result place (stm.Loop l) n h m = tt
   gives_its_result place (stm.Call g r args) n h m = call_result g r h.0 m
   gives_its_result place (stm.Malloc r k t) n h m = register r Pointer h.0
   gives_its_result place (stm.Calloc r k l t) n h m = register r Pointer h.0
   gives_its_result place (stm.Realloc r p k t) n h m = register r Pointer h.0
-  gives_its_result place (stm.Free p) n h m = tt
   gives_its_result place (stm.Lib name r args) n h m =
       subst (λ o. GivesTo entry (core_sorts.lib_gives name) o) (sym (chosen_is r (op.Lib name) 0)) (given (core_sorts.lib_gives name) r h.0)
   gives_its_result place (stm.Printf r format args) n h m = register r Integer h.0
-  gives_its_result place stm.Enter n h m = tt
-  gives_its_result place stm.Leave n h m = tt
   gives_its_result place (stm.Return None) n h m = tt
-  gives_its_result place (stm.Return (Some a)) n h m = tt
+  gives_its_result place kind n h m = tt
 
   -- What is named
 

@@ -1,41 +1,13 @@
 -- Each instruction in turn, from a good state.
-use Rattle.std.proofs.Common.{◌≡◌, ℕ, pos, ◌+◌, ◌<◌, ◌^◌, false, List, [], ◌∷◌, length, get_or, Option, Some, None, Result, refl, subst, arith, Bool}
-use Rattle.std.specs.Prelude.{slice_index_or, Contains}
-use Rattle.hs_base.specs.declared.values.Value.{Value}
-use Rattle.hs_base.specs.declared.ends.IntKind.TheVariants.{I32}
-use Rattle.hs_base.specs.Access.{Refusal}
-use Rattle.hs_base.specs.State.{State}
-use Rattle.hs_base.specs.NumbersEquations.{low_bits_lt}
-use Rattle.hs_base.specs.Numbers.{wrapped}
-use Rattle.c_print.specs.Pieces.{pieces_of}
-use Rattle.core_tree.specs.declared.statements.LibName.{LibName}
+use Rattle.meaning_laws.proofs.Words.Core.{Code, EachAnswer, GivesTo, I32, Instr, Integer, IsAt, IsNumber, IsWellFormed, LibName, OfAnswer, Op, Refusal, Sort, State, Value, chosen, edges, handed_before, hands, low_bits_lt, pieces_of, register_sort, scopes_after, wrapped, written}
+use Rattle.meaning_laws.proofs.Words.Meaning.{AreOperands, CodeState, IsGood, IsOfSort, IsOperand, IsPointer, StaysGood, act, answers, behind_lib, birth_in, byte_in, bytes_in, call_lib, copied_changes, layout_in, number, number_at, order_of, other_numbers, pointer_at, printed, same_numbers, set_changes, size_in, stored_pointer_changes, stored_same, string_at, write}
+use Rattle.meaning_laws.proofs.Words.Std.{Bool, Contains, List, None, Option, Result, Some, [], arith, false, get_or, length, pos, refl, slice_index_or, subst, ℕ, ◌+◌, ◌<◌, ◌^◌, ◌∷◌, ◌≡◌}
 use Rattle.core_tree.specs.declared.statements.LibName.TheVariants as lib
-use Rattle.core_tree.specs.Sorts.{Sort, Integer, Pointer as Address}
-use Rattle.core_tree.specs.Sound.{IsNumber}
-use Rattle.object_meaning.specs.objects.Values.{number, number_at, pointer_at, size_in, bytes_in}
-use Rattle.object_meaning.specs.objects.Going.{write, answers}
-use Rattle.object_meaning.specs.objects.Builtins.{byte_in, call_lib}
-use Rattle.object_meaning.specs.objects.Printing.{printed}
-use Rattle.object_meaning.specs.objects.Strings.{string_at, order_of}
+use Rattle.core_tree.specs.Sorts.{Pointer as Address}
 use Rattle.meaning_laws.proofs.dangling.Touching.{Done, then_done}
-use Rattle.flat_code.specs.declared.instructions.Instr.{Instr}
-use Rattle.flat_code.specs.declared.instructions.Op.{Op}
 use Rattle.flat_code.specs.declared.instructions.Op.TheVariants as op
-use Rattle.flat_code.specs.declared.program.Code.{Code}
-use Rattle.flat_code.specs.Table.{hands, written, edges, scopes_after, chosen, register_sort}
-use Rattle.flat_code.specs.WellFormed.{IsWellFormed, IsAt, handed_before, EachAnswer, OfAnswer, GivesTo}
-use Rattle.object_meaning.specs.counted.Counting.{birth_in}
-use Rattle.object_meaning.specs.code.CodeState.{CodeState, kept, same_numbers, other_numbers}
-use Rattle.object_meaning.specs.code.Entering.{layout_in}
-use Rattle.object_meaning.specs.code.CodeMeaning.{act, behind_lib}
-use Rattle.meaning_laws.specs.counted.TouchedEquations.{stored_same, stored_pointer_changes, copied_changes, set_changes}
-use Rattle.meaning_laws.specs.code.Objects.{IsOfSort, IsPointer, IsOperand, AreOperands}
-use Rattle.meaning_laws.specs.code.Good.{IsGood}
-use Rattle.meaning_laws.specs.code.Laws.{StaysGood}
-use Rattle.meaning_laws.proofs.soundness.Numbers.{IsInteger, integer_is, done_weaker, natural_number, wrapped_number, one_number, two_done, truth_is}
-use Rattle.meaning_laws.proofs.soundness.Pointing.{all_point, moved_done, difference_done, compared_done}
-use Rattle.meaning_laws.proofs.soundness.Touching.{loaded_done, loaded_pointer_done, stored_done, stored_pointer_done, copied_done, set_done}
-use Rattle.meaning_laws.proofs.soundness.Texts.{string_done, order_done, printed_lives}
+use Rattle.object_meaning.specs.code.CodeState.{kept}
+use Rattle.meaning_laws.proofs.soundness.Touching.{IsInteger, integer_is, done_weaker, natural_number, wrapped_number, one_number, two_done, truth_is, all_point, moved_done, difference_done, compared_done, loaded_done, loaded_pointer_done, stored_done, stored_pointer_done, copied_done, set_done, string_done, order_done, printed_lives}
 use Rattle.meaning_laws.proofs.soundness.Made.{layout_sound, size_small, product_small}
 use Rattle.meaning_laws.proofs.soundness.Standing.{IsReady, IsPlain, writes, puts_number, answers_stays, stores_stays, changes_stays, goes_to, branch_stays, step_stays, enter_stays, made_stays, filled_stays, gives_stays, get_stays, puts_stays, print_stays}
 use Rattle.meaning_laws.proofs.soundness.Freeing.{leave_stays, free_stays, grow_stays}

@@ -1,38 +1,89 @@
 -- The frame of a call begins well.
-use Rattle.std.proofs.Common.{◌≡◌, ℕ, zero, suc, pos, ◌≤◌, Bool, true, false, List, [], ◌∷◌, ◌++◌, length, take, drop, map, get_or, Option, Some, None, refl, sym, ap, ◌∙◌, subst, arith}
-use Rattle.std.specs.Prelude.{slice_get, All, IsSome}
-use Rattle.std.specs.List.{enumerate_from}
-use Rattle.std.proofs.lemmas.Bool.{false≢true}
-use Rattle.hs_base.specs.declared.values.Pointer.TheVariants as pointer
-use Rattle.hs_base.specs.declared.values.Value.{Value}
-use Rattle.hs_base.specs.Object.{Object}
-use Rattle.hs_base.specs.State.{Frame, State}
-use Rattle.core_tree.specs.Sorts.{Sort}
-use Rattle.object_meaning.specs.objects.Values.{number, pointer_in}
-use Rattle.flat_code.specs.declared.instructions.Instr.{Instr}
-use Rattle.flat_code.specs.declared.instructions.Op.TheVariants as op
-use Rattle.flat_code.specs.declared.program.Code.{Code}
-use Rattle.flat_code.specs.declared.program.Entry.{Entry}
-use Rattle.flat_code.specs.Table.{sort_of, parameter_sorts, all_there, call_takes, written}
-use Rattle.flat_code.specs.Sites.{Counts, answered}
-use Rattle.flat_code.specs.WellFormed.{IsWellFormed, start}
-use Rattle.object_meaning.specs.counted.Counting.{more}
-use Rattle.object_meaning.specs.code.CodeState.{CodeState, kept}
-use Rattle.object_meaning.specs.code.Pinning.{pinned}
-use Rattle.object_meaning.specs.code.Entering.{first_value, kinds_of, locals_of, first_of, new_frame, local_object, with_locals, call}
-use Rattle.meaning_laws.specs.code.Objects.{IsOfSort, AreOfSorts, IsPointer, IsOperand, AreOperands, IsByte, AreObjects, HasStatics, IsQueue}
+use Rattle.meaning_laws.proofs.Words.Core.{Code, Counts, Entry, Frame, Instr, IsLayout, IsWellFormed, Layout, Local, Object, Ready, Sort, State, Value, all_there, answered, call_takes, is_queued, no_object, object_at, parameter_sorts, sort_of, written}
+use Rattle.meaning_laws.proofs.Words.Meaning.{AreObjects, AreOfSorts, AreOperands, AreWaiting, CodeState, HasLocals, HasStatics, IsByte, IsGood, IsNeeded, IsObject, IsOfSort, IsOperand, IsPointer, IsQueue, StaysGood, append_living, inside_living, kinds_of, layout_in, living, more, no_layout, no_pointers, number, pinned, pointer_in, with_locals}
+use Rattle.meaning_laws.proofs.Words.Std.{All, All-cons, All-nil, Bool, IsSome, List, None, Option, Some, [], ap, arith, drop, enumerate_from, false, false≢true, get_or, get_or-append-add, length, length-append, length-enumerate_from, length-map, map, option_map_or, pos, refl, slice_get, subst, suc, sum_by-cons, sym, take, true, zero, ℕ, ◌++◌, ◌+◌, ◌<◌, ◌^◌, ◌∙◌, ◌∷◌, ◌≡◌, ◌≤◌}
+use Rattle.object_meaning.specs.code.Entering.{local_object, first_value, locals_of, first_of, new_frame, call}
+use Rattle.meaning_laws.proofs.soundness.Lists.{all_at, zip_weaker}
+use Rattle.meaning_laws.proofs.soundness.Made.{blank_is, layout_sound, append_grows, append_objects, append_queue}
+use Rattle.flat_code.specs.WellFormed.{start}
+use Rattle.object_meaning.specs.code.CodeState.{kept}
 use Rattle.meaning_laws.specs.code.Counts.{AreCounts}
-use Rattle.meaning_laws.specs.code.Good.{IsNeeded, Waits, AreWaiting, IsGood}
-use Rattle.meaning_laws.specs.code.Laws.{StaysGood}
-use Rattle.meaning_laws.proofs.soundness.Numbers.{natural_number}
-use Rattle.meaning_laws.proofs.soundness.Lists.{zip_weaker}
+use Rattle.meaning_laws.specs.code.Good.{Waits}
+use Rattle.meaning_laws.proofs.soundness.Touching.{natural_number, none_apart, pointer_grows, statics_become}
 use Rattle.meaning_laws.proofs.soundness.Lively.{needed_live}
-use Rattle.meaning_laws.proofs.soundness.Becoming.{none_apart, pointer_grows, statics_become}
-use Rattle.meaning_laws.proofs.soundness.Made.{append_grows, append_objects, append_queue}
-use Rattle.meaning_laws.proofs.soundness.Locals.{locals_from, locals_are, locals_unqueued, locals_living, has_locals}
 use Rattle.meaning_laws.proofs.soundness.Pinned.{pins_cons}
 use Rattle.meaning_laws.proofs.soundness.Frames.{waiting_become, not_written}
-use Rattle.flat_code.specs.WellFormedEquations.{Ready}
+use Rattle.hs_base.specs.declared.values.Pointer.TheVariants as pointer
+use Rattle.flat_code.specs.declared.instructions.Op.TheVariants as op
+
+-- The memory locals of a call are made.
+
+-- a layout is no larger than an object
+layout_small_at : (code : Code) → IsWellFormed code → (n : ℕ) (o : Option Layout) → slice_get code.layouts n ≡ o → (layout_in code n).size < 2 ^ 64
+layout_small_at code wf n None e = rw e (omega arith)
+layout_small_at code wf n (Some l) e =
+    let is : (layout_in code n).size ≡ l.size = ap (λ (o : Option Layout). (option_map_or (λ (x : Layout). x) o no_layout).size) e in
+    omega (arith, is, (all_at IsLayout code.layouts n l wf.layouts e).size)
+
+module _ (code : Code) (f : ℕ) where
+  -- the objects of memory locals with these layouts, from a number on
+  abbrev pub locals_from : ℕ → List ℕ → List Object
+  locals_from n mems = map (local_object f) (enumerate_from n (map (layout_in code) mems))
+
+  locals_length : (n : ℕ) (mems : List ℕ) → length (locals_from n mems) ≡ length mems
+  locals_length n mems =
+      length-map (enumerate_from n (map (layout_in code) mems)) (local_object f) ∙ length-enumerate_from n (map (layout_in code) mems)
+      ∙ length-map mems (layout_in code)
+
+  -- they are whole
+  pub locals_are : IsWellFormed code → (objects : List Object) (n : ℕ) (mems : List ℕ) → All (IsObject objects) (locals_from n mems)
+  locals_are wf objects n [] = All-nil (IsObject objects)
+  locals_are wf objects n (m ∷ mems) =
+      All-cons (IsObject objects) (local_object f (n, layout_in code m)) (locals_from (n + 1) mems) (blank_is objects _ (layout_in code m).size (layout_in code m).slots (layout_small_at code wf m (slice_get code.layouts m) refl) (layout_sound code wf m).slots) (locals_are wf objects (n + 1) mems)
+
+  -- none is queued
+  pub locals_unqueued : (n : ℕ) (mems : List ℕ) (k : ℕ) → is_queued (object_at (locals_from n mems) k).standing ≡ false
+  locals_unqueued n [] k = refl
+  locals_unqueued n (m ∷ mems) zero = refl
+  locals_unqueued n (m ∷ mems) (suc k) = locals_unqueued (n + 1) mems k
+
+  no_pointers_in : (x n : ℕ) (mems : List ℕ) → inside_living x (locals_from n mems) ≡ 0
+  no_pointers_in x n [] = refl
+  no_pointers_in x n (m ∷ mems) =
+      omega (arith, sum_by-cons (living x) (local_object f (n, layout_in code m)) (locals_from (n + 1) mems), no_pointers x (length (layout_in code m).slots), no_pointers_in x (n + 1) mems)
+
+  -- and none has a pointer
+  pub locals_living : (objects : List Object) (mems : List ℕ) (x : ℕ) → inside_living x (objects ++ locals_from 0 mems) ≡ inside_living x objects
+  locals_living objects mems x = omega (arith, append_living objects (locals_from 0 mems) x, no_pointers_in x 0 mems)
+
+  local_at : (n : ℕ) (mems : List ℕ) (k m : ℕ) → slice_get mems k ≡ Some m → object_at (locals_from n mems) k ≡ local_object f (n + k, layout_in code m)
+  local_at n [] k m e = absurd (cc)
+  local_at n (l ∷ mems) zero m e = let here : n + 0 ≡ n = omega arith in let same : l ≡ m = cc in rw (here, same) refl
+  local_at n (l ∷ mems) (suc k) m e =
+      let there : n + 1 + k ≡ n + suc k = omega arith in
+      local_at (n + 1) mems k m e ∙ ap (λ j. local_object f (j, layout_in code m)) there
+
+  -- a frame of a function that begins has them
+  pub has_locals : (entry : Entry) (objects : List Object) (frame : Frame) → frame.func ≡ f → frame.first_local ≡ length objects → length code.statics ≤ length objects → HasLocals code (objects ++ locals_from 0 entry.mems) entry (length (objects ++ locals_from 0 entry.mems)) frame
+  has_locals entry objects frame func first long =
+      let more = locals_from 0 entry.mems in
+      let many : length (objects ++ more) ≡ length objects + length entry.mems = length-append objects more ∙ ap (λ n. length objects + n) (locals_length 0 entry.mems) in
+      record {
+        each = λ k m e.
+            let here : 0 + k ≡ k = omega arith in
+            let is : object_at (objects ++ more) (frame.first_local + k) ≡ local_object f (k, layout_in code m) = ap (λ b. object_at (objects ++ more) (b + k)) first ∙ get_or-append-add objects more k no_object ∙ local_at 0 entry.mems k m e ∙ ap (λ j. local_object f (j, layout_in code m)) here in
+            record {
+              live = ap (λ (o : Object). o.standing) is;
+              sort = ap (λ (o : Object). o.sort) is ∙ ap (λ g. Local g k) (sym func);
+              size = ap (λ (o : Object). o.size) is;
+              slots = ap (λ (o : Object). o.slots) is;
+            };
+        above = omega (arith, first, long);
+        below = omega (arith, first, many);
+        ended = λ b g k from before is. absurd (omega (arith, first, many, from, before));
+      }
+
+-- The frame of a call begins well.
 
 -- Registers at the start of a call
 

@@ -1,23 +1,10 @@
 -- Objects that die: the queued ones, and memory locals.
-use Rattle.std.proofs.Common.{◌≡◌, ℕ, ◌<◌, true, false, nat_eq, List, [], ◌∷◌, length, get_or, refl, sym, ap, ◌∙◌, subst, arith, ⊎_elim}
-use Rattle.std.specs.Prelude.{All}
-use Rattle.std.proofs.lemmas.Bool.{true≢false, false≢true, or_from, or_left, or_right, eq-eqb, ne_eqb, cases_lt, cases_eq}
-use Rattle.std.proofs.lemmas.List.{length-map, length-set, get_or_past, get_or_default, get_or-set_same, get_or-set_other}
-use Rattle.std.proofs.lemmas.List.Elements.{All-from_get_or}
-use Rattle.hs_base.specs.declared.values.Pointer.{Pointer}
+use Rattle.meaning_laws.proofs.Words.Core.{AreSlots, Dead, Live, Object, Pointer, buried, buried_standing, ended, is_dead, is_heap, is_pointer_to, is_queued, no_object, object_at, with_object}
+use Rattle.meaning_laws.proofs.Words.Meaning.{AreObjects, IsByte, IsObject, IsPointer, IsQueue, IsThere, Sane, inside_objects, is_among}
+use Rattle.meaning_laws.proofs.Words.Std.{All, All-from_get_or, List, [], ap, arith, cases_eq, cases_lt, eq-eqb, false, false≢true, get_or, get_or-set_other, get_or-set_same, get_or_default, get_or_past, length, length-map, length-set, nat_eq, ne_eqb, or_from, or_left, or_right, refl, subst, sym, true, true≢false, ℕ, ⊎_elim, ◌<◌, ◌∙◌, ◌∷◌, ◌≡◌}
 use Rattle.hs_base.specs.declared.values.Pointer.TheVariants as pointer
-use Rattle.hs_base.specs.Access.{with_object}
-use Rattle.hs_base.specs.Freeing.{is_heap, is_pointer_to, buried, buried_standing, ended}
-use Rattle.hs_base.specs.Object.{Object, Live, Dead, is_dead, is_queued, no_object, object_at}
-use Rattle.c_types.specs.Layouts.{AreSlots}
-use Rattle.object_meaning.specs.objects.Holding.{is_among, inside_objects}
-use Rattle.meaning_laws.specs.objects.Good.{Sane}
-use Rattle.meaning_laws.proofs.dangling.Unheld.{NoHolder, unheld_object}
-use Rattle.meaning_laws.proofs.dangling.Burying.{at_buried, buried_loses, none_queued}
-use Rattle.meaning_laws.specs.code.Objects.{IsThere, IsPointer, IsByte, IsObject, AreObjects, IsQueue}
-use Rattle.meaning_laws.proofs.soundness.Becoming.{Becomes, pointer_becomes}
-use Rattle.meaning_laws.proofs.soundness.Queues.{distinct_none}
-use Rattle.meaning_laws.proofs.soundness.Touching.{object_is}
+use Rattle.meaning_laws.proofs.dangling.Burying.{NoHolder, unheld_object, at_buried, buried_loses, none_queued}
+use Rattle.meaning_laws.proofs.soundness.Touching.{Becomes, pointer_becomes, distinct_none, object_is}
 use Rattle.meaning_laws.proofs.dangling.Returning.{ended_length}
 
 -- the objects of some births die, and each other is the same

@@ -1,23 +1,12 @@
 -- Every run ends, and not for want of life.
-use Rattle.std.proofs.Common.{◌≡◌, ◌≢◌, ℕ, zero, suc, ◌+◌, ◌≤◌, List, [], Option, Some, None, refl, sym, ◌∙◌, subst, arith, Bool}
-use Rattle.std.specs.Prelude.{slice_get, slice_index, ◌-◌, All}
-use Rattle.std.proofs.lemmas.Option.{slice_get_within}
-use Rattle.hs_base.specs.declared.values.Value.{Value}
-use Rattle.hs_base.specs.Trace.{Event, Ending, Spent, Dangling}
+use Rattle.meaning_laws.proofs.Words.Core.{Code, Dangling, Ending, Event, Instr, IsWellFormed, LeadsOn, Spent, Value, has_place}
+use Rattle.meaning_laws.proofs.Words.Meaning.{BeginsWell, CodeState, HoldsBytes, IsByte, IsGood, Next, StaysGood, act_at, enough, hand_or_act, handed_value, holds_stale, start, step_by}
+use Rattle.meaning_laws.proofs.Words.Std.{All, Bool, List, None, Option, Some, [], arith, refl, slice_get, slice_get_within, slice_index, subst, suc, sym, zero, ℕ, ◌+◌, ◌-◌, ◌∙◌, ◌≡◌, ◌≢◌, ◌≤◌}
 use Rattle.hs_base.specs.Runs as runs
-use Rattle.hs_base.specs.Place.{has_place}
-use Rattle.flat_code.specs.declared.instructions.Instr.{Instr}
-use Rattle.flat_code.specs.declared.program.Code.{Code}
-use Rattle.flat_code.specs.WellFormed.{IsWellFormed, LeadsOn}
-use Rattle.object_meaning.specs.objects.Values.{holds_stale}
-use Rattle.object_meaning.specs.code.CodeState.{CodeState, Next}
-use Rattle.object_meaning.specs.code.CodeMeaning.{Run, handed_value, hand_or_act, act_at, step, start, enough, meaning, step_by}
-use Rattle.meaning_laws.specs.code.Objects.{IsByte}
-use Rattle.meaning_laws.specs.code.Good.{IsGood}
-use Rattle.meaning_laws.specs.code.Laws.{StaysGood, LeavesLess, BeginsWell, HoldsBytes}
-use Rattle.meaning_laws.proofs.soundness.Falling.{act_less, hand_less}
+use Rattle.object_meaning.specs.code.CodeMeaning.{Run, step, meaning}
+use Rattle.meaning_laws.specs.code.Laws.{LeavesLess}
+use Rattle.meaning_laws.proofs.soundness.Falling.{act_less, hand_less, begins_well}
 use Rattle.meaning_laws.proofs.soundness.Stepping.{instr_of, stays}
-use Rattle.meaning_laws.proofs.soundness.Beginning.{begins_well}
 
 -- an instruction in a good state leaves less
 doing_less : (code : Code) (wf : IsWellFormed code) (c : CodeState) (good : IsGood code c) (fits : ℕ → Bool) (line : ℕ) (i : Instr) → slice_get code.instrs c.state.running.point ≡ Some i → LeadsOn c.state.running.point i i.op → (o : Option Value) → LeavesLess code c (hand_or_act code fits line i o c)

@@ -1,17 +1,9 @@
 -- The code of the example is well formed.
-use Rattle.std.proofs.Common.{◌≡◌, ℕ, zero, suc, pos, ◌+◌, ◌<◌, ◌≤◌, List, [], ◌∷◌, Option, Some, refl, sym, ◌∙◌, subst, arith, lit<, lit≤}
-use Rattle.std.proofs.lemmas.Int.{ints}
-use Rattle.std.proofs.lemmas.List.Elements.{All-nil, All-cons}
-use Rattle.std.specs.Prelude.{slice_get, All}
-use Rattle.core_tree.specs.declared.statements.LibName.TheVariants.{Putchar}
-use Rattle.core_tree.specs.Sorts.{Sort, Integer}
-use Rattle.core_tree.specs.Sound.{IsNumber}
-use Rattle.flat_code.specs.declared.instructions.Instr.{Instr}
-use Rattle.flat_code.specs.declared.instructions.Op.TheVariants.{Start, HandInt, Lib, Give}
-use Rattle.flat_code.specs.declared.program.Entry.{Entry}
-use Rattle.flat_code.specs.Table.{scopes_after}
-use Rattle.flat_code.specs.WellFormed.{IsWellFormed, IsFunction, IsInstr, EachEntry, EachInstr, EachAnswer, OfAnswer, ClosesWhatIsOpen, Opens, start, goes, IsShort, handed_before}
-use Rattle.meaning_laws.specs.code.Example.{instr, main, digit, DigitIsWellFormed}
+use Rattle.meaning_laws.proofs.Words.Core.{ClosesWhatIsOpen, EachAnswer, EachEntry, EachInstr, Entry, Give, HandInt, Instr, Integer, IsFunction, IsInstr, IsNumber, IsShort, IsWellFormed, Lib, OfAnswer, Opens, Putchar, Sort, Start, handed_before, scopes_after}
+use Rattle.meaning_laws.proofs.Words.Meaning.{DigitIsWellFormed, digit, main}
+use Rattle.meaning_laws.proofs.Words.Std.{All, All-cons, All-nil, List, Option, Some, [], arith, ints, lit<, lit≤, pos, refl, slice_get, subst, suc, sym, zero, ℕ, ◌+◌, ◌<◌, ◌∙◌, ◌∷◌, ◌≡◌, ◌≤◌}
+use Rattle.flat_code.specs.WellFormed.{start, goes}
+use Rattle.meaning_laws.specs.code.Example.{instr}
 
 -- P of one
 one_of : {A : Type 0} (P : A → Type 0) (x : A) → P x → All P (x ∷ [])

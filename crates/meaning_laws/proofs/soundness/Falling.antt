@@ -1,45 +1,22 @@
 -- Each instruction that does not end the run makes `enough` smaller.
-use Rattle.std.proofs.Common.{◌≡◌, ℕ, zero, suc, ◌+◌, ◌*◌, ◌<◌, Bool, true, false, List, [], ◌∷◌, length, get_or, Option, Some, None, Result, Ok, Err, pos, negsuc, refl, ap, arith}
-use Rattle.std.specs.Prelude.{unsigned_abs}
-use Rattle.std.specs.List.{sum_by}
-use Rattle.std.proofs.lemmas.List.Sums.{sum_by-cons}
-use Rattle.hs_base.specs.declared.ends.IntKind.TheVariants.{I32}
-use Rattle.hs_base.specs.declared.ends.Reason.{Reason}
-use Rattle.hs_base.specs.declared.values.Pointer.{Pointer}
-use Rattle.hs_base.specs.declared.values.Pointer.TheVariants as pointer
-use Rattle.hs_base.specs.declared.values.Value.{Value}
-use Rattle.hs_base.specs.Access.{Refusal}
-use Rattle.hs_base.specs.Freeing.{freed_at, check_numbers, end_numbers, buried, ended}
-use Rattle.hs_base.specs.Numbers.{wrapped}
-use Rattle.hs_base.specs.Object.{Object}
-use Rattle.hs_base.specs.State.{State, Frame}
-use Rattle.hs_base.specs.Trace.{Event}
-use Rattle.hs_base.specs.Runs as runs
-use Rattle.c_types.specs.declared.layouts.Layout.{Layout}
-use Rattle.core_tree.specs.declared.statements.LibName.{LibName}
-use Rattle.core_tree.specs.declared.statements.LibName.TheVariants as lib
-use Rattle.object_meaning.specs.objects.Values.{number, address, start_of, number_at, pointer_in}
-use Rattle.object_meaning.specs.objects.Going as core
-use Rattle.object_meaning.specs.objects.Going.{at_point, onward, put, write, with_register, with_objects, if_done, answers, changes}
-use Rattle.object_meaning.specs.objects.Making.{with_new}
-use Rattle.object_meaning.specs.objects.Heap.{birth_of, enqueue, made, no_place}
-use Rattle.object_meaning.specs.objects.Printing.{print}
-use Rattle.object_meaning.specs.objects.Builtins.{byte_in, get_byte, put_line, filled, call_lib}
-use Rattle.object_meaning.specs.objects.Meaning.{branch}
-use Rattle.flat_code.specs.declared.instructions.Instr.{Instr}
-use Rattle.flat_code.specs.declared.instructions.Op.{Op}
-use Rattle.flat_code.specs.declared.instructions.Op.TheVariants as op
-use Rattle.flat_code.specs.declared.program.Code.{Code}
-use Rattle.flat_code.specs.Table.{chosen}
-use Rattle.flat_code.specs.WellFormed.{LeadsOn}
-use Rattle.object_meaning.specs.code.CodeState.{CodeState, Next, same_numbers, other_numbers}
-use Rattle.object_meaning.specs.counted.Counting.{more, renumbered}
-use Rattle.object_meaning.specs.code.Pinning.{pinned}
-use Rattle.object_meaning.specs.code.Entering.{with_step, call, begin}
-use Rattle.object_meaning.specs.code.Returning.{go_back, end_locals, give_back, running_locals}
+use Rattle.meaning_laws.proofs.Words.Core.{AreSlots, Code, Entry, Event, Frame, I32, Instr, IsFirst, IsLayout, IsStart, IsTarget, IsWellFormed, Layout, LeadsOn, LibName, Object, Op, Pointer, Reason, Refusal, State, StaticInit, Value, all_there, buried, check_numbers, chosen, end_numbers, ended, freed_at, is_queued, no_object, object_at, parameter_sorts, pointers_inside, pointers_to, wrapped}
+use Rattle.meaning_laws.proofs.Words.Meaning.{AreObjects, AreOperands, BeginsWell, CodeState, HasStatics, HoldsBytes, IsByte, IsObject, IsPointer, IsQueue, Next, act, act_at, address, answers, at_point, begin, behind_lib, birth_of, branch, byte_in, call_lib, changes, code_left, enough, enqueue, filled, first_numbers, first_pointer, get_byte, give_back, hand, hand_or_act, handed_value, if_done, inside_living, layout_in, living, made, main_in, more, no_layout, no_place, number, number_at, onward, other_numbers, pinned, pointer_in, print, put, put_line, renumbered, same_numbers, start, start_of, step_by, with_new, with_objects, write}
+use Rattle.meaning_laws.proofs.Words.Std.{All, All-cons, All-map, All-nil, All-replicate, Bool, Err, IsSomeAnd, List, None, Ok, Option, Result, Some, [], ap, arith, cond, enumerate_from, false, false≢true, get_or, length, length-enumerate_from, length-map, length-replicate, map, nat_eq, negsuc, option_map_or, pos, refl, replicate, slice_get, slice_get_within, slice_index, subst, suc, sum_by, sum_by-cons, sym, true, unsigned_abs, zero, ℕ, ◌*◌, ◌+◌, ◌<◌, ◌∙◌, ◌∷◌, ◌≡◌, ◌≤◌}
+use Rattle.object_meaning.specs.code.Entering.{with_step, call}
+use Rattle.object_meaning.specs.code.Returning.{go_back, end_locals, running_locals}
 use Rattle.object_meaning.specs.code.Checking.{leave, decided, in_scope}
 use Rattle.object_meaning.specs.code.Freeing.{free, free_named, grow, grow_named, grow_old, grown}
-use Rattle.object_meaning.specs.code.CodeMeaning.{act, hand, behind_lib, code_left, enough}
+use Rattle.object_meaning.specs.code.CodeMeaning.{static_object, static_objects}
+use Rattle.meaning_laws.specs.code.Laws.{LeavesLess}
+use Rattle.meaning_laws.proofs.soundness.Lists.{all_at, overlaid_length, overlaid_all}
+use Rattle.meaning_laws.proofs.soundness.Touching.{live_there, distinct_none}
+use Rattle.meaning_laws.proofs.soundness.Calling.{enters}
+use Rattle.meaning_laws.proofs.soundness.Stepping.{done_by, done_is}
+use Rattle.hs_base.specs.declared.values.Pointer.TheVariants as pointer
+use Rattle.hs_base.specs.Runs as runs
+use Rattle.core_tree.specs.declared.statements.LibName.TheVariants as lib
+use Rattle.object_meaning.specs.objects.Going as core
+use Rattle.flat_code.specs.declared.instructions.Op.TheVariants as op
 
 -- the same point, the same waiting frames, and the same steps left
 record Alike (s t : State) : Type 0 where
@@ -222,12 +199,6 @@ module _ (code : Code) (s : State) (inside : s.running.point < length code.instr
   module _ (fits : ℕ → Bool) (line : ℕ) (i : Instr) (values : List Value) (n : ℕ → ℕ) where
     pub act_less : (o : Op) → LeadsOn s.running.point i o → Less (act code fits line i o values n s)
     act_less op.Start h = step_less n s.steps _ refl (λ m e. begin_less line (unsigned_abs i.imm) n m e)
-    act_less op.HandReg h = tt
-    act_less op.HandInt h = tt
-    act_less op.HandUnsigned h = tt
-    act_less op.HandNull h = tt
-    act_less op.HandStatic h = tt
-    act_less op.HandLocal h = tt
     act_less op.Set h = register_less i.a
     act_less (op.Conv k) h = register_less i.a
     act_less (op.Un o k) h = register_less i.a
@@ -259,8 +230,165 @@ module _ (code : Code) (s : State) (inside : s.running.point < length code.instr
     act_less op.Leave h = leave_less s.scopes n
     act_less op.Return h = give_less line (number (pos 0)) n
     act_less op.Give h = give_less line (get_or values 0 (number (pos 0))) n
+    act_less hand h = tt
 
 -- a value is handed over
 pub hand_less : (code : Code) (c : CodeState) (inside : c.state.running.point < length code.instrs) (b : Bool) (v : Value) → Less code c.state inside (hand b v c)
 hand_less code c inside true v = tt
 hand_less code c inside false v = onward_less code c.state inside c.state (alike code c.state inside)
+
+-- A run begins in a good state.
+
+-- P of a function of each item and its place
+mapped : {A B : Type 0} (P : B → Type 0) (f : ℕ × A → B) (n : ℕ) (xs : List A) → ((k : ℕ) (x : A) → slice_get xs k ≡ Some x → P (f (n + k, x))) → All P (map f (enumerate_from n xs))
+mapped P f n [] h = All-nil P
+mapped P f n (x ∷ xs) h =
+    let here : n + 0 ≡ n = omega arith in
+    All-cons P (f (n, x)) (map f (enumerate_from (n + 1) xs)) (subst (λ (m : ℕ). P (f (m, x))) here (h 0 x refl)) (mapped P f (n + 1) xs (λ k y e.
+    let same : n + suc k ≡ n + 1 + k = omega arith in subst (λ (m : ℕ). P (f (m, y))) same (h (suc k) y e)))
+
+-- the object that is made of an item
+place_in : {A : Type 0} (f : ℕ × A → Object) (n : ℕ) (xs : List A) (k : ℕ) (x : A) → slice_get xs k ≡ Some x → get_or (map f (enumerate_from n xs)) k no_object ≡ f (n + k, x)
+place_in f n [] k x e = absurd (cc)
+place_in f n (y ∷ xs) zero x e = let same : n + 0 ≡ n = omega arith in let is : y ≡ x = cc in rw (same, is) refl
+place_in f n (y ∷ xs) (suc k) x e =
+    let same : n + 1 + k ≡ n + suc k = omega arith in place_in f (n + 1) xs k x e ∙ ap (λ m. f (m, x)) same
+
+pointer_cond : (objects : List Object) (b : Bool) (p q : Pointer) → IsPointer objects p → IsPointer objects q → IsPointer objects (cond b p q)
+pointer_cond objects true p q h i = h
+pointer_cond objects false p q h i = i
+
+module _ (code : Code) (wf : IsWellFormed code) where
+  abbrev statics : List Object
+  statics = static_objects code
+
+  statics_length : length statics ≡ length code.statics
+  statics_length =
+      length-map (enumerate_from 0 code.statics) (static_object code) ∙ length-enumerate_from 0 code.statics
+
+  static_at : (k : ℕ) (static : StaticInit) → slice_get code.statics k ≡ Some static → object_at statics k ≡ static_object code (k, static)
+  static_at k static e =
+      let same : 0 + k ≡ k = omega arith in
+      place_in (static_object code) 0 code.statics k static e ∙ ap (λ m. static_object code (m, static)) same
+
+  size_is : (static : StaticInit) (o : Option Layout) → option_map_or (λ (l : Layout). l.size) o 0 ≡ (option_map_or (λ (l : Layout). l) o no_layout).size
+  size_is static None = refl
+  size_is static (Some l) = refl
+
+  pub has_statics : HasStatics code statics
+  has_statics k static e =
+      let is = static_at k static e in
+      record {
+        live = ap (λ (o : Object). o.standing) is;
+        sort = ap (λ (o : Object). o.sort) is;
+        size = ap (λ (o : Object). o.size) is;
+        slots = ap (λ (o : Object). o.slots) is;
+      }
+
+  target_is : (p : ℕ × ℕ × ℕ) → IsTarget code p → IsPointer statics (pointer.At p.1 p.2)
+  target_is p h =
+      let s = has_statics p.1 h.0 h.1 in
+      (live_there statics p.1 s.live, omega (arith, s.size, size_is h.0 (slice_get code.layouts h.0.layout), h.2))
+
+  first_is : (pointers : List (ℕ × ℕ × ℕ)) → All (IsTarget code) pointers → (slot : ℕ) → IsPointer statics (first_pointer pointers slot)
+  first_is [] h slot = tt
+  first_is (p ∷ pointers) h slot =
+      pointer_cond statics (nat_eq p.0 slot) (pointer.At p.1 p.2) (first_pointer pointers slot) (target_is p (h 0 p (omega arith))) (first_is pointers (λ k d lt. h (suc k) d (omega arith)) slot)
+
+  pointers_are : (f : ℕ → Pointer) → ((slot : ℕ) → IsPointer statics (f slot)) → (slots : List ℕ) → All (IsPointer statics) (map f slots)
+  pointers_are f h slots = All-map (IsPointer statics) f slots (λ k d lt. h (get_or slots k d))
+
+  -- of a layout that is there
+  static_with : (k : ℕ) (static : StaticInit) → All IsByte static.bytes → (o : Option Layout) → slice_get code.layouts static.layout ≡ o → IsSomeAnd o (IsFirst code static) → IsObject statics (static_object code (k, static))
+  static_with k static bytes None e h = absurd h
+  static_with k static bytes (Some l) e h =
+      let layout = all_at IsLayout code.layouts static.layout l wf.layouts e in
+      let is : layout_in code static.layout ≡ l = ap (λ (x : Option Layout). option_map_or (λ (y : Layout). y) x no_layout) e in
+      let size : (layout_in code static.layout).size ≡ l.size = ap (λ (y : Layout). y.size) is in
+      let zeros : List ℕ = replicate (layout_in code static.layout).size 0 in
+      let long : length zeros ≡ (layout_in code static.layout).size = length-replicate (layout_in code static.layout).size 0 in
+      record {
+        size = omega (arith, size, layout.size);
+        filled = overlaid_length zeros 0 static.bytes (omega (arith, long, size, h.inside)) ∙ long;
+        bytes = overlaid_all IsByte zeros 0 static.bytes (All-replicate IsByte (layout_in code static.layout).size 0 (omega arith)) bytes;
+        slots = subst (λ (y : Layout). AreSlots 0 y.size y.slots) (sym is) layout.sound.slots;
+        each_slot = length-map (layout_in code static.layout).slots (first_pointer static.pointers);
+        pointers = λ alive.
+            pointers_are (first_pointer static.pointers) (first_is static.pointers h.targets) (layout_in code static.layout).slots;
+        heap = λ q. absurd (false≢true q);
+      }
+
+  pub statics_whole : HoldsBytes code → AreObjects statics
+  statics_whole bytes =
+      mapped (IsObject statics) (static_object code) 0 code.statics (λ k static e.
+      let h = all_at (λ (x : StaticInit). IsSomeAnd (slice_get code.layouts x.layout) (IsFirst code x)) code.statics k static wf.statics e in
+      static_with (0 + k) static (all_at (λ (x : StaticInit). All IsByte x.bytes) code.statics k static bytes e) (slice_get code.layouts static.layout) refl h)
+
+  -- none of them is queued, and what their numbers count
+
+  unqueued : (n : ℕ) (xs : List StaticInit) (b : ℕ) → is_queued (object_at (map (static_object code) (enumerate_from n xs)) b).standing ≡ false
+  unqueued n [] b = refl
+  unqueued n (x ∷ xs) zero = refl
+  unqueued n (x ∷ xs) (suc b) = unqueued (n + 1) xs b
+
+  pub no_queue : IsQueue statics []
+  no_queue = record { exact = λ b. sym (unqueued 0 code.statics b); once = distinct_none }
+
+  all_living : (x n : ℕ) (xs : List StaticInit) → pointers_inside x (map (static_object code) (enumerate_from n xs)) ≡ inside_living x (map (static_object code) (enumerate_from n xs))
+  all_living x n [] = refl
+  all_living x n (y ∷ xs) =
+      let rest = map (static_object code) (enumerate_from (n + 1) xs) in
+      omega (arith, sum_by-cons (λ (o : Object). pointers_to x o.pointers) (static_object code (n, y)) rest, sum_by-cons (living x) (static_object code (n, y)) rest, all_living x (n + 1) xs)
+
+  pub first_counts : (x : ℕ) → first_numbers statics x ≡ inside_living x statics + 0
+  first_counts x = omega (arith, all_living x 0 code.statics)
+
+-- The first instruction
+
+-- no value is handed over at the first instruction
+at_start : (code : Code) (fits : ℕ → Bool) (line : ℕ) (i : Instr) (c : CodeState) (P : Next → Type 0) → i.op ≡ op.Start → P (act code fits line i op.Start c.handed c.numbers c.state) → P (hand_or_act code fits line i (handed_value c.state.running i i.op) c)
+at_start code fits line i c P e h =
+    done_is code fits line i c P (handed_value c.state.running i i.op) (subst (λ (o : Op). P (done_by code fits line i c o (handed_value c.state.running i o))) (sym e) h)
+
+module _ (code : Code) (wf : IsWellFormed code) (holds : HoldsBytes code) (input : List ℕ) (bytes : All IsByte input) where
+  module _ (i : Instr) (main : ℕ) (entry : Entry) (here : slice_get code.instrs 0 ≡ Some i) (is : IsStart code i main entry) where
+    main_is : main_in (slice_get code.instrs 0) ≡ main
+    main_is = ap main_in here ∙ ap unsigned_abs is.number
+
+    no_parameters : AreOperands (static_objects code) (all_there (parameter_sorts entry)) []
+    no_parameters = rw is.params tt
+
+    abbrev first : ℕ → ℕ
+    first = (start code input 0).numbers
+
+    begins_at : (line m : ℕ) → BeginsWell code (begin code line main first (record (start code input 0).state { steps = m }))
+    begins_at line m =
+        let long : length code.statics ≤ length (static_objects code) = omega (arith, statics_length code wf) in
+        enters code wf main entry is.function (static_objects code) [] [] [] 0 input m first (statics_whole code wf holds) (has_statics code wf) long (no_queue code wf) (λ e. refl) no_parameters (refl, sym main_is) (first_counts code wf) bytes
+
+    step_begins : (line steps : ℕ) → BeginsWell code (with_step steps first (start code input steps).state (begin code line main first))
+    step_begins line zero = refl
+    step_begins line (suc m) = begins_at line m
+
+    act_begins : (fits : ℕ → Bool) (line steps : ℕ) → BeginsWell code (act code fits line i op.Start [] (start code input steps).numbers (start code input steps).state)
+    act_begins fits line steps =
+        let e : unsigned_abs i.imm ≡ main = ap unsigned_abs is.number in
+        subst (λ (f : ℕ). BeginsWell code (with_step steps first (start code input steps).state (begin code line f first))) (sym e) (step_begins line steps)
+
+    begins : (steps : ℕ) (fits : ℕ → Bool) → BeginsWell code (step_by code fits (start code input steps))
+    begins steps fits =
+        let c = start code input steps in
+        let line = slice_index code.lines c.state.running.point in
+        subst (λ (o : Option Instr). BeginsWell code (act_at code fits o c)) (sym here) (at_start code fits line i c (BeginsWell code) is.begins (act_begins fits line steps))
+
+    falls : (steps : ℕ) (fits : ℕ → Bool) → LeavesLess code (start code input steps) (step_by code fits (start code input steps))
+    falls steps fits =
+        let c = start code input steps in
+        let line = slice_index code.lines c.state.running.point in
+        let inside = slice_get_within code.instrs 0 i here in
+        subst (λ (o : Option Instr). LeavesLess code c (act_at code fits o c)) (sym here) (at_start code fits line i c (LeavesLess code c) is.begins (act_less code c.state inside fits line i c.handed c.numbers op.Start (λ k d lt. absurd (omega arith))))
+
+  pub begins_well : (steps : ℕ) (fits : ℕ → Bool) → BeginsWell code (step_by code fits (start code input steps)) × LeavesLess code (start code input steps) (step_by code fits (start code input steps))
+  begins_well steps fits =
+      let s = wf.start in
+      (begins s.0 s.1 s.2 s.3 s.4 steps fits, falls s.0 s.1 s.2 s.3 s.4 steps fits)

@@ -1,37 +1,14 @@
 -- What holds within an instruction, before the run moves on.
-use Rattle.std.proofs.Common.{◌≡◌, ℕ, pos, ◌+◌, ◌≤◌, true, false, nat_eq, List, [], ◌∷◌, length, get_or, set, Option, Some, None, refl, sym, ap, ◌∙◌, subst, arith, ⊎_elim}
-use Rattle.std.specs.Prelude.{slice_get, All, Contains}
-use Rattle.std.specs.Option.{option_map, option_map_or}
-use Rattle.std.proofs.lemmas.Bool.{false≢true, cases_lt, cases_eq, ne_eqb}
-use Rattle.std.proofs.lemmas.List.{get_or_past, get_or-set_same, get_or-set_other, length-set}
-use Rattle.std.proofs.lemmas.Option.{slice_get-map}
-use Rattle.hs_base.specs.declared.values.Value.{Value}
-use Rattle.hs_base.specs.Freeing.{pointers_to}
-use Rattle.hs_base.specs.Object.{Object}
-use Rattle.hs_base.specs.State.{Frame, State}
-use Rattle.core_tree.specs.Sorts.{Sort}
-use Rattle.object_meaning.specs.objects.Values.{number, pointer_in}
-use Rattle.object_meaning.specs.objects.Going.{at_point, put}
-use Rattle.object_meaning.specs.objects.Holding.{is_among}
-use Rattle.flat_code.specs.declared.instructions.Instr.{Instr}
-use Rattle.flat_code.specs.declared.instructions.Op.{Op}
-use Rattle.flat_code.specs.declared.program.Code.{Code}
-use Rattle.flat_code.specs.declared.program.Entry.{Entry}
-use Rattle.flat_code.specs.Table.{register_sorts, all_there, hands, written, edges, scopes_after}
-use Rattle.flat_code.specs.Lives.{writes, IsLive}
-use Rattle.flat_code.specs.Sites.{has_site}
-use Rattle.flat_code.specs.WellFormed.{IsWellFormed, IsAt, GivesTo}
-use Rattle.object_meaning.specs.counted.Pinning.{pointer_of_register}
-use Rattle.object_meaning.specs.code.CodeState.{CodeState, kept}
-use Rattle.object_meaning.specs.code.Pinning.{pinned}
-use Rattle.meaning_laws.specs.code.Objects.{IsOfSort, AreOfSorts, IsPointer, AreOperands, IsByte, AreObjects, HasStatics, IsQueue}
-use Rattle.meaning_laws.specs.code.Counts.{in_pins, AreCounts}
-use Rattle.meaning_laws.specs.code.Good.{IsNeeded, AreFresh, HasLocals, IsFrame, Waits, AreWaiting, IsGood}
+use Rattle.meaning_laws.proofs.Words.Core.{Code, Entry, Frame, GivesTo, Instr, IsAt, IsLive, IsWellFormed, Object, Op, Ready, Sort, State, Value, all_there, edges, hands, has_site, pointers_to, register_sorts, scopes_after, writes, written}
+use Rattle.meaning_laws.proofs.Words.Meaning.{AreObjects, AreOfSorts, AreOperands, AreWaiting, CodeState, HasLocals, HasStatics, IsByte, IsFrame, IsGood, IsNeeded, IsOfSort, IsPointer, IsQueue, at_point, in_pins, is_among, number, pinned, pins_at, pointer_in, pointer_of_register, put}
+use Rattle.meaning_laws.proofs.Words.Std.{All, All-cons, All-map, All-nil, Contains, Contains-get_or, List, None, Option, Some, [], ap, arith, cases_eq, cases_lt, false, false≢true, get_or, get_or-set_other, get_or-set_same, get_or_past, length, length-set, nat_eq, ne_eqb, option_map, option_map_or, pos, refl, set, slice_get, slice_get-map, subst, sym, true, ℕ, ⊎_elim, ◌+◌, ◌∙◌, ◌∷◌, ◌≡◌, ◌≢◌, ◌≤◌}
+use Rattle.object_meaning.specs.code.CodeState.{kept}
+use Rattle.meaning_laws.specs.code.Counts.{AreCounts}
+use Rattle.meaning_laws.specs.code.Good.{AreFresh, Waits}
 use Rattle.meaning_laws.proofs.soundness.Lists.{zip_set}
-use Rattle.meaning_laws.proofs.soundness.Becoming.{Becomes, Grows, Apart, Born, Spares, none_dies, none_apart, pointer_becomes, statics_become, locals_become, running_become}
+use Rattle.meaning_laws.proofs.soundness.Touching.{Becomes, Grows, Apart, Born, Spares, none_dies, none_apart, pointer_becomes, statics_become, locals_become, running_become}
 use Rattle.meaning_laws.proofs.soundness.Lively.{needed_live, edge_here, live_back}
-use Rattle.meaning_laws.proofs.soundness.Pinned.{uncounted, pins_cons}
-use Rattle.flat_code.specs.WellFormedEquations.{Ready}
+use Rattle.meaning_laws.proofs.soundness.Pinned.{uncounted, pins_cons, pins_count}
 
 -- the only edge of most instructions
 pub onto : (point : ℕ) → Contains ((point + 1) ∷ []) (point + 1)
@@ -230,3 +207,25 @@ holds_of code c good = record {
   numbers = good.numbers;
   input = good.input;
 }
+
+-- No pin of a good state is stale.
+
+module _ (code : Code) (wf : IsWellFormed code) where
+  -- those of the running frame that its instruction does not write
+  pub running_fresh : (c : CodeState) (good : IsGood code c) (i : Instr) → slice_get code.instrs c.state.running.point ≡ Some i → All (λ r. written i i.op ≢ Some r → IsPointer c.state.objects (pointer_of_register c.state.running r)) (pins_at code c.state.running)
+  running_fresh c good i here k d lt free =
+      let frame = c.state.running in
+      let r = get_or (pins_at code frame) k d in
+      let at : IsAt code frame.func good.entry frame.point i = record { function = good.running.function; from = good.running.from; before = good.running.before; here = here } in
+      let counts = pins_count code wf frame.func good.entry frame i at r (Contains-get_or (pins_at code frame) k d lt) in
+      good.needed r (needed_live code frame.point i here r (not_written i i.op (written i i.op) refl r (λ q some e. free (some ∙ ap (λ x. Some x) (sym e)))) counts.live)
+
+  -- those of the frames that wait
+  pub waiting_fresh : (objects : List Object) (callee top total : ℕ) (frames : List Frame) → AreWaiting code objects callee top total frames → All (λ frame. All (IsPointer objects) (pinned code frame)) frames
+  waiting_fresh objects callee top total [] h = All-nil _
+  waiting_fresh objects callee top total (frame ∷ frames) h =
+      let w = h.3 in
+      let at : IsAt code frame.func w.entry frame.point w.call = record { function = w.stands.function; from = w.stands.from; before = w.stands.before; here = w.here } in
+      All-cons (λ (f : Frame). All (IsPointer objects) (pinned code f)) frame frames (All-map (IsPointer objects) (pointer_of_register frame) (pins_at code frame) (λ k d lt.
+      let r = get_or (pins_at code frame) k d in
+      w.counted r (pins_count code wf frame.func w.entry frame w.call at r (Contains-get_or (pins_at code frame) k d lt)))) (waiting_fresh objects frame.func frame.first_local h.1 frames h.4)

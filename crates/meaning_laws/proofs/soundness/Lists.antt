@@ -1,10 +1,6 @@
 -- Lists of values by their sorts, and lists that are overlaid.
-use Rattle.std.proofs.Common.{◌≡◌, ℕ, zero, suc, ◌+◌, ◌≤◌, List, [], ◌∷◌, ◌++◌, length, take, drop, get_or, set, Some, subst, arith}
-use Rattle.std.specs.Prelude.{slice_get, All}
-use Rattle.std.specs.List.{AllZip}
-use Rattle.std.proofs.lemmas.List.{length-take, length-drop, length-append}
-use Rattle.std.proofs.lemmas.List.Elements.{All-append, All-take, All-drop}
-use Rattle.hs_base.specs.Access.{overlaid}
+use Rattle.meaning_laws.proofs.Words.Core.{overlaid}
+use Rattle.meaning_laws.proofs.Words.Std.{All, All-append, All-drop, All-take, AllZip, List, Some, [], arith, drop, get_or, length, length-append, length-drop, length-take, set, slice_get, subst, suc, take, zero, ℕ, ◌++◌, ◌+◌, ◌∷◌, ◌≡◌, ◌≤◌}
 
 module _ {A B : Type 0} (R : A → B → Type 0) where
   pub zip_at : (xs : List A) (ys : List B) (k : ℕ) (x : A) (d : B) → AllZip R xs ys → slice_get xs k ≡ Some x → R x (get_or ys k d)

@@ -1,16 +1,8 @@
 -- A register that is needed at an instruction is live behind each instruction that leads there.
-use Rattle.std.proofs.Common.{◌≡◌, ℕ, false, List, [], ◌∷◌, Option, Some, refl, sym, ap, ◌∙◌, subst, ⊎_elim, inl, inr}
-use Rattle.std.specs.Prelude.{slice_get, Contains, IsTrue}
-use Rattle.std.specs.Option.{option_map_or}
-use Rattle.std.proofs.lemmas.Bool.{eq-eqb}
-use Rattle.std.proofs.lemmas.List.Elements.{All-nil, All-cons}
-use Rattle.flat_code.specs.declared.instructions.Instr.{Instr}
-use Rattle.flat_code.specs.declared.instructions.Op.{Op}
+use Rattle.meaning_laws.proofs.Words.Core.{Code, Instr, IsLive, Op, edges, edges_at, reads, reads_at, writes, writes_at}
+use Rattle.meaning_laws.proofs.Words.Meaning.{IsNeeded}
+use Rattle.meaning_laws.proofs.Words.Std.{All-cons, All-nil, Contains, IsTrue, List, Option, Some, [], ap, eq-eqb, false, inl, inr, option_map_or, refl, slice_get, subst, sym, ℕ, ⊎_elim, ◌∙◌, ◌∷◌, ◌≡◌}
 use Rattle.flat_code.specs.declared.instructions.Op.TheVariants as op
-use Rattle.flat_code.specs.declared.program.Code.{Code}
-use Rattle.flat_code.specs.Table.{edges}
-use Rattle.flat_code.specs.Lives.{reads, writes, reads_at, writes_at, edges_at, IsLive}
-use Rattle.meaning_laws.specs.code.Good.{IsNeeded}
 
 module _ (code : Code) (point next r : ℕ) (edge : Contains (edges_at code point) next) where
   by_read : IsTrue (reads_at code next r) → IsLive code point r

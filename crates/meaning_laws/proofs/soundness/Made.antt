@@ -1,30 +1,14 @@
 -- New objects are whole.
-use Rattle.std.proofs.Common.{◌≡◌, ℕ, ℤ, zero, suc, ◌*◌, ◌/◌, ◌^◌, ◌<◌, ◌≤◌, true, false, List, [], ◌∷◌, ◌++◌, length, Option, Some, None, refl, sym, ap, ◌∙◌, subst, arith, inl}
-use Rattle.std.specs.Prelude.{slice_get, All}
-use Rattle.std.proofs.lemmas.Bool.{false≢true, true≢false}
-use Rattle.std.proofs.lemmas.List.{length-append, length-replicate, get_or_past, get_or_push}
-use Rattle.std.proofs.lemmas.List.Elements.{All-nil, All-cons, All-append, All-replicate, All-weaker}
-use Rattle.std.proofs.lemmas.Nat.{div-add-mod'}
-use Rattle.std.proofs.Math.Nat.{mul-le-mul_left}
+use Rattle.meaning_laws.proofs.Words.Core.{AreSlots, Code, Dead, IsLayout, IsWellFormed, Layout, Live, Local, Object, array_layout, is_dead, is_heap, is_queued, low_bits_lt, no_object, object_at, slots_of_array}
+use Rattle.meaning_laws.proofs.Words.Meaning.{AreObjects, IsByte, IsObject, IsPointer, IsQueue, blank, heap_object, is_among, is_within, layout_in, size_in}
+use Rattle.meaning_laws.proofs.Words.Std.{All, All-append, All-cons, All-nil, All-replicate, All-weaker, List, None, Option, Some, [], ap, arith, div-add-mod', false, false≢true, get_or_past, get_or_push, inl, length, length-append, length-replicate, mul-le-mul_left, refl, slice_get, subst, suc, sym, true, true≢false, zero, ℕ, ℤ, ◌*◌, ◌++◌, ◌/◌, ◌<◌, ◌^◌, ◌∙◌, ◌∷◌, ◌≡◌, ◌≤◌}
 use Rattle.hs_base.specs.declared.values.Pointer.TheVariants as pointer
-use Rattle.hs_base.specs.Freeing.{is_heap}
-use Rattle.hs_base.specs.Object.{Object, Sort, Local, Live, Dead, is_dead, is_queued, no_object, object_at}
-use Rattle.hs_base.specs.NumbersEquations.{low_bits_lt}
-use Rattle.c_types.specs.declared.layouts.Layout.{Layout}
-use Rattle.c_types.specs.Layouts.{AreSlots, IsSound, array_layout}
-use Rattle.c_types.specs.LayoutsEquations.{slots_within, slots_of_array}
-use Rattle.object_meaning.specs.objects.Values.{size_in}
-use Rattle.object_meaning.specs.objects.Making.{blank, heap_object}
-use Rattle.object_meaning.specs.objects.Holding.{is_among}
-use Rattle.meaning_laws.specs.objects.GoodEquations.{is_within}
-use Rattle.meaning_laws.proofs.dangling.Alive.{at_old, at_append}
-use Rattle.flat_code.specs.declared.program.Code.{Code}
-use Rattle.flat_code.specs.WellFormed.{IsWellFormed, IsLayout}
-use Rattle.object_meaning.specs.code.Entering.{layout_in}
-use Rattle.meaning_laws.specs.code.Objects.{IsPointer, IsByte, IsObject, AreObjects, IsQueue}
+use Rattle.hs_base.specs.Object.{Sort}
+use Rattle.c_types.specs.Layouts.{IsSound}
+use Rattle.c_types.specs.LayoutsEquations.{slots_within}
+use Rattle.meaning_laws.proofs.dangling.Touching.{at_old, at_append}
 use Rattle.meaning_laws.proofs.soundness.Lists.{all_at}
-use Rattle.meaning_laws.proofs.soundness.Becoming.{Grows, Born, live_there}
-use Rattle.meaning_laws.proofs.soundness.Touching.{object_grows}
+use Rattle.meaning_laws.proofs.soundness.Touching.{Grows, Born, live_there, object_grows}
 
 pub blank_is : (objects : List Object) (sort : Sort) (size : ℕ) (slots : List ℕ) → size < 2 ^ 64 → AreSlots 0 size slots → IsObject objects (blank sort size slots)
 blank_is objects sort size slots small are = record {

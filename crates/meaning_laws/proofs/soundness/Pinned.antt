@@ -1,25 +1,10 @@
 -- Registers that count at an instruction, and the pins that list them.
-use Rattle.std.proofs.Common.{◌≡◌, ℕ, zero, suc, pos, ◌+◌, ◌<◌, Bool, true, false, cond, List, [], ◌∷◌, map, get_or, Option, Some, length, refl, sym, subst, arith, ⊎_elim, ◌⊎◌, inl, inr}
-use Rattle.std.specs.Prelude.{slice_get, Contains, unwrap_or}
-use Rattle.std.proofs.lemmas.List.Sums.{sum_by-cons}
-use Rattle.hs_base.specs.declared.values.Pointer.{Pointer}
+use Rattle.meaning_laws.proofs.Words.Core.{Code, Counts, Entry, Frame, HasSite, Instr, Integer, IsAt, IsWellFormed, Pointer, Sort, Value, all_there, has_site, is_pointer_to, pointers_to, register_sort, register_sorts}
+use Rattle.meaning_laws.proofs.Words.Meaning.{AreOfSorts, IsOfSort, in_pins, number, pinned, pins_at, pointer_in, pointer_of_register}
+use Rattle.meaning_laws.proofs.Words.Std.{Bool, Contains, List, Option, Some, [], arith, cond, false, get_or, inl, inr, length, map, pos, refl, slice_get, subst, suc, sum_by-cons, sym, true, unwrap_or, zero, ℕ, ⊎_elim, ◌+◌, ◌<◌, ◌∷◌, ◌≡◌, ◌⊎◌}
 use Rattle.hs_base.specs.declared.values.Pointer.TheVariants as pointer
-use Rattle.hs_base.specs.declared.values.Value.{Value}
 use Rattle.hs_base.specs.declared.values.Value.TheVariants as value
-use Rattle.hs_base.specs.Freeing.{is_pointer_to, pointers_to}
-use Rattle.hs_base.specs.State.{Frame}
-use Rattle.core_tree.specs.Sorts.{Sort, Integer, Pointer as Address}
-use Rattle.object_meaning.specs.objects.Values.{number, pointer_in}
-use Rattle.flat_code.specs.declared.instructions.Instr.{Instr}
-use Rattle.flat_code.specs.declared.program.Code.{Code}
-use Rattle.flat_code.specs.declared.program.Entry.{Entry}
-use Rattle.flat_code.specs.Table.{register_sorts, register_sort, all_there}
-use Rattle.flat_code.specs.Sites.{has_site, Counts, HasSite}
-use Rattle.flat_code.specs.WellFormed.{IsWellFormed, IsAt}
-use Rattle.object_meaning.specs.counted.Pinning.{pointer_of_register}
-use Rattle.object_meaning.specs.code.Pinning.{pins_at, pinned}
-use Rattle.meaning_laws.specs.code.Objects.{IsOfSort, AreOfSorts}
-use Rattle.meaning_laws.specs.code.Counts.{in_pins}
+use Rattle.core_tree.specs.Sorts.{Pointer as Address}
 
 -- Registers for integers
 

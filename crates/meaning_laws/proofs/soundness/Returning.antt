@@ -1,49 +1,22 @@
 -- A return: where the numbers are zero no pointer to the memory locals of the call is left, and they end; the frame that waited goes
 -- on behind its call, or the run ends.
-use Rattle.std.proofs.Common.{◌≡◌, ◌≢◌, ℕ, zero, suc, ◌+◌, ◌-◌, ◌<◌, ◌≤◌, Bool, true, false, cond, nat_eq, List, [], ◌∷◌, length, Option, Some, None, refl, sym, ap, ◌∙◌, subst, arith, ⊎_elim}
-use Rattle.std.specs.Prelude.{slice_get}
-use Rattle.std.specs.List.{range_with_len}
-use Rattle.std.specs.Option.{option_and_then, option_map_or}
-use Rattle.std.proofs.lemmas.Bool.{true≢false, or_left, or_right, eq-eqb, cases_lt}
-use Rattle.std.proofs.lemmas.List.{length-map}
-use Rattle.hs_base.specs.declared.values.Value.{Value}
-use Rattle.hs_base.specs.Freeing.{is_pointer_to, pointers_to, pointers_inside, objects_of, end_numbers, ended}
-use Rattle.hs_base.specs.Object.{Object, Local, Live, Dead, object_at}
-use Rattle.hs_base.specs.State.{Frame, State}
-use Rattle.core_tree.specs.Sorts.{Sort}
-use Rattle.object_meaning.specs.objects.Values.{pointer_in}
-use Rattle.object_meaning.specs.objects.Going.{at_point, put}
-use Rattle.object_meaning.specs.objects.Holding.{is_among, inside_objects}
-use Rattle.meaning_laws.proofs.dangling.Acting.{found}
-use Rattle.flat_code.specs.declared.instructions.Instr.{Instr}
-use Rattle.flat_code.specs.declared.instructions.Op.{Op}
+use Rattle.meaning_laws.proofs.Words.Core.{Code, Dead, EachAnswer, Entry, Frame, GivesTo, Instr, IsAt, IsWellFormed, Live, Local, Object, Op, Ready, Sort, State, Value, answered, chosen, end_numbers, ended, is_pointer_to, object_at, objects_of, pointers_inside, pointers_to, reads, reads_at, ready_at, writes, writes_at, written}
+use Rattle.meaning_laws.proofs.Words.Meaning.{AreObjects, AreWaiting, CodeState, IsGood, IsNeeded, IsOfSort, IsPointer, StaysGood, at_point, fewer, give_back, in_pins, inside_living, inside_objects, is_among, layout_in, pinned, pointer_in, pointer_of_register, put, without_those_inside}
+use Rattle.meaning_laws.proofs.Words.Std.{Bool, List, None, Option, Some, [], ap, arith, cases_lt, cond, eq-eqb, false, length, length-map, nat_eq, option_and_then, option_map_or, or_left, or_right, range_with_len, refl, slice_get, subst, suc, sym, true, true≢false, zero, ℕ, ⊎_elim, ◌+◌, ◌-◌, ◌<◌, ◌∙◌, ◌∷◌, ◌≡◌, ◌≢◌, ◌≤◌}
+use Rattle.meaning_laws.proofs.dangling.Standing.{found}
 use Rattle.flat_code.specs.declared.instructions.Op.TheVariants as op
-use Rattle.flat_code.specs.declared.program.Code.{Code}
-use Rattle.flat_code.specs.declared.program.Entry.{Entry}
-use Rattle.flat_code.specs.Table.{written, chosen}
-use Rattle.flat_code.specs.Lives.{reads, writes, reads_at, writes_at}
-use Rattle.flat_code.specs.Sites.{answered}
-use Rattle.flat_code.specs.WellFormed.{IsWellFormed, IsAt, EachAnswer, GivesTo}
-use Rattle.object_meaning.specs.counted.Counting.{fewer, without_those_inside}
-use Rattle.object_meaning.specs.counted.Pinning.{pointer_of_register}
-use Rattle.object_meaning.specs.code.CodeState.{CodeState, kept}
-use Rattle.object_meaning.specs.code.Pinning.{pinned}
-use Rattle.object_meaning.specs.code.Entering.{layout_in, locals_of}
-use Rattle.object_meaning.specs.code.Returning.{running_locals, answer_register, resumed, go_back, end_locals, give_back}
-use Rattle.meaning_laws.specs.counted.Counts.{inside_living}
+use Rattle.object_meaning.specs.code.CodeState.{kept}
+use Rattle.object_meaning.specs.code.Entering.{locals_of}
+use Rattle.object_meaning.specs.code.Returning.{running_locals, answer_register, resumed, go_back, end_locals}
 use Rattle.meaning_laws.proofs.counts.Objects.{living_split, ended_living}
-use Rattle.meaning_laws.specs.code.Objects.{IsOfSort, IsPointer, AreObjects}
-use Rattle.meaning_laws.specs.code.Counts.{in_pins}
-use Rattle.meaning_laws.specs.code.Good.{IsNeeded, Waits, AreWaiting, IsGood}
-use Rattle.meaning_laws.specs.code.Laws.{StaysGood}
-use Rattle.meaning_laws.proofs.soundness.Becoming.{live_there, pointer_becomes, statics_become}
+use Rattle.meaning_laws.specs.code.Good.{Waits}
+use Rattle.meaning_laws.proofs.soundness.Touching.{live_there, pointer_becomes, statics_become}
 use Rattle.meaning_laws.proofs.soundness.Dropping.{Drops, ended_drops, ended_are_dead, ended_queue, drops_objects}
 use Rattle.meaning_laws.proofs.soundness.Pinned.{by_register, pins_cons}
 use Rattle.meaning_laws.proofs.soundness.Frames.{Holds, onto, holds_put, moves, waiting_become}
-use Rattle.meaning_laws.proofs.soundness.Checks.{none_held, no_holder}
+use Rattle.meaning_laws.proofs.soundness.Freeing.{none_held, no_holder}
 use Rattle.meaning_laws.proofs.dangling.Returning.{in_range, out_range}
 use Rattle.meaning_laws.proofs.counts.Calling.{once_range}
-use Rattle.flat_code.specs.WellFormedEquations.{Ready, ready_at}
 
 -- Births one after another
 

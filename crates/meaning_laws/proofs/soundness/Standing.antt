@@ -1,52 +1,19 @@
 -- What an effect on a good state leads to is good, or it ends the run for another reason than want of life.
-use Rattle.std.proofs.Common.{◌≡◌, ℕ, zero, suc, pos, negsuc, ◌+◌, ◌<◌, ◌^◌, Bool, true, false, List, [], ◌∷◌, ◌++◌, length, Option, Some, None, Result, Ok, Err, refl, sym, ap, ◌∙◌, subst, arith}
-use Rattle.std.specs.Prelude.{All, Contains}
-use Rattle.std.proofs.lemmas.Int.{ints}
-use Rattle.std.proofs.lemmas.List.Elements.{All-head, All-tail}
-use Rattle.hs_base.specs.declared.values.Pointer.{Pointer}
+use Rattle.meaning_laws.proofs.Words.Core.{Code, GivesTo, I32, Instr, Integer, IsAt, IsLive, IsWellFormed, Layout, Object, Op, Pointer, Ready, Refusal, Sort, State, Value, edges, hands, scopes_after, written}
+use Rattle.meaning_laws.proofs.Words.Meaning.{AreObjects, Changes, CodeState, IsByte, IsGood, IsNeeded, IsOfSort, IsOperand, IsPointer, IsQueue, Next, OnDone, Renumbers, SamePointers, StaysGood, address, answers, at_point, branch, changes, enter, filled, get_byte, heap_living, heap_object, if_done, made, no_place, number, onward, other_numbers, pointer_in, print, put, put_line, renumbered, same_numbers, start_of, with_objects, write}
+use Rattle.meaning_laws.proofs.Words.Std.{All, All-head, All-tail, Bool, Contains, Err, List, None, Ok, Option, Result, Some, [], ap, arith, false, ints, length, negsuc, pos, refl, subst, suc, sym, true, zero, ℕ, ◌++◌, ◌+◌, ◌<◌, ◌^◌, ◌∙◌, ◌∷◌, ◌≡◌}
 use Rattle.hs_base.specs.declared.values.Pointer.TheVariants as pointer
-use Rattle.hs_base.specs.declared.values.Value.{Value}
-use Rattle.hs_base.specs.declared.ends.IntKind.TheVariants.{I32}
-use Rattle.hs_base.specs.Access.{Refusal}
-use Rattle.hs_base.specs.Object.{Object}
-use Rattle.hs_base.specs.State.{State}
-use Rattle.c_types.specs.declared.layouts.Layout.{Layout}
 use Rattle.c_types.specs.Layouts.{IsSound}
-use Rattle.core_tree.specs.Sorts.{Sort, Integer, Pointer as Address}
-use Rattle.object_meaning.specs.objects.Values.{number, address, start_of, pointer_in}
-use Rattle.object_meaning.specs.objects.Going.{write, put, onward, at_point, with_objects, answers, changes, if_done}
-use Rattle.object_meaning.specs.objects.Making.{heap_object}
-use Rattle.object_meaning.specs.objects.Heap.{no_place, made}
-use Rattle.object_meaning.specs.objects.Printing.{print}
-use Rattle.object_meaning.specs.objects.Builtins.{get_byte, put_line, filled}
-use Rattle.object_meaning.specs.objects.Meaning.{branch}
-use Rattle.meaning_laws.proofs.dangling.Touching.{Done}
+use Rattle.core_tree.specs.Sorts.{Pointer as Address}
+use Rattle.meaning_laws.proofs.dangling.Touching.{Done, Lives}
 use Rattle.meaning_laws.proofs.dangling.Standing.{refused}
-use Rattle.flat_code.specs.declared.instructions.Instr.{Instr}
-use Rattle.flat_code.specs.declared.instructions.Op.{Op}
 use Rattle.flat_code.specs.declared.instructions.Op.TheVariants as op
-use Rattle.flat_code.specs.declared.program.Code.{Code}
-use Rattle.flat_code.specs.Table.{hands, written, edges, scopes_after}
-use Rattle.flat_code.specs.Lives.{IsLive}
-use Rattle.flat_code.specs.WellFormed.{IsWellFormed, IsAt, GivesTo}
-use Rattle.object_meaning.specs.counted.Counting.{renumbered}
-use Rattle.object_meaning.specs.code.CodeState.{CodeState, Next, kept, same_numbers, other_numbers}
+use Rattle.object_meaning.specs.code.CodeState.{kept}
 use Rattle.object_meaning.specs.code.Entering.{with_step}
-use Rattle.object_meaning.specs.code.Checking.{enter}
-use Rattle.meaning_laws.specs.counted.CountsEquations.{Renumbers, heap_living}
-use Rattle.meaning_laws.specs.counted.TouchedEquations.{OnDone, SamePointers, Changes}
-use Rattle.meaning_laws.specs.code.Objects.{IsPointer, IsOfSort, IsOperand, IsByte, AreObjects, IsQueue}
 use Rattle.meaning_laws.specs.code.Counts.{AreCounts}
-use Rattle.meaning_laws.specs.code.Good.{IsNeeded, IsGood}
-use Rattle.meaning_laws.specs.code.Laws.{StaysGood}
-use Rattle.meaning_laws.proofs.soundness.Numbers.{IsInteger, integer_is, natural_number, wrapped_number}
-use Rattle.meaning_laws.proofs.soundness.Becoming.{Grows, Born, grows_same, alike_grows, none_born, pointer_grows}
-use Rattle.meaning_laws.proofs.soundness.Touching.{Changed}
-use Rattle.meaning_laws.proofs.dangling.Giving.{Lives}
+use Rattle.meaning_laws.proofs.soundness.Touching.{IsInteger, integer_is, natural_number, wrapped_number, Changed, alike_queue, Grows, Born, grows_same, alike_grows, none_born, pointer_grows}
 use Rattle.meaning_laws.proofs.soundness.Made.{heap_is, append_grows, one_more, one_queue, one_born, new_start}
-use Rattle.meaning_laws.proofs.soundness.Queues.{alike_queue}
 use Rattle.meaning_laws.proofs.soundness.Frames.{Holds, holds_of, holds_grow, holds_put, moves}
-use Rattle.flat_code.specs.WellFormedEquations.{Ready}
 
 module _ (code : Code) (wf : IsWellFormed code) (c : CodeState) (good : IsGood code c) (i : Instr) (at : IsAt code c.state.running.func good.entry c.state.running.point i) where
   abbrev s : State

@@ -1,34 +1,17 @@
 -- The instruction that a good state is at leads to a good state.
-use Rattle.std.proofs.Common.{◌≡◌, ℕ, pos, ◌+◌, Bool, true, List, [], ◌∷◌, ◌++◌, get_or, Option, Some, None, refl, sym, ap, ◌∙◌, subst, arith}
-use Rattle.std.specs.Prelude.{slice_get, slice_index, Contains, IsSome}
-use Rattle.std.specs.Option.{option_map}
-use Rattle.std.proofs.lemmas.Option.{same_Some, slice_get-map}
-use Rattle.hs_base.specs.declared.values.Pointer.TheVariants as pointer
-use Rattle.hs_base.specs.declared.values.Value.{Value}
-use Rattle.hs_base.specs.State.{State}
-use Rattle.core_tree.specs.Sorts.{Sort, Integer, Pointer as Address}
-use Rattle.object_meaning.specs.objects.Values.{number, address, start_of, pointer_in, holds_stale}
-use Rattle.flat_code.specs.declared.instructions.Instr.{Instr}
-use Rattle.flat_code.specs.declared.instructions.Op.{Op}
-use Rattle.flat_code.specs.declared.instructions.Op.TheVariants as op
-use Rattle.flat_code.specs.declared.program.Code.{Code}
-use Rattle.flat_code.specs.declared.program.StaticInit.{StaticInit}
-use Rattle.flat_code.specs.Table.{register_sorts, register_sort, all_there, hands, handed_sort, written, edges, scopes_after}
-use Rattle.flat_code.specs.WellFormed.{IsWellFormed, IsAt, handed_before}
-use Rattle.object_meaning.specs.code.CodeState.{CodeState, Next, with_handed}
-use Rattle.object_meaning.specs.code.CodeMeaning.{unsigned, handed_value, hand, act, hand_or_act, act_at, step_by}
-use Rattle.meaning_laws.specs.code.Objects.{IsOfSort, IsOperand, AreOperands}
-use Rattle.meaning_laws.specs.code.Good.{IsGood}
-use Rattle.meaning_laws.specs.code.Laws.{StaysGood}
+use Rattle.meaning_laws.proofs.Words.Core.{Code, Frame, Instr, Integer, IsAt, IsWellFormed, OfAnswer, Op, Ready, Sort, State, StaticInit, Takes, Value, all_there, edges, handed_before, handed_sort, hands, instr_at, ready_at, register_sort, register_sorts, scopes_after, written}
+use Rattle.meaning_laws.proofs.Words.Meaning.{AreOperands, AreWaiting, CodeState, GivesInteger, HasOperands, IsGood, IsOfSort, IsOperand, Next, StaysGood, act, act_at, address, hand, hand_or_act, handed_value, holds_stale, main_in, number, pointer_in, start_of, step_by, unsigned, with_handed}
+use Rattle.meaning_laws.proofs.Words.Std.{Bool, Contains, IsSome, List, None, Option, Some, [], ap, arith, false, get_or, option_map, pos, refl, same_Some, slice_get, slice_get-map, slice_index, subst, sym, true, unsigned_abs, ℕ, ◌++◌, ◌+◌, ◌∙◌, ◌∷◌, ◌≡◌}
+use Rattle.core_tree.specs.Sorts.{Pointer as Address}
 use Rattle.meaning_laws.proofs.soundness.Lists.{zip_at, zip_push}
-use Rattle.meaning_laws.proofs.soundness.Numbers.{unsigned_number}
+use Rattle.meaning_laws.proofs.soundness.Touching.{unsigned_number, not_stale, live_there}
 use Rattle.meaning_laws.proofs.soundness.Lively.{live_back, needed_read, needed_live, edge_here}
-use Rattle.meaning_laws.proofs.soundness.Becoming.{not_stale, live_there}
 use Rattle.meaning_laws.proofs.soundness.Frames.{not_written}
 use Rattle.meaning_laws.proofs.soundness.Standing.{IsReady}
 use Rattle.meaning_laws.proofs.soundness.Calling.{there}
 use Rattle.meaning_laws.proofs.soundness.Acting.{act_stays}
-use Rattle.flat_code.specs.WellFormedEquations.{instr_at, ready_at}
+use Rattle.hs_base.specs.declared.values.Pointer.TheVariants as pointer
+use Rattle.flat_code.specs.declared.instructions.Op.TheVariants as op
 
 -- what an operation does: it hands a value over, or acts on what was handed over
 abbrev pub done_by : Code → (ℕ → Bool) → ℕ → Instr → CodeState → Op → Option Value → Next
@@ -142,3 +125,45 @@ pub stays : (code : Code) → IsWellFormed code → (c : CodeState) → IsGood c
 stays code wf c good fits =
     let i = instr_of code wf c good in
     subst (λ (o : Option Instr). StaysGood code (act_at code fits o c)) (sym i.1.here) (at_stays code wf c good i.0 i.1 fits)
+
+-- What an instruction of a good state hands over and takes; and the first of all frames gives an integer.
+
+module _ (code : Code) (wf : IsWellFormed code) (c : CodeState) (good : IsGood code c) (i : Instr) (here : slice_get code.instrs c.state.running.point ≡ Some i) where
+  abbrev sorts : List (Option Sort)
+  sorts = handed_before code good.entry c.state.running.point
+
+  abbrev IsInteger : Option Sort → Type 0
+  IsInteger answer = answer ≡ Some Integer
+
+  at : IsAt code c.state.running.func good.entry c.state.running.point i
+  at = record { function = good.running.function; from = good.running.from; before = good.running.before; here = here }
+
+  operands : (o : Op) → Takes code good.entry i o sorts → HasOperands code c good.entry i o
+  operands op.Give h =
+      (h.0, subst (λ (x : List (Option Sort)). AreOperands c.state.objects x c.handed) h.1 good.handed)
+  operands o h = subst (λ (x : List (Option Sort)). AreOperands c.state.objects x c.handed) h good.handed
+
+  pub has_operands : hands i.op ≡ false → HasOperands code c good.entry i i.op
+  has_operands e =
+      operands i.op ((ready_at code wf c.state.running.func good.entry c.state.running.point i at).takes e)
+
+  pub hands_operand : (v : Value) → handed_value c.state.running i i.op ≡ Some v → IsOperand c.state.objects (handed_sort code good.entry i i.op) v
+  hands_operand =
+      handed_is code wf c good i at i.op (ready_at code wf c.state.running.func good.entry c.state.running.point i at)
+
+  gives : (o : Op) → Ready code c.state.running.func good.entry c.state.running.point i o → OfAnswer IsInteger o sorts → GivesInteger c o
+  gives op.Return ready h = absurd (cc)
+  gives op.Give ready h =
+      let sort = ready.takes refl in
+      let is : Some sort.0 ≡ Some Integer = subst (λ (x : List (Option Sort)). OfAnswer IsInteger op.Give x) sort.1 h in
+      let one : sorts ≡ Some Integer ∷ [] = sort.1 ∙ ap (λ (x : Option Sort). x ∷ []) is in
+      subst (λ (x : List (Option Sort)). AreOperands c.state.objects x c.handed) one good.handed
+  gives o ready h = tt
+
+  -- the running frame is of main
+  pub main_gives : c.state.waiting ≡ [] → GivesInteger c i.op
+  main_gives none =
+      let s = wf.start in
+      let last = subst (λ (frames : List Frame). AreWaiting code c.state.objects c.state.running.func c.state.running.first_local good.others frames) none good.waiting in
+      let main : c.state.running.func ≡ s.1 = last.1 ∙ ap main_in s.3 ∙ ap unsigned_abs s.4.number in
+      gives i.op (ready_at code wf c.state.running.func good.entry c.state.running.point i at) (s.4.answers c.state.running.func good.entry c.state.running.point i at main)

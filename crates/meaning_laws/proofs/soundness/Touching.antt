@@ -1,31 +1,307 @@
 -- An operation on pointers that are not stale is never refused for want of life, and leaves objects whose pointers are not stale.
-use Rattle.std.proofs.Common.{◌≡◌, ℕ, ℤ, zero, suc, ◌+◌, ◌*◌, ◌/◌, ◌%◌, ◌<◌, ◌≤◌, Bool, true, false, not, ◌&&◌, nat_eq, nat_lt, List, [], ◌∷◌, length, take, drop, set, Result, Ok, refl, sym, ap, ◌∙◌, arith}
-use Rattle.std.specs.Prelude.{All, replicate}
-use Rattle.std.specs.List.{list_any}
-use Rattle.std.proofs.lemmas.Bool.{ltb-false, not-false, and_parts, or_from}
-use Rattle.std.proofs.lemmas.List.{length-set, length-take, length-replicate}
-use Rattle.std.proofs.lemmas.List.Elements.{All-set, All-weaker, All-take, All-drop, All-replicate, All-nil, All-cons, All-head, All-tail}
-use Rattle.std.proofs.Math.Nat.{mod-lt}
-use Rattle.hs_base.specs.declared.ends.IntKind.{IntKind}
-use Rattle.hs_base.specs.declared.ends.TrapKind.{TrapKind}
-use Rattle.hs_base.specs.declared.values.Pointer.{Pointer}
+use Rattle.meaning_laws.proofs.Words.Core.{BinOp, CmpOp, Code, Dead, Entry, Frame, I16, I32, I64, I8, IntKind, Integer, IsNumber, Item, Live, Local, Object, Piece, Place, Plain, Pointer, Queued, ReadsDead, Refusal, Sort, TrapKind, Trapped, U16, U32, U64, U8, UnOp, Value, access_in, access_integer, access_pointer, and_then, bytes_of, copy, copy_between, cuts_slot, distances, for_divisor, if_so, is_dead, is_heap, is_pointer_to, is_queued, length-bytes_of, low_bits, low_bits_lt, may_copy, may_set, no_object, object_at, overlaid, places_of, queued, range_at, set_bytes, slots_below, slots_within, width, with_object, wrapped}
+use Rattle.meaning_laws.proofs.Words.Meaning.{AreObjects, AreOperands, HasLocals, HasStatics, IsByte, IsObject, IsOfSort, IsOperand, IsPointer, IsQueue, IsThere, Sane, address, arguments_behind, behind, byte_behind, compared, copied, difference, is_among, is_stale, is_within, is_zero, item_text, loaded, loaded_pointer, moved_by, number, offsets, on_one, on_two, or_traps, order_from, order_of, ordered, pointer_at, pointer_in, pointers_compared, pointers_in_range, printed, room_at, stored, stored_pointer, string_at, string_from, truth, unsigned, within_object}
+use Rattle.meaning_laws.proofs.Words.Std.{All, All-cons, All-drop, All-head, All-nil, All-replicate, All-set, All-tail, All-take, All-weaker, AllByRecursion, Bool, Err, List, None, Ok, Option, Result, SFits-int_wrap, Some, [], and_parts, ap, arith, cases_Bool, cases_lt, cond, drop, eq-eqb, false, false≢true, get_or, inl, inr, ints, leb-true, length, length-map, length-replicate, length-set, length-take, list_any, ltb-false, mod-lt, nat_eq, nat_le, nat_lt, nat_tests, negsuc, not, not-false, option_map, or_from, or_parts, pos, refl, replicate, set, slice_get_within, subst, suc, sym, take, true, true≢false, w16, w32, w64, w8, zero, ℕ, ℤ, ⊎_elim, ◌%◌, ◌&&◌, ◌*◌, ◌++◌, ◌+◌, ◌-◌, ◌/◌, ◌<◌, ◌^◌, ◌∙◌, ◌∷◌, ◌≡◌, ◌≤◌, ◌⊎◌}
+use Rattle.meaning_laws.proofs.dangling.Touching.{Done, trapped, then_done, so_done, so_skipped, Any, Lives, item_cond, front_lives, at_set, among_left, among_last, among_cases}
+use Rattle.core_tree.specs.Sorts.{Pointer as Address}
+use Rattle.meaning_laws.proofs.soundness.Lists.{zip_each, overlaid_length, overlaid_all, all_or}
+use Rattle.hs_base.specs.Access.{same_numbers, filled}
+use Rattle.std.specs.List.{IsDistinct}
+use Rattle.meaning_laws.proofs.counts.Objects.{same_bool}
+use Rattle.meaning_laws.proofs.dangling.Returning.{queued_lives as standing_lives}
 use Rattle.hs_base.specs.declared.values.Pointer.TheVariants as pointer
+use Rattle.hs_base.specs.declared.ends.TrapKind.TheVariants as trap
+use Rattle.hs_base.specs.declared.values.Value.TheVariants as value
+use Rattle.core_tree.specs.declared.statements.UnOp.TheVariants as un
+use Rattle.core_tree.specs.declared.statements.BinOp.TheVariants as bin
+use Rattle.core_tree.specs.declared.statements.CmpOp.TheVariants as cmp
 use Rattle.hs_base.specs.Access as access
-use Rattle.hs_base.specs.Access.{Refusal, Trapped, ReadsDead, Place, if_so, access_in, access_integer, access_pointer, range_at, bytes_of, overlaid, with_object, copy, copy_between, may_copy, may_set, cuts_slot, same_numbers, distances, filled, set_bytes, slots_below, slots_within}
-use Rattle.hs_base.specs.Numbers.{low_bits, width}
-use Rattle.hs_base.specs.Object.{Object, object_at, no_object, is_dead}
-use Rattle.hs_base.specs.AccessEquations.{length-bytes_of}
-use Rattle.object_meaning.specs.objects.Values.{is_stale}
-use Rattle.object_meaning.specs.objects.Memory.{loaded, loaded_pointer, stored, stored_pointer, pointers_in_range, copied}
-use Rattle.meaning_laws.specs.objects.GoodEquations.{is_within}
-use Rattle.meaning_laws.proofs.dangling.Alive.{at_set}
-use Rattle.meaning_laws.proofs.dangling.Touching.{Done, trapped, then_done, so_done, so_skipped}
-use Rattle.meaning_laws.specs.code.Objects.{IsThere, IsPointer, IsByte, IsObject, AreObjects}
-use Rattle.meaning_laws.proofs.soundness.Lists.{overlaid_length, overlaid_all, all_or}
-use Rattle.meaning_laws.proofs.soundness.Numbers.{IsInteger, wrapped_number}
-use Rattle.meaning_laws.proofs.soundness.Becoming.{Grows, Alike, alike_same, alike_grows, not_stale, pointer_grows}
-use Rattle.meaning_laws.proofs.soundness.Pointing.{IsAddress}
-use Rattle.meaning_laws.proofs.soundness.SlotCounts.{below_within, same_count}
+
+-- Objects become others, and some of them die: what stays as it is.
+
+-- the objects of some births may die; each other that was made stays as it is but for its bytes, its pointers and a free of it
+pub record Becomes (old new : List Object) (dying : List ℕ) : Type 0 where
+  pub longer : length old ≤ length new
+  pub sort : (b : ℕ) → b < length old → (object_at new b).sort ≡ (object_at old b).sort
+  pub size : (b : ℕ) → b < length old → (object_at new b).size ≡ (object_at old b).size
+  pub slots : (b : ℕ) → b < length old → (object_at new b).slots ≡ (object_at old b).slots
+  pub there : (b : ℕ) → IsThere old b → is_among dying b ≡ false → IsThere new b
+  pub live : (b : ℕ) → is_heap (object_at old b).sort ≡ false → (object_at old b).standing ≡ Live → is_among dying b ≡ false → (object_at new b).standing ≡ Live
+  pub dead : (b : ℕ) → b < length old → (object_at old b).standing ≡ Dead → (object_at new b).standing ≡ Dead
+
+-- none of them dies
+abbrev pub Grows : List Object → List Object → Type 0
+Grows old new = Becomes old new []
+
+pub grows_same : (objects : List Object) → Grows objects objects
+grows_same objects = record {
+  longer = omega arith;
+  sort = λ b lt. refl;
+  size = λ b lt. refl;
+  slots = λ b lt. refl;
+  there = λ b h out. h;
+  live = λ b heap h out. h;
+  dead = λ b lt h. h;
+}
+
+-- the same objects but for bytes and pointers
+pub record Alike (old new : List Object) : Type 0 where
+  pub long : length new ≡ length old
+  pub sort : (b : ℕ) → (object_at new b).sort ≡ (object_at old b).sort
+  pub size : (b : ℕ) → (object_at new b).size ≡ (object_at old b).size
+  pub slots : (b : ℕ) → (object_at new b).slots ≡ (object_at old b).slots
+  pub standing : (b : ℕ) → (object_at new b).standing ≡ (object_at old b).standing
+
+pub alike_same : (objects : List Object) → Alike objects objects
+alike_same objects = record { long = refl; sort = λ b. refl; size = λ b. refl; slots = λ b. refl; standing = λ b. refl }
+
+-- none of them dies
+pub alike_grows : (old new : List Object) → Alike old new → Grows old new
+alike_grows old new a = record {
+  longer = omega (arith, a.long);
+  sort = λ b lt. a.sort b;
+  size = λ b lt. a.size b;
+  slots = λ b lt. a.slots b;
+  there = λ b h out. ap is_dead (a.standing b) ∙ h;
+  live = λ b heap h out. a.standing b ∙ h;
+  dead = λ b lt h. a.standing b ∙ h;
+}
+
+-- a pointer to none of those that die
+abbrev pub Spares : List ℕ → Pointer → Type 0
+Spares dying p = (b : ℕ) → is_among dying b ≡ true → is_pointer_to b p ≡ false
+
+pub none_dies : (p : Pointer) → Spares [] p
+none_dies p = λ b i. absurd (false≢true i)
+
+-- no object that was born before top and is not on the heap dies
+abbrev pub Apart : List Object → List ℕ → ℕ → Type 0
+Apart old dying top = (b : ℕ) → b < top → is_heap (object_at old b).sort ≡ false → is_among dying b ≡ false
+
+pub none_apart : (old : List Object) (top : ℕ) → Apart old [] top
+none_apart old top = λ b lt heap. refl
+
+-- what is live is not dead
+pub live_there : (objects : List Object) (b : ℕ) → (object_at objects b).standing ≡ Live → IsThere objects b
+live_there objects b h = ap is_dead h
+
+-- the test of a pointer that is not stale
+pub not_stale : (objects : List Object) (p : Pointer) → IsPointer objects p → is_stale objects p ≡ false
+not_stale objects pointer.Null h = refl
+not_stale objects (pointer.At b offset) h = h.0
+
+module _ (old new : List Object) (dying : List ℕ) (g : Becomes old new dying) where
+  -- a pointer to none of those that die stays one that is not stale
+  pub pointer_becomes : (p : Pointer) → IsPointer old p → Spares dying p → IsPointer new p
+  pointer_becomes pointer.Null h s = tt
+  pointer_becomes (pointer.At b offset) h s =
+      ⊎_elim
+      (λ dies. absurd (true≢false (sym (eq-eqb b b refl) ∙ s b dies)))
+      (λ lives. let same = g.size b (is_within old b h.0) in (g.there b h.0 lives, omega (arith, h.1, same)))
+      (cases_Bool (is_among dying b))
+
+  module _ (code : Code) where
+    -- the statics stay
+    pub statics_become : (top : ℕ) → length code.statics ≤ top → Apart old dying top → HasStatics code old → HasStatics code new
+    statics_become top long apart h k static e =
+        let s = h k static e in
+        let made = is_within old k (live_there old k s.live) in
+        let heap : is_heap (object_at old k).sort ≡ false = ap is_heap s.sort in
+        let within = slice_get_within code.statics k static e in
+        record {
+          live = g.live k heap s.live (apart k (omega arith) heap);
+          sort = g.sort k made ∙ s.sort;
+          size = g.size k made ∙ s.size;
+          slots = g.slots k made ∙ s.slots;
+        }
+
+    -- so do the memory locals of a frame that waits
+    pub locals_become : (entry : Entry) (top : ℕ) (frame : Frame) → top ≤ length old → Apart old dying top → HasLocals code old entry top frame → HasLocals code new entry top frame
+    locals_become entry top frame long apart h = record {
+      each = λ k layout e.
+          let l = h.each k layout e in
+          let b = frame.first_local + k in
+          let made = is_within old b (live_there old b l.live) in
+          let heap : is_heap (object_at old b).sort ≡ false = ap is_heap l.sort in
+          let within = slice_get_within entry.mems k layout e in
+          let below = h.below in
+          record {
+            live = g.live b heap l.live (apart b (omega arith) heap);
+            sort = g.sort b made ∙ l.sort;
+            size = g.size b made ∙ l.size;
+            slots = g.slots b made ∙ l.slots;
+          };
+      above = h.above;
+      below = h.below;
+      ended = λ b f k from before is.
+          let made : b < length old = omega arith in
+          g.dead b made (h.ended b f k from before (sym (g.sort b made) ∙ is));
+    }
+
+-- what is born is no memory local, or dead
+abbrev pub Born : List Object → List Object → Type 0
+Born old new = (b f k : ℕ) → length old ≤ b → b < length new → (object_at new b).sort ≡ Local f k → (object_at new b).standing ≡ Dead
+
+pub none_born : (old new : List Object) → length new ≤ length old → Born old new
+none_born old new short b f k from before is = absurd (omega arith)
+
+-- the memory locals of the frame that runs
+pub running_become : (code : Code) (old new : List Object) (dying : List ℕ) (g : Becomes old new dying) (entry : Entry) (frame : Frame) → Apart old dying (length old) → Born old new → HasLocals code old entry (length old) frame → HasLocals code new entry (length new) frame
+running_become code old new dying g entry frame apart born h =
+    let l = locals_become old new dying g code entry (length old) frame (omega arith) apart h in record {
+      each = l.each;
+      above = l.above;
+      below = omega (arith, l.below, g.longer);
+      ended = λ b f k from before is.
+          ⊎_elim (λ lt. l.ended b f k from lt is) (λ le. born b f k le before is) (cases_lt b (length old));
+    }
+
+-- where none dies every such pointer stays one
+pub pointer_grows : (old new : List Object) → Grows old new → (p : Pointer) → IsPointer old p → IsPointer new p
+pointer_grows old new g p h = pointer_becomes old new [] g p h (none_dies p)
+
+-- An operation on pointers that are not stale is never refused for want of life, and leaves objects whose pointers are not stale.
+
+-- What operations on integers answer is in range.
+
+-- what holds of an answer gives what is weaker
+pub done_weaker : {A : Type 0} (P Q : A → Type 0) → ((a : A) → P a → Q a) → (r : Result A Refusal) → Done P r → Done Q r
+done_weaker P Q f (Ok a) h = f a h
+done_weaker P Q f (Err e) h = h
+
+pub natural_number : (n : ℕ) → n < 2 ^ 64 → IsNumber (pos n)
+natural_number n h = (omega (arith, ints), omega (arith, ints))
+
+pub wrapped_number : (k : IntKind) (v : ℤ) → IsNumber (wrapped k v)
+wrapped_number I8 v = (omega (arith, ints, SFits-int_wrap w8 v), omega (arith, ints, SFits-int_wrap w8 v))
+wrapped_number U8 v = (omega (arith, ints, low_bits_lt 8 v), omega (arith, ints, low_bits_lt 8 v))
+wrapped_number I16 v = (omega (arith, ints, SFits-int_wrap w16 v), omega (arith, ints, SFits-int_wrap w16 v))
+wrapped_number U16 v = (omega (arith, ints, low_bits_lt 16 v), omega (arith, ints, low_bits_lt 16 v))
+wrapped_number I32 v = (omega (arith, ints, SFits-int_wrap w32 v), omega (arith, ints, SFits-int_wrap w32 v))
+wrapped_number U32 v = (omega (arith, ints, low_bits_lt 32 v), omega (arith, ints, low_bits_lt 32 v))
+wrapped_number I64 v = (omega (arith, ints, SFits-int_wrap w64 v), omega (arith, ints, SFits-int_wrap w64 v))
+wrapped_number U64 v = (omega (arith, ints, low_bits_lt 64 v), omega (arith, ints, low_bits_lt 64 v))
+
+pub unsigned_number : (v : ℤ) → IsNumber (unsigned v)
+unsigned_number v = natural_number (low_bits 64 v) (low_bits_lt 64 v)
+
+pub one_number : (op : UnOp) (k : IntKind) (a : ℤ) → IsNumber (on_one op k a)
+one_number un.Neg k a = wrapped_number k _
+one_number un.Not k a = wrapped_number k _
+
+abbrev pub IsInteger : Value → Type 0
+IsInteger v = IsOfSort (Some Integer) v
+
+-- an integer is no pointer, so it is none that is stale
+pub integer_is : (objects : List Object) (v : Value) → IsInteger v → IsOperand objects (Some Integer) v
+integer_is objects (value.Number n) h = (h, tt)
+integer_is objects (value.Pointer p) h = absurd h
+
+pub truth_is : (b : Bool) → IsInteger (truth b)
+truth_is true = natural_number 1 (omega arith)
+truth_is false = natural_number 0 (omega arith)
+
+divided_done : (kind : TrapKind) (d n : ℤ) → IsNumber n → Done IsInteger (or_traps kind (for_divisor d n))
+divided_done kind (pos zero) n h = trapped kind
+divided_done kind (pos (suc d)) n h = h
+divided_done kind (negsuc d) n h = h
+
+shifted_done : (kind : TrapKind) (f : ℕ → ℤ) → ((n : ℕ) → IsNumber (f n)) → (places : Option ℕ) → Done IsInteger (or_traps kind (option_map f places))
+shifted_done kind f h None = trapped kind
+shifted_done kind f h (Some n) = h n
+
+pub two_done : (op : BinOp) (k : IntKind) (a b : ℤ) → Done IsInteger (on_two op k a b)
+two_done bin.Add k a b = wrapped_number k _
+two_done bin.Sub k a b = wrapped_number k _
+two_done bin.Mul k a b = wrapped_number k _
+two_done bin.Div k a b = divided_done trap.Divide (wrapped k b) _ (wrapped_number k _)
+two_done bin.Rem k a b = divided_done trap.Divide (wrapped k b) _ (wrapped_number k _)
+two_done bin.And k a b = wrapped_number k _
+two_done bin.Or k a b = wrapped_number k _
+two_done bin.Xor k a b = wrapped_number k _
+two_done bin.Shl k a b = shifted_done trap.Shift _ (λ n. wrapped_number k _) (places_of k b)
+two_done bin.Shr k a b = shifted_done trap.Shift _ (λ n. wrapped_number k _) (places_of k b)
+
+-- What operations on pointers answer.
+
+module _ (objects : List Object) where
+  abbrev pub IsAddress : Value → Type 0
+  IsAddress v = IsOperand objects (Some Address) v
+
+  -- no operand is a stale pointer, and none that is left out
+  pub all_point : (sorts : List (Option Sort)) (values : List Value) → AreOperands objects sorts values → (k : ℕ) → IsPointer objects (pointer_at values k)
+  all_point sorts values h k =
+      zip_each (IsOperand objects) (λ v. IsPointer objects (pointer_in v)) (λ sort v is. is.1) sorts values (number (pos 0)) h tt k
+
+  cond_done : {A : Type 0} (P : A → Type 0) (test : Bool) (a : A) (kind : TrapKind) → (test ≡ true → P a) → Done P (cond test (Ok a) (Err (Trapped kind)))
+  cond_done P true a kind h = h refl
+  cond_done P false a kind h = trapped kind
+
+  within_done : (b : ℕ) (offset : ℤ) → IsThere objects b → Done IsAddress (within_object b (object_at objects b).size offset)
+  within_done b (pos offset) h =
+      let size = (object_at objects b).size in
+      cond_done IsAddress (nat_le offset size) (address (pointer.At b offset)) trap.Range (λ e. (tt, (h, leb-true offset size e)))
+  within_done b (negsuc n) h = trapped _
+
+  pub moved_done : (p : Pointer) (distance : ℤ) → IsPointer objects p → Done IsAddress (moved_by objects p distance)
+  moved_done pointer.Null distance h = cond_done IsAddress (is_zero distance) (address pointer.Null) trap.Null (λ e. (tt, tt))
+  moved_done (pointer.At b offset) distance h = within_done b _ h.0
+
+  offsets_done : (p q : Pointer) → Done Any (offsets p q)
+  offsets_done pointer.Null q = trapped _
+  offsets_done (pointer.At b offset) pointer.Null = trapped _
+  offsets_done (pointer.At b offset) (pointer.At c other) = cond_done Any (nat_eq b c) (offset, other) trap.Objects (λ e. tt)
+
+  pub difference_done : (p q : Pointer) (element : ℤ) → Done IsInteger (difference p q element)
+  difference_done p q element =
+      then_done Any IsInteger (offsets p q) _ (offsets_done p q) (λ both h. wrapped_number I32 _)
+
+  ordered_done : (op : CmpOp) (p q : Pointer) → Done IsInteger (ordered op p q)
+  ordered_done op p q =
+      then_done Any IsInteger (offsets p q) _ (offsets_done p q) (λ both h. truth_is (compared op (pos both.0) (pos both.1)))
+
+  pub compared_done : (op : CmpOp) (p q : Pointer) → Done IsInteger (pointers_compared op p q)
+  compared_done cmp.Eq p q = truth_is _
+  compared_done cmp.Ne p q = truth_is _
+  compared_done cmp.Lt p q = ordered_done cmp.Lt p q
+  compared_done cmp.Gt p q = ordered_done cmp.Gt p q
+  compared_done cmp.Le p q = ordered_done cmp.Le p q
+  compared_done cmp.Ge p q = ordered_done cmp.Ge p q
+
+-- Slots below an offset and within bytes from there.
+
+-- no slot is below an offset and within bytes from there
+apart : (s offset n : ℕ) (a : Bool) → nat_lt s offset ≡ a → (a ≡ false) ⊎ ((nat_le offset s && nat_le (s + 4) (offset + n)) ≡ false)
+apart s offset n false e = inl refl
+apart s offset n true e = let no : nat_le offset s ≡ false = grind (arith, nat_tests) in inr (rw no refl)
+
+one_more : (a b : Bool) (s most : ℕ) (xs ys : List ℕ) → (a ≡ false) ⊎ (b ≡ false) → length xs + length ys ≤ most → length (cond a (s ∷ xs) xs) + length (cond b (s ∷ ys) ys) ≤ most + 1
+one_more true true s most xs ys (inl e) h = absurd (cc)
+one_more true true s most xs ys (inr e) h = absurd (cc)
+one_more true false s most xs ys e h = omega arith
+one_more false true s most xs ys e h = omega arith
+one_more false false s most xs ys e h = omega arith
+
+pub below_within : (slots : List ℕ) (offset n : ℕ) → length (slots_below slots offset) + length (slots_within slots offset n) ≤ length slots
+below_within [] offset n = omega arith
+below_within (s ∷ slots) offset n =
+    let more = one_more (nat_lt s offset) (nat_le offset s && nat_le (s + 4) (offset + n)) s (length slots) (slots_below slots offset) (slots_within slots offset n) (apart s offset n (nat_lt s offset) refl) (below_within slots offset n) in
+    omega arith
+
+-- as many slots are within both ranges where they stand at the same distances
+same_length : (xs ys : List ℕ) → same_numbers xs ys ≡ true → length xs ≡ length ys
+same_length [] [] e = refl
+same_length [] (y ∷ ys) e = absurd (cc)
+same_length (x ∷ xs) [] e = absurd (cc)
+same_length (x ∷ xs) (y ∷ ys) e =
+    let rest = same_length xs ys (and_parts (nat_eq x y) (same_numbers xs ys) e).1 in omega arith
+
+pub same_count : (slots others : List ℕ) (to from n : ℕ) → same_numbers (distances slots to n) (distances others from n) ≡ true → length (slots_within slots to n) ≡ length (slots_within others from n)
+same_count slots others to from n e =
+    sym (length-map (slots_within slots to n) (λ s. s - to)) ∙ same_length (distances slots to n) (distances others from n) e
+    ∙ length-map (slots_within others from n) (λ s. s - from)
+
+-- An operation on pointers that are not stale is never refused for want of life, and leaves objects whose pointers are not stale.
 
 pub object_grows : (old new : List Object) → Grows old new → (o : Object) → IsObject old o → IsObject new o
 object_grows old new g o h = record {
@@ -222,3 +498,171 @@ module _ (objects : List Object) (whole : AreObjects objects) where
       let long : at.offset + length (replicate n byte) ≤ length o.bytes = omega (arith, length-replicate n byte, old.filled, reached.1) in
       let fits : place + length nulls ≤ length o.pointers = omega (arith, length-replicate many pointer.Null, old.each_slot, room) in
       so_done Changed (not (may_set o at.offset byte n)) _ _ (changed at.birth reached.0 (overlaid o.bytes at.offset (replicate n byte)) (overlaid o.pointers place nulls) (overlaid_length o.bytes at.offset (replicate n byte) long ∙ old.filled) (overlaid_all IsByte o.bytes at.offset (replicate n byte) old.bytes (All-replicate IsByte n byte small)) (overlaid_length o.pointers place nulls fits ∙ old.each_slot) (overlaid_all (IsPointer objects) o.pointers place nulls (slots_point at.birth reached.0) (All-replicate (IsPointer objects) many pointer.Null tt))))
+
+-- Strings and what is printed: never refused for want of life, and no longer than an object.
+
+less_than_one : IsNumber (negsuc 0)
+less_than_one = (omega (arith, ints), omega (arith, ints))
+
+module _ (objects : List Object) (whole : AreObjects objects) where
+  behind_leads : (p : Pointer) (i : ℕ) → Leads objects whole p → Leads objects whole (behind p i)
+  behind_leads pointer.Null i h = tt
+  behind_leads (pointer.At b offset) i h = h
+
+  byte_done : (p : Pointer) (i : ℕ) → Leads objects whole p → Done Any (byte_behind objects p i)
+  byte_done p i h =
+      then_done (Reaches objects whole 1) Any _ _ (access_integer_done objects whole (behind p i) 1 (behind_leads p i h)) (λ at reached. tt)
+
+  abbrev IsBelow : ℕ → List ℕ → Type 0
+  IsBelow most text = length text < most
+
+  with_byte_done : (byte most : ℕ) (rest : Result (List ℕ) Refusal) (b : Bool) → Done (IsBelow most) rest → Done (IsBelow (suc most)) (cond b (Ok []) (and_then rest (λ (bytes : List ℕ). Ok (byte ∷ bytes))))
+  with_byte_done byte most rest true h = omega arith
+  with_byte_done byte most rest false h =
+      then_done (IsBelow most) (IsBelow (suc most)) rest _ h (λ bytes lt. omega arith)
+
+  string_from_done : (p : Pointer) (i most : ℕ) → Leads objects whole p → Done (IsBelow most) (string_from objects p i most)
+  string_from_done p i zero h = trapped _
+  string_from_done p i (suc most) h =
+      then_done Any (IsBelow (suc most)) (byte_behind objects p i) _ (byte_done p i h) (λ byte _. with_byte_done byte most (string_from objects p (i + 1) most) (nat_eq byte 0) (string_from_done p (i + 1) most h))
+
+  pub string_done : (p : Pointer) → IsPointer objects p → Done (λ (text : List ℕ). length text < 2 ^ 64) (string_at objects p)
+  string_done pointer.Null h =
+      done_weaker (IsBelow 1) (IsBelow (2 ^ 64)) (λ text lt. omega arith) (string_from objects pointer.Null 0 1) (string_from_done pointer.Null 0 1 tt)
+  string_done (pointer.At b offset) h =
+      let size = (object_at objects b).size in
+      let small = (object_is objects whole b (is_within objects b h.0)).size in
+      done_weaker (IsBelow (size + 1)) (IsBelow (2 ^ 64)) (λ text lt. omega arith) (string_from objects (pointer.At b offset) 0 (size + 1)) (string_from_done (pointer.At b offset) 0 (size + 1) h.0)
+
+  order_cond : (a b c : Bool) (x y z : ℤ) (rest : Result ℤ Refusal) → IsNumber x → IsNumber y → IsNumber z → Done IsNumber rest → Done IsNumber (cond a (Ok x) (cond b (Ok y) (cond c (Ok z) rest)))
+  order_cond true b c x y z rest i j k h = i
+  order_cond false true c x y z rest i j k h = j
+  order_cond false false true x y z rest i j k h = k
+  order_cond false false false x y z rest i j k h = h
+
+  order_from_done : (p q : Pointer) (i most : ℕ) → Leads objects whole p → Leads objects whole q → Done IsNumber (order_from objects p q i most)
+  order_from_done p q i zero h j = trapped _
+  order_from_done p q i (suc most) h j =
+      then_done Any IsNumber (byte_behind objects p i) _ (byte_done p i h) (λ a _. then_done Any IsNumber (byte_behind objects q i) _ (byte_done q i j) (λ b _. order_cond (nat_lt a b) (nat_lt b a) (nat_eq a 0) _ _ _ (order_from objects p q (i + 1) most) less_than_one (natural_number 1 (omega arith)) (natural_number 0 (omega arith)) (order_from_done p q (i + 1) most h j)))
+
+  pub order_done : (p q : Pointer) → IsPointer objects p → IsPointer objects q → Done IsNumber (order_of objects p q)
+  order_done p q h j =
+      order_from_done p q 0 (room_at objects p) (leads objects whole p h) (leads objects whole q j)
+
+  -- Formats
+
+  -- none of some values is a stale pointer
+  abbrev pub AllPoint : List Value → Type 0
+  AllPoint values = (k : ℕ) → IsPointer objects (pointer_at values k)
+
+  item_done : (piece : Piece) (values : List Value) → AllPoint values → Done Any (item_text objects piece values)
+  item_done (Plain text) values h = tt
+  item_done (Item left zeros width conv kind) values h =
+      item_cond (nat_eq conv 115) _ _ (then_done (λ (text : List ℕ). length text < 2 ^ 64) Any (string_at objects (pointer_at values 0)) _ (string_done (pointer_at values 0) (h 0)) (λ text _. tt)) tt
+
+  dropped : (values : List Value) → AllPoint values → AllPoint (drop 1 values)
+  dropped [] h = h
+  dropped (v ∷ values) h = λ k. h (suc k)
+
+  behind_values : (piece : Piece) (values : List Value) → AllPoint values → AllPoint (arguments_behind piece values)
+  behind_values (Plain text) values h = h
+  behind_values (Item left zeros width conv kind) values h = dropped values h
+
+  pub printed_lives : (pieces : List Piece) (values : List Value) → AllPoint values → Lives (printed objects pieces values).refused
+  printed_lives [] values h = tt
+  printed_lives (piece ∷ pieces) values h =
+      front_lives (item_text objects piece values) _ (item_done piece values h) (printed_lives pieces (arguments_behind piece values) (behind_values piece values h))
+
+-- The queue: what is queued by a free.
+
+-- what is queued is not dead
+pub queued_lives : (objects : List Object) (b : ℕ) → is_queued (object_at objects b).standing ≡ true → is_dead (object_at objects b).standing ≡ false
+queued_lives objects b q = standing_lives (object_at objects b).standing q
+
+-- the objects and the queue are as the holders of an object want them
+pub sane_of : (objects : List Object) (queue : List ℕ) → AreObjects objects → IsQueue objects queue → Sane objects queue
+sane_of objects queue whole q = record {
+  slots = λ b alive k.
+      not_stale objects (get_or (object_at objects b).pointers k pointer.Null) (all_or (IsPointer objects) (object_at objects b).pointers k pointer.Null (slots_point objects whole b alive) tt);
+  queued = λ b is. (q.exact b ∙ is, (object_is objects whole b (is_within objects b (queued_lives objects b is))).heap is);
+  in_queue = λ b i. sym (q.exact b) ∙ i;
+}
+
+-- other bytes and pointers leave the queue
+pub alike_queue : (old new : List Object) (queue : List ℕ) → Alike old new → IsQueue old queue → IsQueue new queue
+alike_queue old new queue a q =
+    record { exact = λ b. q.exact b ∙ ap is_queued (sym (a.standing b)); once = q.once }
+
+-- One more
+
+all_push : (P : ℕ → Type 0) (xs : List ℕ) (x : ℕ) → AllByRecursion P xs → P x → AllByRecursion P (xs ++ x ∷ [])
+all_push P [] x h p = (p, tt)
+all_push P (y ∷ xs) x h p = (h.0, all_push P xs x h.1 p)
+
+-- a birth that is not among them comes last
+distinct_push : (queue : List ℕ) (b : ℕ) → IsDistinct nat_eq queue → is_among queue b ≡ false → IsDistinct nat_eq (queue ++ b ∷ [])
+unfolding IsDistinct
+distinct_push [] b h out = (tt, tt)
+distinct_push (c ∷ queue) b h out =
+    let both = or_parts (nat_eq c b) (is_among queue b) out in
+    (all_push (λ y. nat_eq c y ≡ false) queue b h.0 both.0, distinct_push queue b h.1 both.1)
+
+pub distinct_none : IsDistinct nat_eq []
+unfolding IsDistinct
+distinct_none = tt
+
+-- it is the only one more
+among_other : (queue : List ℕ) (b c : ℕ) → (c ≡ b → ⊥) → is_among (queue ++ b ∷ []) c ≡ is_among queue c
+among_other queue b c n =
+    same_bool _ _ (λ i. ⊎_elim (λ old. old) (λ e. absurd (n e)) (among_cases queue b c i)) (λ i. among_left queue (b ∷ []) c i)
+
+-- a heap object that is not queued is freed
+module _ (objects : List Object) (whole : AreObjects objects) (queue : List ℕ) (q : IsQueue objects queue) (b line : ℕ) (there : IsThere objects b) (heap : is_heap (object_at objects b).sort ≡ true) (free : is_queued (object_at objects b).standing ≡ false) where
+  abbrev with_line : Object
+  with_line = record (object_at objects b) { standing = Queued line }
+
+  abbrev freed : List Object
+  freed = queued objects b line
+
+  pub queued_grows : Grows objects freed
+  queued_grows =
+      let lt = is_within objects b there in record {
+        longer = omega (arith, length-set objects b with_line);
+        sort = λ c h. at_set (λ (x : Object). x.sort ≡ (object_at objects c).sort) objects b c with_line lt (λ e. ap (λ k. (object_at objects k).sort) (sym e)) (λ n. refl);
+        size = λ c h. at_set (λ (x : Object). x.size ≡ (object_at objects c).size) objects b c with_line lt (λ e. ap (λ k. (object_at objects k).size) (sym e)) (λ n. refl);
+        slots = λ c h. at_set (λ (x : Object). x.slots ≡ (object_at objects c).slots) objects b c with_line lt (λ e. ap (λ k. (object_at objects k).slots) (sym e)) (λ n. refl);
+        there = λ c h out. at_set (λ (x : Object). is_dead x.standing ≡ false) objects b c with_line lt (λ e. refl) (λ n. h);
+        live = λ c other h out. at_set (λ (x : Object). x.standing ≡ Live) objects b c with_line lt
+            (λ e. absurd (true≢false (sym heap ∙ ap (λ k. is_heap (object_at objects k).sort) (sym e) ∙ other)))
+            (λ n. h);
+        dead = λ c within h. at_set (λ (x : Object). x.standing ≡ Dead) objects b c with_line lt
+            (λ e. absurd (true≢false (sym (ap is_dead h) ∙ ap (λ k. is_dead (object_at objects k).standing) e ∙ there)))
+            (λ n. h);
+      }
+
+  pub queued_born : Born objects freed
+  queued_born = none_born objects freed (omega (arith, length-set objects b with_line))
+
+  -- its content is the same
+  pub queued_objects : AreObjects freed
+  queued_objects =
+      let old = object_is objects whole b (is_within objects b there) in
+      let is : IsObject objects with_line = record {
+        size = old.size;
+        filled = old.filled;
+        bytes = old.bytes;
+        slots = old.slots;
+        each_slot = old.each_slot;
+        pointers = λ alive. slots_point objects whole b there;
+        heap = λ i. heap;
+      } in
+      All-set (IsObject freed) objects b with_line (object_grows objects freed queued_grows with_line is) (All-weaker (IsObject objects) (IsObject freed) (object_grows objects freed queued_grows) objects whole)
+
+  pub queued_queue : IsQueue freed (queue ++ b ∷ [])
+  queued_queue =
+      let lt = is_within objects b there in record {
+        exact = λ c. at_set (λ (x : Object). is_among (queue ++ b ∷ []) c ≡ is_queued x.standing) objects b c with_line lt
+            (λ e. subst (λ k. is_among (queue ++ b ∷ []) k ≡ true) (sym e) (among_last queue b))
+            (λ n. among_other queue b c n ∙ q.exact c);
+        once = distinct_push queue b q.once (q.exact b ∙ free);
+      }

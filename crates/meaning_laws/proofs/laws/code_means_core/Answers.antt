@@ -1,4 +1,4 @@
-use Rattle.meaning_laws.proofs.agreement.Meanings.{means_core, tested_means_core}
+use Rattle.meaning_laws.proofs.agreement.Beginning.{means_core, tested_means_core}
 use Rattle.meaning_laws.proofs.laws.code_means_core.Goals as goal
 
 pub returns-clause-meaning : goal.returns-clause-meaning

@@ -1,4 +1,4 @@
-use Rattle.meaning_laws.proofs.dangling.Beginning.{begins}
+use Rattle.meaning_laws.proofs.dangling.Standing.{begins}
 use Rattle.meaning_laws.proofs.laws.core_begins_well.Goals as goal
 
 pub returns : goal.returns

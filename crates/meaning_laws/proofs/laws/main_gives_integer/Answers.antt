@@ -1,4 +1,4 @@
-use Rattle.meaning_laws.proofs.soundness.Answering.{main_gives}
+use Rattle.meaning_laws.proofs.soundness.Stepping.{main_gives}
 use Rattle.meaning_laws.proofs.laws.main_gives_integer.Goals as goal
 
 pub returns : goal.returns

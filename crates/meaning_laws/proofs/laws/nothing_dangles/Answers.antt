@@ -1,4 +1,4 @@
-use Rattle.meaning_laws.proofs.dangling.Kept.{kept}
+use Rattle.meaning_laws.proofs.dangling.Stands.{kept}
 use Rattle.meaning_laws.proofs.laws.nothing_dangles.Goals as goal
 
 pub returns : goal.returns

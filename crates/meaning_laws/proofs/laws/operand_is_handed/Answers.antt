@@ -1,4 +1,4 @@
-use Rattle.meaning_laws.proofs.soundness.Answering.{hands_operand}
+use Rattle.meaning_laws.proofs.soundness.Stepping.{hands_operand}
 use Rattle.meaning_laws.proofs.laws.operand_is_handed.Goals as goal
 
 pub returns : goal.returns

@@ -1,4 +1,4 @@
-use Rattle.meaning_laws.proofs.soundness.Answering.{has_operands}
+use Rattle.meaning_laws.proofs.soundness.Stepping.{has_operands}
 use Rattle.meaning_laws.proofs.laws.operands_are_there.Goals as goal
 
 pub returns : goal.returns

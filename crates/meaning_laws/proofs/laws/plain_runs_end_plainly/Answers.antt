@@ -1,5 +1,4 @@
-use Rattle.meaning_laws.proofs.dangling.Falls.{ends}
-use Rattle.meaning_laws.proofs.dangling.Forward.{all_forward}
+use Rattle.meaning_laws.proofs.dangling.Falls.{ends, all_forward}
 use Rattle.meaning_laws.proofs.dangling.Plain.{plain_end}
 use Rattle.meaning_laws.proofs.dangling.Stands.{never_dangles}
 use Rattle.meaning_laws.proofs.laws.plain_runs_end_plainly.Goals as goal

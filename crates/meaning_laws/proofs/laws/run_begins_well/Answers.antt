@@ -1,4 +1,4 @@
-use Rattle.meaning_laws.proofs.soundness.Beginning.{begins_well}
+use Rattle.meaning_laws.proofs.soundness.Falling.{begins_well}
 use Rattle.meaning_laws.proofs.laws.run_begins_well.Goals as goal
 
 pub returns : goal.returns

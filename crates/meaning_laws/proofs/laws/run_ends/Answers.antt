@@ -1,5 +1,4 @@
-use Rattle.meaning_laws.proofs.dangling.Falls.{ends}
-use Rattle.meaning_laws.proofs.dangling.Forward.{all_forward}
+use Rattle.meaning_laws.proofs.dangling.Falls.{ends, all_forward}
 use Rattle.meaning_laws.proofs.dangling.Stands.{never_dangles}
 use Rattle.meaning_laws.proofs.laws.run_ends.Goals as goal
 

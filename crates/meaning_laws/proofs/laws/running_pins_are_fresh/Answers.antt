@@ -1,4 +1,4 @@
-use Rattle.meaning_laws.proofs.soundness.Counted.{running_fresh}
+use Rattle.meaning_laws.proofs.soundness.Frames.{running_fresh}
 use Rattle.meaning_laws.proofs.laws.running_pins_are_fresh.Goals as goal
 
 pub returns : goal.returns

@@ -1,4 +1,4 @@
-use Rattle.meaning_laws.proofs.dangling.Acting.{statement_made}
+use Rattle.meaning_laws.proofs.dangling.Standing.{statement_made}
 use Rattle.meaning_laws.proofs.laws.statement_is_made.Goals as goal
 
 pub returns : goal.returns

@@ -1,5 +1,4 @@
-use Rattle.meaning_laws.proofs.dangling.Falls.{step_by_falls}
-use Rattle.meaning_laws.proofs.dangling.Forward.{all_forward}
+use Rattle.meaning_laws.proofs.dangling.Falls.{step_by_falls, all_forward}
 use Rattle.meaning_laws.proofs.laws.statement_leaves_less.Goals as goal
 
 pub returns : goal.returns

@@ -1,4 +1,4 @@
-use Rattle.meaning_laws.proofs.dangling.Acting.{step_by_stays}
+use Rattle.meaning_laws.proofs.dangling.Standing.{step_by_stays}
 use Rattle.meaning_laws.proofs.laws.statement_stays_good.Goals as goal
 
 pub returns : goal.returns

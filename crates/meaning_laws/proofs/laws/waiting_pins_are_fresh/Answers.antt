@@ -1,4 +1,4 @@
-use Rattle.meaning_laws.proofs.soundness.Counted.{waiting_fresh}
+use Rattle.meaning_laws.proofs.soundness.Frames.{waiting_fresh}
 use Rattle.meaning_laws.proofs.laws.waiting_pins_are_fresh.Goals as goal
 
 pub returns : goal.returns
