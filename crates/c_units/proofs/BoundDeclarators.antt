@@ -1,25 +1,16 @@
 -- A declarator as it stands in the program: with another name, and with the same parameters.
-use Rattle.std.proofs.Common.{◌≡◌, ℕ, zero, suc, Bool, true, false, if◌then◌else◌, List, [], ◌∷◌, ◌++◌, replicate, Option, Some, None, option_map, refl, ap, ap₂, sym, subst, subst₂, ◌∙◌}
+use Rattle.c_units.proofs.Words.Std.{Bool, List, None, Option, Some, [], ap, ap₂, false, if◌then◌else◌, option_map, refl, replicate, subst, subst₂, suc, sym, true, zero, ℕ, ◌++◌, ◌∙◌, ◌∷◌, ◌≡◌}
+use Rattle.c_units.proofs.Words.Trees.{At, Base, Declarator, Form, Item, Leaf, Node, Part, Place, Row_of-Suffix, Tree, Trees, Word, base_tree, count, declarator_tree, end_of-Suffix, first_list, first_name, is_scope, key, leads_to_name, more_of-Suffix, name_among, name_of, none, params_among, params_of, places, shape, suffix_params, suffix_tree, suffix_trees, word_name, ◌▹◌}
+use Rattle.c_units.proofs.Words.Units.{Names, Scope, after, after_all, all_renamed, all_with_name, behind, left_part, made, renamed, with_name, word_as}
 use Rattle.c_tree.specs.declared.word.Keyword.TheVariants as k
-use Rattle.c_tree.specs.declared.tree.Declarator.{Declarator, Row_of-Suffix, end_of-Suffix, more_of-Suffix}
 use Rattle.c_tree.specs.declared.tree.Declarator.TheVariants as d
-use Rattle.c_tree.specs.declared.tree.Base.{Base}
 use Rattle.c_tree.specs.declared.tree.Base.TheVariants as b
 use Rattle.c_tree.specs.declared.tree.SuffixKind.TheVariants as s
-use Rattle.c_tree.specs.Words.{Word}
 use Rattle.c_tree.specs.Words as w
-use Rattle.c_tree.specs.Forms.{Form}
 use Rattle.c_tree.specs.Forms as f
-use Rattle.c_tree.specs.Places.{Place}
 use Rattle.c_tree.specs.Places as p
-use Rattle.c_tree.specs.Tree.{Tree, Trees, Leaf, At, Node, none, ◌▹◌, count}
-use Rattle.c_tree.specs.Grammar.{Item, Part, key, shape}
-use Rattle.c_tree.specs.Scopes.{word_name, first_name, first_list, name_of, name_among, leads_to_name, params_of, params_among, suffix_params, is_scope, places}
-use Rattle.c_tree.specs.View.{declarator_tree, base_tree, suffix_tree, suffix_trees}
-use Rattle.c_units.specs.Names.{Names, behind, renamed, all_renamed, made}
 use Rattle.c_units.specs.Names as n
-use Rattle.c_units.specs.Externals.{with_name, all_with_name, word_as}
-use Rattle.c_units.specs.Binding.{Scope, left, left_part, entered, after, after_all}
+use Rattle.c_units.specs.Binding.{left, entered}
 
 -- the same name for a declarator that has one
 abbrev pub named_so : List ℕ → Option (List ℕ) → Option (List ℕ)

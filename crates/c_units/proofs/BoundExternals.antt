@@ -1,28 +1,16 @@
 -- In a unit as it stands in the program each name is bound to what it is bound to in the unit.
-use Rattle.std.proofs.Common.{◌≡◌, ◌||◌, ℕ, Bool, true, false, if◌then◌else◌, map, List, [], ◌∷◌, Option, Some, None, option_map, refl, ap, ap₂, sym, subst, subst₂, ◌∙◌}
-use Rattle.c_tree.specs.declared.tree.Declarator.{Declarator}
-use Rattle.c_tree.specs.declared.statement.Init.{Init}
-use Rattle.c_tree.specs.declared.statement.Decl.{Decl}
+use Rattle.c_units.proofs.Words.Std.{Bool, List, None, Option, Some, [], ap, ap₂, false, if◌then◌else◌, map, option_map, refl, subst, subst₂, sym, true, ℕ, ◌||◌, ◌∙◌, ◌∷◌, ◌≡◌}
+use Rattle.c_units.proofs.Words.Trees.{At, Decl, Declarator, Init, Leaf, Node, Place, Tree, Trees, body_view, count, decl_view, declarator_tree, entry_view, first_list, has_typedef, init_view, leads_to_name, name_of, none, params_among, params_of, places, shape, spec_tree, specs_view, suffix_params, trees, unit_view, word_is_typedef, ◌▹◌}
+use Rattle.c_units.proofs.Words.Units.{Binding, Declaration, Defined, HasNoDots, HaveNoDots, Held, Inner, IsWithoutDot, Known, Names, Role, Scope, UnitsKeepBindings, Use, after, after_declarator, after_entries, after_external, all_renamed, before_declarator, behind, behind_declarator, behind_entries, behind_external, declared_as, each_said, each_uses, has_dot, hold, made, name_as, name_by, named_as, no_scope, own_names, renamed, renamed_declarator, renamed_entries, renamed_external, role_of, suffix_of, trees_of, unit_names, use_as, with_name}
 use Rattle.c_tree.specs.declared.statement.Decl.TheVariants as d
 use Rattle.c_tree.specs.Forms as f
-use Rattle.c_tree.specs.Places.{Place}
 use Rattle.c_tree.specs.Places as p
-use Rattle.c_tree.specs.Tree.{Tree, Trees, Leaf, At, Node, none, ◌▹◌, count}
-use Rattle.c_tree.specs.Grammar.{shape}
-use Rattle.c_tree.specs.Scopes.{word_is_typedef, first_list, name_of, params_of, params_among, suffix_params, leads_to_name, has_typedef, places}
-use Rattle.c_tree.specs.View.{declarator_tree, spec_tree}
-use Rattle.c_tree.specs.StatementView.{trees, init_view, entry_view, decl_view, specs_view, body_view, unit_view}
-use Rattle.c_units.specs.declared.mention.Role.{Role}
-use Rattle.c_units.specs.declared.mention.Role.TheVariants.{Defined}
-use Rattle.c_units.specs.Names.{Known, Names, name_by, behind, all_behind, renamed, all_renamed, made}
 use Rattle.c_units.specs.Names as n
-use Rattle.c_units.specs.Externals.{with_name, before_declarator, behind_declarator, named_as, renamed_declarator, role_of, behind_entries, renamed_entries, behind_external, renamed_external, each_said, own_names, suffix_of, unit_names}
 use Rattle.c_units.specs.Externals as merging
-use Rattle.c_units.specs.Merge.{trees_of}
-use Rattle.c_units.specs.Binding.{Declaration, Held, Use, Scope, hold, left_scope, after, declared_as, after_declarator, after_entries, inside_params, after_external, each_uses, no_scope}
-use Rattle.c_units.specs.KeptBindings.{has_dot, IsWithoutDot, HasNoDots, HaveNoDots, name_as, use_as, UnitsKeepBindings}
-use Rattle.c_units.proofs.BoundNames.{ArePlain, binding_as, same_name}
-use Rattle.c_units.proofs.BoundTrees.{Like, Knows, Told, made_node, name_same, name_plain, knows_mention, knows_part, part_like, part_plain, tree_like, parts_like, tree_known, parts_known, tree_plain, parts_plain, tree_told}
+use Rattle.c_units.specs.Binding.{inside_params}
+use Rattle.c_units.proofs.BoundNames.{binding_as, same_name, Quiet, Agree, scope_opens, scope_ends, keeps_quiet, keeps_all}
+use Rattle.c_units.proofs.BoundTrees.{made_node, name_same, name_plain}
+use Rattle.c_units.proofs.Walks.{World, no_dots, tree_kept, parts_kept}
 use Rattle.c_units.proofs.BoundDeclarators.{Keeps, AreRenamed, named_so, name_so, declarator_kept}
 
 typedef_by : (tree : Tree) (rest : Trees) (form : f.Form) (parts : Trees) → tree ≡ Node form parts → has_typedef (tree ▹ rest) ≡ has_typedef rest
@@ -76,18 +64,15 @@ mutual
   among_plain (Node form parts ▹ rest) h =
       first_params (params_of (Node form parts)) (params_among rest) (params_plain (Node form parts) h.0) (among_plain rest h.1)
 
-module _ (own : List (List ℕ)) (suffix : List ℕ) (dot : has_dot suffix ≡ true) where
-  -- what the merge knows, the scope of the unit, and that of the program
-  abbrev Agree : Names → Scope → Scope → Type 0
-  Agree x s t = Knows own suffix x s × Like own suffix s t × ArePlain s.held × Told own suffix s t
+mention_quiet : (own : List (List ℕ)) (suffix : List ℕ) (binding : Binding) (role : Role) (name : List ℕ) (line : ℕ) (x : Names) (s t : Scope) →
+    Agree own suffix x s t → Agree own suffix (n.mention binding role name line x) s t
+mention_quiet own suffix Inner role name line x s t h = h
+mention_quiet own suffix binding role name line x s t h = h
 
-  tree_agree : (tree : Tree) (x : Names) (s t : Scope) → HasNoDots tree → Agree x s t → Agree (behind tree x) (after tree s) (after (renamed tree x) t)
-  tree_agree tree x s t d h = (
-    tree_known own suffix tree x s h.0,
-    tree_like own suffix tree x s t h.1,
-    tree_plain tree s d h.2,
-    tree_told own suffix dot tree x s t d h.0 h.1 h.2 h.3,
-  )
+module _ (own : List (List ℕ)) (suffix : List ℕ) (dot : has_dot suffix ≡ true) where
+  tree_agree : (tree : Tree) (x : Names) (s t : Scope) → HasNoDots tree → Agree own suffix x s t → Agree own suffix (behind tree x) (after tree s) (after (renamed tree x) t)
+  unfolding HaveNoDots
+  tree_agree tree x s t d h = tree_kept no_dots (keeps_all own suffix dot) tree none (record { by = x; names = x; scope = s; known = x; held = t }) (d, tt) h
 
   -- a role is one of a typedef name, or of an object or a function
   abbrev IsRole : Role → Bool → Type 0
@@ -100,20 +85,20 @@ module _ (own : List (List ℕ)) (suffix : List ℕ) (dot : has_dot suffix ≡ t
 
   -- a declarator of a name
   named_agree : (declarator : Declarator) (role : Role) (typedef : Bool) (line : ℕ) (name : List ℕ) (x : Names) (s t : Scope) → IsRole role typedef →
-      HasNoDots (declarator_tree declarator) → name_of (declarator_tree declarator) ≡ Some name → Agree x s t →
+      HasNoDots (declarator_tree declarator) → name_of (declarator_tree declarator) ≡ Some name → Agree own suffix x s t →
       let tree = declarator_tree declarator in
       let y = n.mention (merging.binding_as role x.own name) role name line x in
       let new = with_name (name_by (merging.binding_as role x.own name) x.suffix name) (renamed tree y) in
-      Agree (merging.declared_as (Some name) role x.own (behind tree y)) (after_declarator typedef tree s) (after_declarator typedef new t)
+      Agree own suffix (merging.declared_as (Some name) role x.own (behind tree y)) (after_declarator typedef tree s) (after_declarator typedef new t)
   named_agree declarator role typedef line name x s t fits d e h =
       let tree : Tree = declarator_tree declarator in
       let y : Names = n.mention (merging.binding_as role x.own name) role name line x in
-      let k : Knows own suffix y s = knows_mention own suffix (merging.binding_as role x.own name) role name line x s h.0 in
-      let g : Agree (behind tree y) (after tree s) (after (renamed tree y) t) = tree_agree tree y s t d (k, h.1, h.2, h.3) in
+      let g : Agree own suffix (behind tree y) (after tree s) (after (renamed tree y) t) =
+      tree_agree tree y s t d (mention_quiet own suffix (merging.binding_as role x.own name) role name line x s t h) in
       let new : List ℕ = name_by (merging.binding_as role x.own name) x.suffix name in
       let kind : Declaration = declared_as typedef in
       let is : new ≡ name_as own suffix (Some kind) name =
-      ap₂ (λ (names : List (List ℕ)) (end : List ℕ). name_by (merging.binding_as role names name) end name) h.0.0 h.0.1
+      ap₂ (λ (names : List (List ℕ)) (end : List ℕ). name_by (merging.binding_as role names name) end name) h.0.0.0 h.0.0.1
       ∙ ap (λ (b : _). name_by b suffix name) (fits own name) ∙ same_name own suffix kind name in
       let called : name_of (with_name new (renamed tree y)) ≡ Some new =
       name_so new (renamed tree y) ∙ ap (named_so new) (name_same tree y ∙ e) in
@@ -121,34 +106,36 @@ module _ (own : List (List ℕ)) (suffix : List ℕ) (dot : has_dot suffix ≡ t
       ap₂ (λ (o : Option (List ℕ)) (u : Scope). hold o kind u) called ((declarator_kept declarator new y).2 t) in
       let here : after_declarator typedef tree s ≡ hold (Some name) kind (after tree s) =
       ap (λ (o : Option (List ℕ)). hold o kind (after tree s)) e in
-      subst₂ (λ (u v : Scope). Agree (merging.declared_as (Some name) role x.own (behind tree y)) u v) (sym here) (sym there) (
+      subst₂ (λ (u v : Scope). Agree own suffix (merging.declared_as (Some name) role x.own (behind tree y)) u v) (sym here) (sym there) (
         (
-          g.0.0,
-          g.0.1,
-          ap₂ (λ (b : _) (l : List Known). record { name = name; binding = b } ∷ l)
-              (ap (λ (names : List (List ℕ)). merging.binding_as role names name) h.0.0 ∙ fits own name) g.0.2,
-          g.0.3,
+          (
+            g.0.0.0,
+            g.0.0.1,
+            ap₂ (λ (b : _) (l : List Known). record { name = name; binding = b } ∷ l)
+                (ap (λ (names : List (List ℕ)). merging.binding_as role names name) h.0.0.0 ∙ fits own name) g.0.0.2,
+            g.0.0.3,
+          ),
+          (ap₂ (λ (z : List ℕ) (l : List Held). record { name = z; declaration = kind } ∷ l) is g.0.1.0, g.0.1.1, g.0.1.2),
+          (subst IsWithoutDot e (name_plain tree d), g.0.2),
         ),
-        (ap₂ (λ (z : List ℕ) (l : List Held). record { name = z; declaration = kind } ∷ l) is g.1.0, g.1.1, g.1.2),
-        (subst IsWithoutDot e (name_plain tree d), g.2),
-        g.3,
+        g.1,
       )
 
   nameless_agree : (tree : Tree) (typedef : Bool) (x : Names) (s t : Scope) →
-      HasNoDots tree → name_of tree ≡ None → Agree x s t → Agree (behind tree x) (after_declarator typedef tree s) (after_declarator typedef (renamed tree x) t)
+      HasNoDots tree → name_of tree ≡ None → Agree own suffix x s t → Agree own suffix (behind tree x) (after_declarator typedef tree s) (after_declarator typedef (renamed tree x) t)
   nameless_agree tree typedef x s t d e h =
       let kind : Declaration = declared_as typedef in
-      subst₂ (λ (u v : Scope). Agree (behind tree x) u v)
+      subst₂ (λ (u v : Scope). Agree own suffix (behind tree x) u v)
       (sym (ap (λ (o : Option (List ℕ)). hold o kind (after tree s)) e))
       (sym (ap (λ (o : Option (List ℕ)). hold o kind (after (renamed tree x) t)) (name_same tree x ∙ e)))
       (tree_agree tree x s t d h)
 
   declarator_by : (found : Option (List ℕ)) (declarator : Declarator) (role : Role) (typedef : Bool) (line : ℕ) (x : Names) (s t : Scope) → IsRole role typedef →
-      HasNoDots (declarator_tree declarator) → name_of (declarator_tree declarator) ≡ found → Agree x s t →
+      HasNoDots (declarator_tree declarator) → name_of (declarator_tree declarator) ≡ found → Agree own suffix x s t →
       let tree = declarator_tree declarator in
       let y = before_declarator found role line x in
       let new = named_as found role (renamed tree y) x in
-      Agree (merging.declared_as found role x.own (behind tree y)) (after_declarator typedef tree s) (after_declarator typedef new t)
+      Agree own suffix (merging.declared_as found role x.own (behind tree y)) (after_declarator typedef tree s) (after_declarator typedef new t)
       × AreRenamed (params_of new) (params_of tree)
   declarator_by None declarator role typedef line x s t fits d e h =
       (nameless_agree (declarator_tree declarator) typedef x s t d e h, (declarator_kept declarator [] x).4)
@@ -162,17 +149,17 @@ module _ (own : List (List ℕ)) (suffix : List ℕ) (dot : has_dot suffix ≡ t
 
   -- a declarator at file scope
   declarator_agree : (declarator : Declarator) (role : Role) (typedef : Bool) (line : ℕ) (x : Names) (s t : Scope) → IsRole role typedef →
-      HasNoDots (declarator_tree declarator) → Agree x s t →
+      HasNoDots (declarator_tree declarator) → Agree own suffix x s t →
       let tree = declarator_tree declarator in
-      Agree (behind_declarator role line tree x) (after_declarator typedef tree s) (after_declarator typedef (renamed_declarator role line tree x) t)
+      Agree own suffix (behind_declarator role line tree x) (after_declarator typedef tree s) (after_declarator typedef (renamed_declarator role line tree x) t)
       × AreRenamed (params_of (renamed_declarator role line tree x)) (params_of tree)
   declarator_agree declarator role typedef line x s t fits d h =
       declarator_by (name_of (declarator_tree declarator)) declarator role typedef line x s t fits d refl h
 
   -- the names of a declaration at file scope
   entries_agree : (line : ℕ) (typedef : Bool) (list : List (Declarator × Option Init)) (x : Names) (s t : Scope) →
-      HaveNoDots (trees entry_view list) → Agree x s t →
-      Agree (behind_entries line typedef (trees entry_view list) x) (after_entries typedef (trees entry_view list) s)
+      HaveNoDots (trees entry_view list) → Agree own suffix x s t →
+      Agree own suffix (behind_entries line typedef (trees entry_view list) x) (after_entries typedef (trees entry_view list) s)
       (after_entries typedef (renamed_entries line typedef (trees entry_view list) x) t)
   unfolding behind_entries renamed_entries after_entries HasNoDots HaveNoDots renamed made
   entries_agree line typedef [] x s t d h = h
@@ -199,37 +186,19 @@ module _ (own : List (List ℕ)) (suffix : List ℕ) (dot : has_dot suffix ≡ t
 
   -- the parameters where the body of a function begins
   params_by : (old new : Option Trees) (z x : Names) (s t : Scope) → ArePlainParams old →
-      new ≡ option_map (λ ps. all_renamed ps (p.Params ∷ []) z) old → Agree x s t →
-      Agree (merging.inside_params old x) (inside_params old s) (inside_params new t)
+      new ≡ option_map (λ ps. all_renamed ps (p.Params ∷ []) z) old → Agree own suffix x s t →
+      Agree own suffix (merging.inside_params old x) (inside_params old s) (inside_params new t)
   params_by None new z x s t d e h =
-      subst (λ (ps : Option Trees). Agree (merging.inside_params None x) (inside_params None s) (inside_params ps t)) (sym e)
-      ((h.0.0, h.0.1, h.0.2, refl), (h.1.0, refl, h.1.2), h.2, h.3)
+      subst (λ (ps : Option Trees). Agree own suffix (merging.inside_params None x) (inside_params None s) (inside_params ps t)) (sym e)
+      (scope_opens own suffix x s t h.0, h.1)
   params_by (Some params) new z x s t d e h =
-      let x' : Names = record x { inside = true; mentions = [] } in
-      let s' : Scope = record s { inside = true } in
-      let t' : Scope = record t { inside = true } in
-      let k = parts_known own suffix params (p.Params ∷ []) x' s' (h.0.0, h.0.1, h.0.2, refl) in
-      let l = parts_like own suffix params (p.Params ∷ []) z s' t' (h.1.0, refl, h.1.2) in
-      subst (λ (ps : Option Trees). Agree (merging.inside_params (Some params) x) (inside_params (Some params) s) (inside_params ps t)) (sym e) (
-        (k.0, k.1, k.2, k.3),
-        (l.0, l.1, l.2),
-        parts_plain params (p.Params ∷ []) s' d h.2,
-        h.3,
-      )
-
-  -- a scope ends
-  scope_agree : (x y : Names) (s t inner other : Scope) → Agree x s t → Agree y inner other →
-      Agree (n.left_scope x y) (left_scope s inner) (left_scope t other)
-  scope_agree x y s t inner other h g = (
-    knows_part own suffix true x y s inner h.0 g.0,
-    part_like own suffix true s t inner other h.1 g.1,
-    part_plain true s inner h.2 g.2,
-    g.3,
-  )
+      let opened : World = record { by = z; names = record x { inside = true; mentions = [] }; scope = record s { inside = true }; known = x; held = record t { inside = true } } in
+      subst (λ (ps : Option Trees). Agree own suffix (merging.inside_params (Some params) x) (inside_params (Some params) s) (inside_params ps t)) (sym e)
+      (parts_kept no_dots (keeps_quiet own suffix) params (p.Params ∷ []) opened d (scope_opens own suffix x s t h.0), h.1)
 
   -- an external declaration
-  external_agree : (decl : Decl) (x : Names) (s t : Scope) → HasNoDots (decl_view decl) → Agree x s t →
-      Agree (behind_external (decl_view decl) x) (after_external (decl_view decl) s) (after_external (renamed_external (decl_view decl) x) t)
+  external_agree : (decl : Decl) (x : Names) (s t : Scope) → HasNoDots (decl_view decl) → Agree own suffix x s t →
+      Agree own suffix (behind_external (decl_view decl) x) (after_external (decl_view decl) s) (after_external (renamed_external (decl_view decl) x) t)
   unfolding behind_external renamed_external after_external HasNoDots HaveNoDots renamed made
   external_agree (d.Function line specs declarator body end) x s t dots h =
       let words : Tree = specs_view specs in
@@ -247,7 +216,8 @@ module _ (own : List (List ℕ)) (suffix : List ℕ) (dot : has_dot suffix ≡ t
       let s3 : Scope = inside_params (params_of tree) s2 in
       let t3 : Scope = inside_params (params_of new) t2 in
       let k = params_by (params_of tree) (params_of new) g.1.0 x2 s2 t2 (params_plain tree dots.1.1.0.0) g.1.1 g.0 in
-      scope_agree x2 (behind code x3) s2 t2 (after code s3) (after (renamed code x3) t3) g.0 (tree_agree code x3 s3 t3 dots.1.1.1.0 k)
+      let all = tree_agree code x3 s3 t3 dots.1.1.1.0 k in
+      (scope_ends own suffix x2 (behind code x3) s2 t2 (after code s3) (after (renamed code x3) t3) g.0.0 all.0, all.1)
   external_agree (d.Names line specs names) x s t dots h =
       let words : Trees = At specs.line ▹ trees spec_tree specs.words.items in
       let tree : Tree = Node f.Specs words in
@@ -257,25 +227,25 @@ module _ (own : List (List ℕ)) (suffix : List ℕ) (dot : has_dot suffix ≡ t
       let t1 : Scope = after (renamed tree x) t in
       let typedef : Bool = has_typedef words in
       let g = entries_agree line typedef names x1 s1 t1 dots.1.1.0 (tree_agree tree x s t dots.1.0 h) in
-      subst (λ (b : Bool). Agree (behind_entries line typedef list x1) (after_entries typedef list s1)
+      subst (λ (b : Bool). Agree own suffix (behind_entries line typedef list x1) (after_entries typedef list s1)
       (after_entries b (renamed_entries line typedef list x1) t1))
       (sym (typedef_same words (places (shape f.Specs (count words))) (n.entered f.Specs words x))) g
 
   -- the external declarations of a unit in turn
-  units_agree : (decls : List Decl) (x : Names) (s t : Scope) → HaveNoDots (trees decl_view decls) → Knows own suffix x s → Like own suffix s t → ArePlain s.held →
+  units_agree : (decls : List Decl) (x : Names) (s t : Scope) → HaveNoDots (trees decl_view decls) → Quiet own suffix x s t →
       each_uses (trees_of (each_said (trees decl_view decls) x)) t ≡ map (map (use_as own suffix)) (each_uses (trees decl_view decls) s)
   unfolding each_uses each_said HasNoDots HaveNoDots
-  units_agree [] x s t d k l plain = refl
-  units_agree (decl ∷ rest) x s t d k l plain =
+  units_agree [] x s t d h = refl
+  units_agree (decl ∷ rest) x s t d h =
       let x1 : Names = record x { mentions = [] } in
       let s1 : Scope = record s { inner = 0; uses = [] } in
       let t1 : Scope = record t { inner = 0; uses = [] } in
-      let g = external_agree decl x1 s1 t1 d.0 ((k.0, k.1, k.2, k.3), (l.0, l.1, refl), plain, refl) in
-      ap₂ (λ (us : List Use) (more : List (List Use)). us ∷ more) g.3
+      let g = external_agree decl x1 s1 t1 d.0 ((h.0, (h.1.0, h.1.1, refl), h.2), refl) in
+      ap₂ (λ (us : List Use) (more : List (List Use)). us ∷ more) g.1
       (units_agree rest (behind_external (decl_view decl) x1) (after_external (decl_view decl) s1)
-      (after_external (renamed_external (decl_view decl) x1) t1) d.1 g.0 g.1 g.2)
+      (after_external (renamed_external (decl_view decl) x1) t1) d.1 g.0)
 
 pub units_keep_bindings : UnitsKeepBindings
 units_keep_bindings number unit dots =
     units_agree (own_names (unit_view unit) []) (suffix_of number) refl unit.decls (unit_names number (unit_view unit)) no_scope no_scope dots
-    (refl, refl, refl, refl) (refl, refl, refl) tt
+    ((refl, refl, refl, refl), (refl, refl, refl), tt)

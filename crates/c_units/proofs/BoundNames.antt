@@ -1,30 +1,18 @@
--- A name with its suffix finds the declaration that the name finds without.
-use Rattle.std.proofs.Common.{◌≡◌, ◌||◌, ℕ, Bool, true, false, ◌⊎◌, if◌then◌else◌, bytes_eq, nat_eq, map, List, [], ◌∷◌, ◌++◌, Option, Some, None, inl, inr, refl, ap, sym, subst, ◌∙◌}
-use Rattle.std.proofs.lemmas.Slice.Eq.{bytes_eq-Decides}
-use Rattle.std.proofs.lemmas.List.{append_cancel_right}
-use Rattle.std.proofs.lemmas.List.Folds.{list_any-append}
-use Rattle.c_units.specs.declared.names.Binding.{Binding}
+-- A name with its suffix finds the declaration that the name finds without, at each place of a unit as it stands in the program.
+use Rattle.c_units.proofs.Words.Std.{Bool, List, None, Option, Some, [], ap, append_cancel_right, ap₂, bytes_eq, bytes_eq-Decides, false, false_from_ne_true, false≢true, if◌then◌else◌, inl, inr, list_any-append, map, map-append, nat_eq, or_right, refl, subst, subst₂, suc, sym, true, ℕ, ◌++◌, ◌||◌, ◌∙◌, ◌∷◌, ◌≡◌, ◌⊎◌}
+use Rattle.c_units.proofs.Words.Trees.{At, Leaf, name_among, none, ◌▹◌}
+use Rattle.c_units.proofs.Words.Units.{Binding, Constant, Declaration, External, HasNoDots, HaveNoDots, Held, IsWithoutDot, Known, Names, Scope, Use, binding_at, binding_of, declaration_of, declare, has_dot, hold, hold_here, hold_inner, is_among, name_as, name_by, use_as, use_of}
 use Rattle.c_units.specs.declared.names.Binding.TheVariants as b
-use Rattle.c_units.specs.Mentions.{is_among}
-use Rattle.c_units.specs.Names.{Known, binding_of, name_by}
-use Rattle.c_units.specs.Binding.{Declaration, Inner, External, Constant, Held, declaration_of}
-use Rattle.c_units.specs.KeptBindings.{has_dot, name_as}
+use Rattle.c_tree.specs.Words as w
+use Rattle.c_units.specs.Names as n
+use Rattle.c_units.specs.Binding.{Inner, left_scope}
+use Rattle.c_units.proofs.BoundTrees.{names_plain}
+use Rattle.c_units.proofs.Walks.{Keeps}
 
 -- every declaration has a name of a text
 abbrev pub ArePlain : List Held → Type 0
 ArePlain [] = Unit {0}
 ArePlain (held ∷ rest) = (has_dot held.name ≡ false) × ArePlain rest
-
-true_or_false : (x : Bool) → (x ≡ true → ⊥) → x ≡ false
-true_or_false true h = absurd (h refl)
-true_or_false false h = refl
-
-or_true : (x : Bool) → (x || true) ≡ true
-or_true true = refl
-or_true false = refl
-
-true_is_not_false : true ≡ false → ⊥
-true_is_not_false h = cc
 
 equal_names : (x y : List ℕ) → bytes_eq x y ≡ true → x ≡ y
 equal_names x y h = (bytes_eq-Decides x y).0 h
@@ -33,7 +21,7 @@ names_equal : (x y : List ℕ) → x ≡ y → bytes_eq x y ≡ true
 names_equal x y h = (bytes_eq-Decides x y).1 h
 
 differ : (x y : List ℕ) → (x ≡ y → ⊥) → bytes_eq x y ≡ false
-differ x y h = true_or_false (bytes_eq x y) (λ e. h (equal_names x y e))
+differ x y h = false_from_ne_true (bytes_eq x y) (λ e. h (equal_names x y e))
 
 module _ (own : List (List ℕ)) (suffix : List ℕ) where
   -- how the merge keeps a declaration
@@ -88,10 +76,10 @@ module _ (own : List (List ℕ)) (suffix : List ℕ) where
   is_form (Some Constant) name = inl refl
 
   dotted : (name : List ℕ) → has_dot suffix ≡ true → has_dot (name ++ suffix) ≡ true
-  dotted name h = list_any-append (nat_eq 46) name suffix ∙ ap (λ (x : Bool). has_dot name || x) h ∙ or_true (has_dot name)
+  dotted name h = list_any-append (nat_eq 46) name suffix ∙ ap (λ (x : Bool). has_dot name || x) h ∙ or_right (has_dot name) true refl
 
   apart : (x y : List ℕ) → has_dot suffix ≡ true → has_dot x ≡ false → x ≡ y ++ suffix → ⊥
-  apart x y dot plain e = true_is_not_false (sym (dotted y dot) ∙ ap has_dot (sym e) ∙ plain)
+  apart x y dot plain e = false≢true (sym plain ∙ ap has_dot e ∙ dotted y dot)
 
   forms_differ : (x y new other : List ℕ) → has_dot suffix ≡ true → has_dot x ≡ false → has_dot y ≡ false → (x ≡ y → ⊥) →
       IsForm new x → IsForm other y → new ≡ other → ⊥
@@ -109,7 +97,7 @@ module _ (own : List (List ℕ)) (suffix : List ℕ) where
       let same : (held_as held).name ≡ new = ap (λ (x : List ℕ). name_as own suffix (Some held.declaration) x) (equal_names held.name name e) ∙ sym is in
       ap (λ (x : Bool). if x then Some held.declaration else declaration_of (map held_as rest) new) (names_equal (held_as held).name new same)
   found_same false held rest name new dot plain clear e is h =
-      let other : held.name ≡ name → ⊥ = λ same. true_is_not_false (sym (names_equal held.name name same) ∙ e) in
+      let other : held.name ≡ name → ⊥ = λ same. false≢true (sym e ∙ names_equal held.name name same) in
       let new_form : IsForm new name = subst (λ (x : List ℕ). IsForm x name) (sym is) (is_form (declaration_of rest name) name) in
       let apart_names : (held_as held).name ≡ new → ⊥ =
       forms_differ held.name name (held_as held).name new dot plain clear other (is_form (Some held.declaration) held.name) new_form in
@@ -126,3 +114,82 @@ module _ (own : List (List ℕ)) (suffix : List ℕ) where
   pub bound_same : (helds : List Held) (name : List ℕ) → has_dot suffix ≡ true → ArePlain helds → has_dot name ≡ false →
       declaration_of (map held_as helds) (name_as own suffix (declaration_of helds name) name) ≡ declaration_of helds name
   bound_same helds name dot plain clear = found_by helds name (name_as own suffix (declaration_of helds name) name) dot plain clear refl
+
+  -- what is known of a unit, what holds in it, and what holds in the program
+  abbrev pub Quiet : Names → Scope → Scope → Type 0
+  Quiet x s t =
+      ((x.own ≡ own) × (x.suffix ≡ suffix) × (x.known ≡ map known_as s.held) × (x.inside ≡ s.inside))
+      × ((t.held ≡ map held_as s.held) × (t.inside ≡ s.inside) × (t.inner ≡ s.inner)) × ArePlain s.held
+
+  -- the names in expressions so far, as they stand in the program
+  abbrev pub Told : Scope → Scope → Type 0
+  Told s t = t.uses ≡ map (use_as own suffix) s.uses
+
+  pub scope_opens : (x : Names) (s t : Scope) → Quiet x s t → Quiet (record x { inside = true }) (record s { inside = true }) (record t { inside = true })
+  scope_opens x s t h = ((h.0.0, h.0.1, h.0.2, refl), (h.1.0, refl, h.1.2), h.2)
+
+  pub scope_ends : (x y : Names) (s t inner other : Scope) → Quiet x s t → Quiet y inner other → Quiet (n.left_scope x y) (left_scope s inner) (left_scope t other)
+  scope_ends x y s t inner other h g = ((g.0.0, g.0.1, h.0.2, h.0.3), (h.1.0, h.1.1, g.1.2), h.2)
+
+  here_by : (inside : Bool) (name : Option (List ℕ)) (x : Names) (s t : Scope) → IsWithoutDot name → Quiet x s t →
+      let hold_now = λ (u : Scope). if inside then hold_inner name u else hold name Constant u in
+      Quiet (declare name (if inside then b.Inner else b.Shared) x) (hold_now s) (hold_now t) × (Told s t → Told (hold_now s) (hold_now t))
+  here_by true None x s t d h = ((h.0, (h.1.0, h.1.1, ap suc h.1.2), h.2), λ u. u)
+  here_by false None x s t d h = (h, λ u. u)
+  here_by true (Some name) x s t d h = (
+    (
+      (h.0.0, h.0.1, ap (λ (l : List Known). record { name = name; binding = b.Inner } ∷ l) h.0.2, h.0.3),
+      (ap₂ (λ (k : ℕ) (l : List Held). record { name = name; declaration = Inner k } ∷ l) h.1.2 h.1.0, h.1.1, ap suc h.1.2),
+      (d, h.2),
+    ),
+    λ u. u,
+  )
+  here_by false (Some name) x s t d h = (
+    (
+      (h.0.0, h.0.1, ap (λ (l : List Known). record { name = name; binding = b.Shared } ∷ l) h.0.2, h.0.3),
+      (ap (λ (l : List Held). record { name = name; declaration = Constant } ∷ l) h.1.0, h.1.1, h.1.2),
+      (d, h.2),
+    ),
+    λ u. u,
+  )
+
+  here : (name : Option (List ℕ)) (x : Names) (s t : Scope) → IsWithoutDot name → Quiet x s t →
+      Quiet (declare name (binding_at x) x) (hold_here name s) (hold_here name t) × (Told s t → Told (hold_here name s) (hold_here name t))
+  here name x s t d h =
+      subst₂ (λ (i j : Bool). let there = if j then hold_inner name t else hold name Constant t in
+      Quiet (declare name (if i then b.Inner else b.Shared) x) (hold_here name s) there × (Told s t → Told (hold_here name s) there))
+      (sym h.0.3) (sym h.1.1) (here_by s.inside name x s t d h)
+
+  pub keeps_quiet : Keeps HaveNoDots (λ u. Quiet u.names u.scope u.held)
+  keeps_quiet = record {
+    ends = λ u inner h g. scope_ends u.names inner.names u.scope u.held inner.scope inner.held h (g (scope_opens u.names u.scope u.held h));
+    declares = λ parts u d h. (here (name_among parts) u.names u.scope u.held (names_plain parts d) h).0;
+    uses = λ line name u d h. h;
+    says = λ first second third u h. h;
+  }
+
+  -- all of it
+  abbrev pub Agree : Names → Scope → Scope → Type 0
+  Agree x s t = Quiet x s t × Told s t
+
+  one_told : (line : ℕ) (name new : List ℕ) (x : Names) (s t : Scope) → has_dot suffix ≡ true → has_dot name ≡ false → new ≡ name_by (binding_of x.known name) x.suffix name →
+      Agree x s t → Told (use_of (At line ▹ Leaf (w.Name name) ▹ none) s) (use_of (At line ▹ Leaf (w.Name new) ▹ none) t)
+  one_told line name new x s t dot clear e h =
+      let found : Option Declaration = declaration_of s.held name in
+      let is : new ≡ name_as own suffix found name =
+      e ∙ ap₂ (λ (ks : List Known) (end : List ℕ). name_by (binding_of ks name) end name) h.0.0.2 h.0.0.1 ∙ bound_name s.held name in
+      let same : declaration_of t.held new ≡ found = ap₂ declaration_of h.0.1.0 is ∙ bound_same s.held name dot h.0.2 clear in
+      ap₂ (λ (us : List Use) (one : Use). us ++ one ∷ []) h.1 (ap₂ (λ (y : List ℕ) (d : Option Declaration). record { name = y; declaration = d }) is same)
+      ∙ sym (map-append (use_as own suffix) s.uses (record { name = name; declaration = found } ∷ []))
+
+  pub keeps_all : has_dot suffix ≡ true → Keeps HaveNoDots (λ u. Agree u.by u.scope u.held)
+  unfolding HasNoDots HaveNoDots
+  keeps_all dot = record {
+    ends = λ u inner h g.
+        let more = g (scope_opens u.by u.scope u.held h.0, h.1) in
+        (scope_ends u.by inner.by u.scope u.held inner.scope inner.held h.0 more.0, more.1);
+    declares = λ parts u d h.
+        let more = here (name_among parts) u.by u.scope u.held (names_plain parts d) h.0 in (more.0, more.1 h.1);
+    uses = λ line name u d h. (h.0, one_told line name _ u.by u.scope u.held dot d.1.0 refl h);
+    says = λ first second third u h. h;
+  }

@@ -1,41 +1,225 @@
 -- What an external declaration without a body and initializers declares is what the walk over the sorts of its words finds.
-use Rattle.std.proofs.Common.{◌≡◌, ℕ, zero, suc, Bool, true, false, if◌then◌else◌, replicate, length, List, [], ◌∷◌, ◌++◌, Option, Some, None, refl, ap, sym, subst, ◌∙◌}
-use Rattle.std.specs.Prelude.{⊤}
-use Rattle.std.proofs.lemmas.List.{append-nil, append_assoc}
-use Rattle.c_tree.specs.declared.word.Keyword.TheVariants as k
-use Rattle.c_tree.specs.declared.tree.Declarator.{Declarator, Row_of-Suffix, end_of-Suffix, more_of-Suffix}
-use Rattle.c_tree.specs.declared.tree.Declarator.TheVariants as d
-use Rattle.c_tree.specs.declared.tree.Base.{Base}
-use Rattle.c_tree.specs.declared.tree.Base.TheVariants as b
-use Rattle.c_tree.specs.declared.tree.Specs.{Specs}
-use Rattle.c_tree.specs.declared.tree.SuffixKind.TheVariants as s
-use Rattle.c_tree.specs.declared.statement.Init.{Init}
-use Rattle.c_tree.specs.Words.{keyword_bytes, sign_bytes}
-use Rattle.c_tree.specs.Forms as f
-use Rattle.c_tree.specs.Places as p
-use Rattle.c_tree.specs.Tree.{Tree, Trees, At, Node, none, ◌▹◌, count}
-use Rattle.c_tree.specs.Grammar.{Part, key, rows, behind_commas, shape}
-use Rattle.c_tree.specs.Spelling.{spell, spell_all}
-use Rattle.c_tree.specs.Scopes.{name_of, name_among, first_name, leads_to_name, has_typedef, is_scope, places}
-use Rattle.c_tree.specs.Allowed.{tally, is_one_type}
-use Rattle.c_tree.specs.View.{declarator_tree, base_tree, suffix_tree, suffix_trees, spec_tree}
-use Rattle.c_tree.specs.StatementView.{trees, entry_view, specs_view, decl_view}
-use Rattle.c_tree.specs.declared.statement.Decl.TheVariants as e
-use Rattle.c_units.specs.declared.mention.Role.{Role}
-use Rattle.c_units.specs.Names.{Names, name_by, mention, behind, renamed, all_renamed, made, entered}
-use Rattle.c_units.specs.Externals.{with_name, all_with_name, before_declarator, behind_declarator, binding_as, named_as, renamed_declarator, role_of, renamed_entries, renamed_external}
-use Rattle.c_units.specs.Merge.{are_plain, is_plain}
-use Rattle.c_units.specs.FileBindings.{named, entries_declared, declared_by}
+use Rattle.c_units.proofs.Words.Std.{Bool, List, None, Option, Some, [], and_parts, ap, append-nil, append_assoc, arith, eqb-true, false, if◌then◌else◌, inl, inr, leb-true, length, nat_le, refl, replicate, subst, suc, sym, true, zero, ℕ, ⊤, ◌&&◌, ◌++◌, ◌+◌, ◌==◌, ◌||◌, ◌∙◌, ◌∷◌, ◌≡◌, ◌≤◌, ◌⊎◌}
+use Rattle.c_units.proofs.Words.Trees.{At, Base, Declarator, Form, Init, Leaf, Node, Part, Place, RecordSort, Row_of-Suffix, Spec, Specs, TagKind, Tally, Tree, Trees, base_tree, behind_commas, count, decl_view, declarator_tree, end_of-Suffix, entry_view, enumerator_trees, first_name, has_typedef, is_integer_type, is_one_type, is_scope, key, keyword_bytes, leads_to_name, maybe_name, member_trees, more_of-Suffix, name_among, name_of, none, places, record_word, rows, shape, sign_bytes, spec_tree, specs_view, spell, spell_all, suffix_tree, suffix_trees, tag_tree, tally, trees, with_keyword, ◌▹◌}
+use Rattle.c_units.proofs.Words.Units.{Names, Role, all_renamed, all_with_name, are_plain, before_declarator, behind, behind_declarator, binding_as, declared_by, entered, entries_declared, is_plain, made, mention, name_by, named, named_as, renamed, renamed_declarator, renamed_entries, renamed_external, role_of, with_name}
+use Rattle.c_units.proofs.WordSorts.{Sort, Close, Comma, tree_sorts, State, Before, Within, Gone, run, run_append, run_gone, item_sorts, node_sorts, IsSound, AreSound, sound_neutral, Plain, Behind, names_in}
 use Rattle.c_units.proofs.BoundTrees.{name_same}
 use Rattle.c_units.proofs.BoundDeclarators.{pointer_renamed, named_so, name_so}
-use Rattle.c_units.proofs.WordSorts.{Sort, Close, Plain, tree_sorts, State, Before, Behind, Gone, run, run_append, run_gone, names_in, item_sorts, node_sorts, IsSound, AreSound, sound_neutral}
 use Rattle.c_units.proofs.BoundExternals.{typedef_same}
-use Rattle.c_units.proofs.SpecSorts.{each_sorts, rows_sorts, words_as, end_state, specs_run}
+use Rattle.c_tree.specs.declared.operator.RecordSort.TheVariants as r
+use Rattle.c_tree.specs.declared.tree.Spec.TheVariants as c
+use Rattle.c_tree.specs.declared.tree.TagKind.TheVariants as t
+use Rattle.c_tree.specs.Words as w
+use Rattle.c_tree.specs.Forms as f
+use Rattle.c_tree.specs.Places as p
+use Rattle.c_tree.specs.declared.word.Keyword.TheVariants as k
+use Rattle.c_tree.specs.declared.tree.Declarator.TheVariants as d
+use Rattle.c_tree.specs.declared.tree.Base.TheVariants as b
+use Rattle.c_tree.specs.declared.tree.SuffixKind.TheVariants as s
+use Rattle.c_tree.specs.declared.statement.Decl.TheVariants as e
+
+-- The words of specs in the walk over the sorts of words: behind them a type was read.
+
+-- the sorts of some trees in turn
+abbrev pub each_sorts : Trees → List Sort
+each_sorts none = []
+each_sorts (tree ▹ rest) = tree_sorts tree ++ each_sorts rest
+
+pub rows_sorts : (place : Place) (parts : Trees) → item_sorts (rows place (count parts)) parts ≡ each_sorts parts
+rows_sorts place none = refl
+rows_sorts place (tree ▹ rest) = ap (λ (l : List Sort). tree_sorts tree ++ l) (rows_sorts place rest)
+
+-- A tag.
+
+closed : (tree : Tree) (names : List (List ℕ)) → IsSound tree → run (Within 0 names) (tree_sorts tree ++ Close ∷ []) ≡ Before true 0 names
+closed tree names h =
+    run_append (Within 0 names) (tree_sorts tree) (Close ∷ []) ∙ ap (λ (s : State). run s (Close ∷ [])) (sound_neutral tree h true 0 names)
+
+closed_behind_comma : (tree : Tree) (names : List (List ℕ)) → IsSound tree → run (Within 0 names) (tree_sorts tree ++ Comma ∷ Close ∷ []) ≡ Before true 0 names
+closed_behind_comma tree names h =
+    run_append (Within 0 names) (tree_sorts tree) (Comma ∷ Close ∷ []) ∙ ap (λ (s : State). run s (Comma ∷ Close ∷ [])) (sound_neutral tree h true 0 names)
+
+module _ (line : ℕ) (body : Tree) (typed : Bool) (names : List (List ℕ)) (sound : IsSound body) where
+  -- behind a node that stands in a tag's place
+  at_node : (form : Form) (name : Option (List ℕ)) (end : State) → run (Before typed 0 names) (item_sorts (shape form 3) (At line ▹ maybe_name name ▹ body ▹ none)) ≡ end →
+      run (Before typed 0 names) (tree_sorts (Node form (At line ▹ maybe_name name ▹ body ▹ none))) ≡ end
+  at_node form name end h = ap (run (Before typed 0 names)) (node_sorts form (At line ▹ maybe_name name ▹ body ▹ none)) ∙ h
+
+  record_by : (sort : RecordSort) (name : Option (List ℕ)) →
+      run (Before typed 0 names) (tree_sorts (Node (f.RecordBody sort) (At line ▹ maybe_name name ▹ body ▹ none))) ≡ Before true 0 names
+  unfolding shape record_word keyword_bytes sign_bytes spell spell_all
+  record_by r.Struct None = at_node (f.RecordBody r.Struct) None _ (closed body names sound)
+  record_by r.Union None = at_node (f.RecordBody r.Union) None _ (closed body names sound)
+  record_by sort name = at_node (f.RecordBody sort) name _ (closed body names sound)
+
+  enum_by : (trailing : Bool) (name : Option (List ℕ)) →
+      run (Before typed 0 names) (tree_sorts (Node (f.EnumBody trailing) (At line ▹ maybe_name name ▹ body ▹ none))) ≡ Before true 0 names
+  unfolding shape keyword_bytes sign_bytes spell spell_all
+  enum_by true None = at_node (f.EnumBody true) None _ (closed_behind_comma body names sound)
+  enum_by true (Some name) = at_node (f.EnumBody true) (Some name) _ (closed_behind_comma body names sound)
+  enum_by false None = at_node (f.EnumBody false) None _ (closed body names sound)
+  enum_by false (Some name) = at_node (f.EnumBody false) (Some name) _ (closed body names sound)
+
+name_made : (name : Option (List ℕ)) (x : Names) → renamed (maybe_name name) x ≡ maybe_name name
+unfolding renamed all_renamed made entered shape
+name_made None x = refl
+name_made (Some name) x = refl
+
+-- behind a tag a type was read
+tag_run : (kind : TagKind) (line : ℕ) (x : Names) (typed : Bool) (names : List (List ℕ)) → IsSound (renamed (tag_tree kind line) x) →
+    run (Before typed 0 names) (tree_sorts (renamed (tag_tree kind line) x)) ≡ Before true 0 names
+unfolding tag_tree renamed all_renamed made behind entered shape record_word keyword_bytes sign_bytes spell spell_all IsSound AreSound is_scope
+tag_run (t.Record r.Struct name) line x typed names h = refl
+tag_run (t.Record r.Union name) line x typed names h = refl
+tag_run (t.Enum name) line x typed names h = refl
+tag_run (t.RecordBody' sort name m members) line x typed names h =
+    let x0 = entered (f.RecordBody sort) (At line ▹ maybe_name name ▹ Node f.Members (member_trees members) ▹ none) x in
+    let body : Tree = renamed (Node f.Members (member_trees members)) (behind (maybe_name name) x0) in
+    subst (λ (y : Tree). run (Before typed 0 names) (tree_sorts (Node (f.RecordBody sort) (At line ▹ y ▹ body ▹ none))) ≡ Before true 0 names) (sym (name_made name x0))
+    (record_by line body typed names h.1.1.1.0 sort name)
+tag_run (t.EnumBody' name m enumerators trailing) line x typed names h =
+    let x0 = entered (f.EnumBody trailing) (At line ▹ maybe_name name ▹ Node f.Enumerators (enumerator_trees enumerators) ▹ none) x in
+    let body : Tree = renamed (Node f.Enumerators (enumerator_trees enumerators)) (behind (maybe_name name) x0) in
+    subst (λ (y : Tree). run (Before typed 0 names) (tree_sorts (Node (f.EnumBody trailing) (At line ▹ y ▹ body ▹ none))) ≡ Before true 0 names) (sym (name_made name x0))
+    (enum_by line body typed names h.1.1.1.0 trailing name)
+
+-- The words of specs.
+
+-- what is read behind them
+abbrev pub specs_state : List Spec → Bool → List (List ℕ) → State
+specs_state [] typed names = Before typed 0 names
+specs_state (c.Typedef ∷ words) typed names = Gone
+specs_state (c.Static ∷ words) typed names = specs_state words typed names
+specs_state (c.Extern ∷ words) typed names = specs_state words typed names
+specs_state (c.Const ∷ words) typed names = specs_state words typed names
+specs_state (word ∷ words) typed names = specs_state words true names
+
+-- a typedef name stands behind no other word of a type
+abbrev pub AreFine : Bool → List Spec → Type 0
+AreFine typed [] = ⊤
+AreFine typed (c.Typedef ∷ words) = ⊤
+AreFine typed (c.Static ∷ words) = AreFine typed words
+AreFine typed (c.Extern ∷ words) = AreFine typed words
+AreFine typed (c.Const ∷ words) = AreFine typed words
+AreFine typed (c.Named name ∷ words) = (typed ≡ false) × AreFine true words
+AreFine typed (word ∷ words) = AreFine true words
+
+-- the words as they stand in the program
+abbrev pub words_as : List Spec → Names → Trees
+words_as words x = all_renamed (trees spec_tree words) (places (rows p.SpecWord (count (trees spec_tree words)))) x
+
+pub one_run : (tree : Tree) (more : List Sort) (s middle end : State) → run s (tree_sorts tree) ≡ middle → run middle more ≡ end → run s (tree_sorts tree ++ more) ≡ end
+one_run tree more s middle end h g = run_append s (tree_sorts tree) more ∙ ap (λ (x : State). run x more) h ∙ g
+
+named_run : (name : List ℕ) (typed : Bool) (names : List (List ℕ)) → typed ≡ false → run (Before typed 0 names) (tree_sorts (Node f.TypedefName (Leaf (w.Name name) ▹ none))) ≡ Before true 0 names
+unfolding shape spell spell_all
+named_run name typed names h = subst (λ (b : Bool). run (Before b 0 names) (tree_sorts (Node f.TypedefName (Leaf (w.Name name) ▹ none))) ≡ Before true 0 names) (sym h) refl
+
+pub words_run : (words : List Spec) (x : Names) (typed : Bool) (names : List (List ℕ)) → AreFine typed words → AreSound (words_as words x) →
+    run (Before typed 0 names) (each_sorts (words_as words x)) ≡ specs_state words typed names
+unfolding spec_tree renamed all_renamed made entered shape keyword_bytes spell spell_all IsSound AreSound
+words_run [] x typed names h g = refl
+words_run (c.Static ∷ words) x typed names h g = words_run words _ typed names h g.1
+words_run (c.Extern ∷ words) x typed names h g = words_run words _ typed names h g.1
+words_run (c.Const ∷ words) x typed names h g = words_run words _ typed names h g.1
+words_run (c.Typedef ∷ words) x typed names h g = run_gone (each_sorts (words_as words _))
+words_run (c.Named name ∷ words) x typed names h g =
+    one_run (Node f.TypedefName (Leaf (w.Name name) ▹ none)) (each_sorts (words_as words _)) (Before typed 0 names) (Before true 0 names) (specs_state words true names)
+    (named_run name typed names h.0) (words_run words _ true names h.1 g.1)
+words_run (c.Tag' line kind ∷ words) x typed names h g =
+    one_run (renamed (tag_tree kind line) x) (each_sorts (words_as words _)) (Before typed 0 names) (Before true 0 names) (specs_state words true names)
+    (tag_run kind line x typed names g.0) (words_run words _ true names h g.1)
+words_run (word ∷ words) x typed names h g = words_run words _ true names h g.1
+
+-- A type is one.
+
+abbrev sum : Tally → ℕ
+sum t = t.void + t.char + t.short + t.int + t.long + t.sign + t.whole
+
+integer_by : (t : Tally) (char : Bool) → (t.char == 0) ≡ char →
+    (if char
+    then nat_le t.int 1 && nat_le t.short 1 && nat_le t.long 2 && (t.short == 0 || t.long == 0)
+    && nat_le 1 (t.sign + t.short + t.long + t.int)
+    else t.char == 1 && t.short + t.long + t.int == 0) ≡ true → 1 ≤ sum t
+integer_by t true e h =
+    let some : 1 ≤ t.sign + t.short + t.long + t.int = leb-true 1 (t.sign + t.short + t.long + t.int) (and_parts _ (nat_le 1 (t.sign + t.short + t.long + t.int)) h).1 in
+    omega (arith, some)
+integer_by t false e h =
+    let one : t.char ≡ 1 = eqb-true t.char 1 (and_parts (t.char == 1) _ h).0 in omega (arith, one)
+
+type_by : (t : Tally) (plain : Bool) → (t.void + t.whole == 0) ≡ plain →
+    (if plain then is_integer_type t else t.void + t.whole == 1 && t.char + t.short + t.long + t.int + t.sign == 0) ≡ true →
+    ((t.whole ≡ 0) × (1 ≤ sum t)) ⊎ (sum t ≡ 1)
+type_by t true e h =
+    let none_yet : t.void + t.whole ≡ 0 = eqb-true (t.void + t.whole) 0 e in
+    inl (omega (arith, none_yet), integer_by t (t.char == 0) refl (and_parts (nat_le t.sign 1) _ h).1)
+type_by t false e h =
+    let both = and_parts (t.void + t.whole == 1) _ h in
+    let one : t.void + t.whole ≡ 1 = eqb-true (t.void + t.whole) 1 both.0 in
+    let no_more : t.char + t.short + t.long + t.int + t.sign ≡ 0 = eqb-true (t.char + t.short + t.long + t.int + t.sign) 0 both.1 in
+    inr (omega (arith, one, no_more))
+
+fine_plain : (words : List Spec) (typed : Bool) → (tally (trees spec_tree words)).whole ≡ 0 → AreFine typed words
+unfolding spec_tree tag_tree tally with_keyword
+fine_plain [] typed h = tt
+fine_plain (c.Typedef ∷ words) typed h = tt
+fine_plain (c.Static ∷ words) typed h = fine_plain words typed h
+fine_plain (c.Extern ∷ words) typed h = fine_plain words typed h
+fine_plain (c.Const ∷ words) typed h = fine_plain words typed h
+fine_plain (c.Named name ∷ words) typed h = absurd (omega (arith, h))
+fine_plain (c.Tag' line (t.Record sort name) ∷ words) typed h = fine_plain words true (omega (arith, h))
+fine_plain (word ∷ words) typed h = fine_plain words true (omega (arith, h))
+
+fine_one : (words : List Spec) → sum (tally (trees spec_tree words)) ≡ 1 → AreFine false words
+unfolding spec_tree tag_tree tally with_keyword
+fine_one [] h = tt
+fine_one (c.Typedef ∷ words) h = tt
+fine_one (c.Static ∷ words) h = fine_one words h
+fine_one (c.Extern ∷ words) h = fine_one words h
+fine_one (c.Const ∷ words) h = fine_one words h
+fine_one (c.Named name ∷ words) h = (refl, fine_plain words true (omega (arith, h)))
+fine_one (c.Tag' line (t.Record sort name) ∷ words) h = fine_plain words true (omega (arith, h))
+fine_one (word ∷ words) h = fine_plain words true (omega (arith, h))
+
+abbrev pub end_state : Bool → List (List ℕ) → State
+end_state true names = Gone
+end_state false names = Before true 0 names
+
+state_typed : (words : List Spec) (names : List (List ℕ)) → specs_state words true names ≡ end_state (has_typedef (trees spec_tree words)) names
+unfolding spec_tree tag_tree has_typedef
+state_typed [] names = refl
+state_typed (c.Typedef ∷ words) names = refl
+state_typed (c.Static ∷ words) names = state_typed words names
+state_typed (c.Extern ∷ words) names = state_typed words names
+state_typed (c.Const ∷ words) names = state_typed words names
+state_typed (c.Tag' line (t.Record sort name) ∷ words) names = state_typed words names
+state_typed (word ∷ words) names = state_typed words names
+
+state_ends : (words : List Spec) (names : List (List ℕ)) → 1 ≤ sum (tally (trees spec_tree words)) →
+    specs_state words false names ≡ end_state (has_typedef (trees spec_tree words)) names
+unfolding spec_tree tag_tree has_typedef tally with_keyword
+state_ends [] names h = absurd (omega (arith, h))
+state_ends (c.Typedef ∷ words) names h = refl
+state_ends (c.Static ∷ words) names h = state_ends words names h
+state_ends (c.Extern ∷ words) names h = state_ends words names h
+state_ends (c.Const ∷ words) names h = state_ends words names h
+state_ends (c.Tag' line (t.Record sort name) ∷ words) names h = state_typed words names
+state_ends (word ∷ words) names h = state_typed words names
+
+-- behind the words of one type a type was read, unless they declare names of types
+pub specs_run : (words : List Spec) (x : Names) (names : List (List ℕ)) → is_one_type (tally (trees spec_tree words)) ≡ true → AreSound (words_as words x) →
+    run (Before false 0 names) (each_sorts (words_as words x)) ≡ end_state (has_typedef (trees spec_tree words)) names
+specs_run words x names h g = by (type_by (tally (trees spec_tree words)) _ refl h) where
+  all : Tally
+  all = tally (trees spec_tree words)
+
+  by : ((all.whole ≡ 0) × (1 ≤ sum all)) ⊎ (sum all ≡ 1) → run (Before false 0 names) (each_sorts (words_as words x)) ≡ end_state (has_typedef (trees spec_tree words)) names
+  by (inl e) = words_run words x false names (fine_plain words false e.0) g ∙ state_ends words names e.1
+  by (inr e) = words_run words x false names (fine_one words e) g ∙ state_ends words names (omega (arith, e))
+
+-- What an external declaration without a body and initializers declares is what the walk over the sorts of its words finds.
 
 -- Suffixes of a declarator change nothing.
-
-one_run : (tree : Tree) (more : List Sort) (s middle end : State) → run s (tree_sorts tree) ≡ middle → run middle more ≡ end → run s (tree_sorts tree ++ more) ≡ end
-one_run tree more s middle end h g = run_append s (tree_sorts tree) more ∙ ap (λ (x : State). run x more) h ∙ g
 
 bracketed : (tree : Tree) (deep : ℕ) (names : List (List ℕ)) → IsSound tree → run (Behind (suc deep) names) (tree_sorts tree ++ Close ∷ []) ≡ Behind deep names
 bracketed tree deep names h = one_run tree (Close ∷ []) (Behind (suc deep) names) (Behind (suc deep) names) (Behind deep names) (sound_neutral tree h false deep names) refl

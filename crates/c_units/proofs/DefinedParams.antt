@@ -1,25 +1,11 @@
 -- The parameters of a function that is defined.
-use Rattle.std.proofs.Common.{◌≡◌, ◌<◌, ◌≤◌, ℕ, List, [], ◌∷◌, Option, Some, None, Result, Ok, Err, IfOk, Box, Vec, Global, length, get_or, refl, ap, ap₂, sym, ◌∙◌, arith}
-use Rattle.std.proofs.Math.ListN.{set}
-use Rattle.c_tree.specs.declared.tree.Declarator.{Declarator}
+use Rattle.c_units.proofs.Words.Std.{Box, Err, Global, IfOk, List, None, Ok, Option, Result, Some, Vec, [], ap, ap₂, arith, get_or, length, refl, set, sym, with_items, ℕ, ◌<◌, ◌∙◌, ◌∷◌, ◌≡◌, ◌≤◌}
+use Rattle.c_units.proofs.Words.Trees.{Base, Declarator, Expr, Node, Param, Suffix, SuffixKind, Tree, Trees, base_tree, declarator_tree, direct_tree, first_list, is_scope, leads_to_name, none, param_view, params_among, params_of, params_tree, roll-Suffix, suffix_params, suffix_tree, suffix_view, trees, ◌▹◌}
+use Rattle.c_units.proofs.Words.Units.{Names, all_behind, in_turn, kind_params, with_params}
 use Rattle.c_tree.specs.declared.tree.Declarator.TheVariants as d
-use Rattle.c_tree.specs.declared.tree.Base.{Base}
 use Rattle.c_tree.specs.declared.tree.Base.TheVariants as b
-use Rattle.c_tree.specs.declared.tree.Suffix.{Suffix, roll-Suffix}
-use Rattle.c_tree.specs.declared.tree.SuffixKind.{SuffixKind}
 use Rattle.c_tree.specs.declared.tree.SuffixKind.TheVariants as s
-use Rattle.c_tree.specs.declared.tree.Param.{Param}
-use Rattle.c_tree.specs.declared.tree.Expr.{Expr}
 use Rattle.c_tree.specs.Forms as f
-use Rattle.c_tree.specs.Tree.{Tree, Trees, Node, none, ◌▹◌}
-use Rattle.c_tree.specs.Scopes.{is_scope, first_list, leads_to_name, params_of, params_among, suffix_params}
-use Rattle.c_tree.specs.View.{declarator_tree, base_tree, suffix_tree}
-use Rattle.c_tree.specs.StatementView.{trees, suffix_view, param_view}
-use Rattle.c_tree.specs.ViewEquations.{direct_tree, params_tree}
-use Rattle.c_units.specs.Names.{Names, all_behind}
-use Rattle.c_units.specs.Externals.{with_params}
-use Rattle.c_units.specs.Turns.{in_turn, kind_params}
-use Rattle.std.specs.Vec.{with_items}
 use Rattle.c_units.proofs.ListTurns.{params_turn}
 use Rattle.c_units.proofs.WalkSteps.{if_by, held, items_in}
 

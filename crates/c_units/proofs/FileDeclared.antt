@@ -1,27 +1,149 @@
 -- A declaration that is left out since an earlier unit has it in the same words is not missed.
-use Rattle.std.proofs.Common.{◌≡◌, ◌≤◌, ◌<◌, ◌+◌, ℕ, Bool, true, false, if◌then◌else◌, bytes_eq, length, map, All, List, [], ◌∷◌, ◌++◌, Option, Some, None, IsSome, ◌⊎◌, inl, inr, append_assoc, refl, sym, subst, ◌∙◌, arith}
-use Rattle.std.proofs.Math.Bool.{or-false}
-use Rattle.std.proofs.lemmas.Bool.{and_parts, or_cases, or_left, or_right}
-use Rattle.std.proofs.lemmas.Slice.Eq.{bytes_eq-Decides}
-use Rattle.std.proofs.lemmas.List.{append-nil, length-map}
-use Rattle.std.proofs.lemmas.List.Folds.{list_any-append}
-use Rattle.std.proofs.lemmas.List.Elements.{All-nil, All-cons, All-head, All-tail}
-use Rattle.c_lexer.specs.Written.{TokensAreLongest}
+use Rattle.c_units.proofs.Words.Std.{All, All-append, All-cons, All-head, All-nil, All-tail, All-weaker, Bool, IsSome, List, None, Option, Some, [], and_parts, append-nil, append_assoc, arith, bytes_eq, bytes_eq-Decides, false, if◌then◌else◌, inl, inr, length, length-map, list_any-append, map, or-false, or_cases, or_left, or_right, refl, subst, sym, true, ℕ, ⊤, ◌++◌, ◌+◌, ◌<◌, ◌∙◌, ◌∷◌, ◌≡◌, ◌≤◌, ◌⊎◌}
+use Rattle.c_units.proofs.Words.Trees.{At, Leaf, TokensAreLongest, Tree, Trees, first_scope, name_among, none, unit_view, ◌▹◌}
+use Rattle.c_units.proofs.Words.Units.{AreDeclared, Constant, Declaration, External, HasNoDots, HaveNoDots, Held, IsDeclared, IsOfText, MergeKeepsDeclared, Said, Scope, Use, after_external, all_noted, declaration_of, declared_as, declared_by, each_uses, first_of, has_dot, hold, hold_inner, is_again, is_among, is_plain, left_parts, no_scope, noted, own_in_program, program_parts, spelling, spellings_of, trees_of, unit_names, unit_said, unit_uses, use_of}
+use Rattle.c_units.specs.Binding.{Inner, inside_params}
+use Rattle.c_units.proofs.Walks.{anything, no_dots, at_scope, Keeps, tree_kept, parts_kept}
+use Rattle.c_units.proofs.FileWalks.{Have, NameHas, KeepsFile, external_held}
 use Rattle.c_tree.specs.declared.statement.Unit.{Unit as Code}
-use Rattle.c_tree.specs.Tree.{Tree, Trees}
-use Rattle.c_tree.specs.Scopes.{first_scope}
-use Rattle.c_tree.specs.StatementView.{unit_view}
-use Rattle.c_units.specs.Mentions.{is_among, noted, all_noted}
-use Rattle.c_units.specs.Externals.{Said, unit_names, unit_said}
-use Rattle.c_units.specs.Merge.{is_plain, spelling, is_again, spellings_of, trees_of}
-use Rattle.c_units.specs.Binding.{Use, Scope, after_external, each_uses, no_scope}
-use Rattle.c_units.specs.KeptBindings.{HaveNoDots}
-use Rattle.c_units.specs.MergedBindings.{unit_uses}
-use Rattle.c_units.specs.FileBindings.{declared_by, Part, left_parts, own_in_program, program_parts, first_of, IsDeclared, AreDeclared, IsOfText, MergeKeepsDeclared}
+use Rattle.c_units.specs.FileBindings.{Part}
 use Rattle.c_units.proofs.BoundExternals.{units_keep_bindings}
-use Rattle.c_units.proofs.SoundTrees.{unit_suffix}
-use Rattle.c_units.proofs.ReadTrees.{Tells, each_tells, unit_read, alike_declare}
-use Rattle.c_units.proofs.HeldNames.{Have, Covers, external_covers, begun_covers, covers_weaker}
+use Rattle.c_units.proofs.SoundTrees.{unit_suffix, Tells, each_tells, unit_read, alike_declare}
+use Rattle.c_tree.specs.Words as w
+use Rattle.c_tree.specs.Places as p
+
+-- An object or a function that is bound at a place of a unit was declared before it.
+
+some_is : (x y : Declaration) → Some x ≡ Some y → x ≡ y
+some_is x y h = cc
+
+no_inner : (number : ℕ) → Inner number ≡ External → ⊥
+no_inner number h = cc
+
+no_constant : Constant ≡ External → ⊥
+no_constant h = cc
+
+no_none : None ≡ Some External → ⊥
+no_none h = cc
+
+module _ (P : List ℕ → Type 0) where
+  -- an object or a function that holds has it, and so has one that is used
+  abbrev HeldHave : List Held → Type 0
+  HeldHave [] = ⊤
+  HeldHave (held ∷ rest) = (held.declaration ≡ External → P held.name) × HeldHave rest
+
+  abbrev pub UseHas : Use → Type 0
+  UseHas place = place.declaration ≡ Some External → P place.name
+
+  abbrev pub Covers : Scope → Type 0
+  Covers s = HeldHave s.held × All UseHas s.uses
+
+  found_by : (found : Bool) (held : Held) (rest : List Held) (name : List ℕ) → bytes_eq held.name name ≡ found → (held.declaration ≡ External → P held.name) →
+      (declaration_of rest name ≡ Some External → P name) → (if found then Some held.declaration else declaration_of rest name) ≡ Some External → P name
+  found_by true held rest name is h more e =
+      subst P ((bytes_eq-Decides held.name name).0 is) (h (some_is held.declaration External e))
+  found_by false held rest name is h more e = more e
+
+  found : (helds : List Held) (name : List ℕ) → HeldHave helds → declaration_of helds name ≡ Some External → P name
+  found [] name h e = absurd (no_none e)
+  found (held ∷ rest) name h e = found_by (bytes_eq held.name name) held rest name refl h.0 (λ k. found rest name h.1 k) e
+
+  any_name : (name : Option (List ℕ)) (declaration : Declaration) → (declaration ≡ External → ⊥) → declaration ≡ External → NameHas P name
+  any_name None declaration h e = tt
+  any_name (Some name) declaration h e = absurd (h e)
+
+  hold_covers : (name : Option (List ℕ)) (declaration : Declaration) (s : Scope) → (declaration ≡ External → NameHas P name) → Covers s → Covers (hold name declaration s)
+  hold_covers None declaration s h g = g
+  hold_covers (Some name) declaration s h g = ((h, g.0), g.1)
+
+  here_covers : (inside : Bool) (name : Option (List ℕ)) (s : Scope) → Covers s → Covers (if inside then hold_inner name s else hold name Constant s)
+  here_covers true name s h = hold_covers name (Inner s.inner) _ (any_name name (Inner s.inner) (no_inner s.inner)) h
+  here_covers false name s h = hold_covers name Constant s (any_name name Constant no_constant) h
+
+  one_covers : (line : ℕ) (name : List ℕ) (s : Scope) → Covers s → Covers (use_of (At line ▹ Leaf (w.Name name) ▹ none) s)
+  one_covers line name s h =
+      let one : Use = record { name = name; declaration = declaration_of s.held name } in
+      (h.0, All-append UseHas s.uses (one ∷ []) h.1 (All-cons UseHas one [] (λ e. found s.held name h.0 e) (All-nil UseHas)))
+
+  keeps_covers : Keeps (λ _. ⊤) (λ u. Covers u.scope)
+  keeps_covers = record {
+    ends = λ u inner h g. (h.0, (g h).1);
+    declares = λ parts u d h. here_covers u.scope.inside (name_among parts) u.scope h;
+    uses = λ line name u d h. one_covers line name u.scope h;
+    says = λ first second third u h. h;
+  }
+
+  kind_has : (typedef : Bool) (name : Option (List ℕ)) → (typedef ≡ false → NameHas P name) → declared_as typedef ≡ External → NameHas P name
+  kind_has true name h e = any_name name Constant no_constant e
+  kind_has false name h e = h refl
+
+  inside_covers : (params : Option Trees) (s : Scope) → Covers s → Covers (inside_params params s)
+  inside_covers None s h = h
+  inside_covers (Some params) s h = ((parts_kept anything keeps_covers params (p.Params ∷ []) (at_scope (record s { inside = true })) tt h).0, h.1)
+
+  file_covers : KeepsFile (λ _. ⊤) P (λ s t. Covers s)
+  file_covers = record {
+    tree = λ tree rest s t d h. tree_kept anything keeps_covers tree none (at_scope s) tt h;
+    name = λ typedef name s t has h. hold_covers name (declared_as typedef) s (kind_has typedef name has) h;
+    body = λ params tree rest s t d h. (h.0, (tree_kept anything keeps_covers tree none (at_scope (inside_params params s)) tt (inside_covers params s h)).1);
+  }
+
+  -- behind an external declaration, if it declares such names
+  pub external_covers : (tree : Tree) (s : Scope) → Have P (declared_by tree) → Covers s → Covers (after_external tree s)
+  external_covers tree s has h = external_held anything file_covers tree none s s tt has h
+
+  -- where an external declaration begins
+  pub begun_covers : (s : Scope) → Covers s → Covers (record s { inner = 0; uses = [] })
+  begun_covers s h = (h.0, All-nil UseHas)
+
+-- a weaker property
+held_weaker : (P Q : List ℕ → Type 0) → ((name : List ℕ) → P name → Q name) → (helds : List Held) → HeldHave P helds → HeldHave Q helds
+held_weaker P Q h [] g = tt
+held_weaker P Q h (held ∷ rest) g = (λ e. h held.name (g.0 e), held_weaker P Q h rest g.1)
+
+pub covers_weaker : (P Q : List ℕ → Type 0) → ((name : List ℕ) → P name → Q name) → (s : Scope) → Covers P s → Covers Q s
+covers_weaker P Q h s g = (
+  held_weaker P Q h s.held g.0,
+  All-weaker (UseHas P) (UseHas Q) (λ place k e. h place.name (k e)) s.uses g.1,
+)
+
+-- The names in the expressions of a unit are names of the text.
+
+abbrev pub IsPlain : Use → Type 0
+IsPlain place = has_dot place.name ≡ false
+
+keeps_plain : Keeps HaveNoDots (λ u. All IsPlain u.scope.uses)
+unfolding HasNoDots HaveNoDots
+keeps_plain = record {
+  ends = λ u inner h g. g h;
+  declares = λ parts u d h. here_plain u.scope.inside (name_among parts) u.scope h;
+  uses = λ line name u d h. All-append IsPlain u.scope.uses (_ ∷ []) h (All-cons IsPlain _ [] d.1.0 (All-nil IsPlain));
+  says = λ first second third u h. h;
+} where
+  here_plain : (inside : Bool) (name : Option (List ℕ)) (s : Scope) → All IsPlain s.uses → All IsPlain (if inside then hold_inner name s else hold name Constant s).uses
+  here_plain true None s h = h
+  here_plain false None s h = h
+  here_plain inside name s h = h
+
+file_plain : KeepsFile HaveNoDots (λ _. ⊤) (λ s t. All IsPlain s.uses)
+file_plain = record {
+  tree = λ tree rest s t d h. tree_kept no_dots keeps_plain tree rest (at_scope s) d h;
+  name = λ typedef name s t has h. hold_plain name (declared_as typedef) s h;
+  body = λ params tree rest s t d h. tree_kept no_dots keeps_plain tree rest (at_scope (inside_params params s)) d h;
+} where
+  hold_plain : (name : Option (List ℕ)) (declaration : Declaration) (s : Scope) → All IsPlain s.uses → All IsPlain (hold name declaration s).uses
+  hold_plain None declaration s h = h
+  hold_plain (Some name) declaration s h = h
+
+-- those of each external declaration
+pub each_plain : (unit : Trees) (s : Scope) → HaveNoDots unit → All (All IsPlain) (each_uses unit s)
+unfolding each_uses HasNoDots HaveNoDots
+each_plain none s d = All-nil (All IsPlain)
+each_plain (tree ▹ rest) s d =
+    All-cons (All IsPlain) _ (each_uses rest _)
+    (external_held no_dots file_plain tree rest (record s { inner = 0; uses = [] }) s d (λ name e. tt) (All-nil IsPlain)) (each_plain rest _ d.1)
+
+-- A declaration that is left out since an earlier unit has it in the same words is not missed.
 
 -- What is declared stays so.
 

@@ -1,10 +1,8 @@
 -- A declarator at file scope, with or without a name.
-use Rattle.std.proofs.Common.{◌≡◌, ℕ, List, Option, Some, None, refl, ap}
-use Rattle.c_tree.specs.Tree.{Tree}
-use Rattle.c_tree.specs.Scopes.{name_of, first_name}
-use Rattle.c_units.specs.declared.mention.Role.{Role}
-use Rattle.c_units.specs.Names.{Names, name_by, declare, mention, behind, renamed}
-use Rattle.c_units.specs.Externals.{with_name, binding_as, before_declarator, declared_as, behind_declarator, named_as, renamed_declarator}
+use Rattle.c_units.proofs.Words.Std.{List, None, Option, Some, ap, refl, ℕ, ◌≡◌}
+use Rattle.c_units.proofs.Words.Trees.{Tree, first_name, name_of}
+use Rattle.c_units.proofs.Words.Units.{Names, Role, before_declarator, behind, behind_declarator, binding_as, declare, mention, name_by, named_as, renamed, renamed_declarator, with_name}
+use Rattle.c_units.specs.Externals.{declared_as}
 
 pub first_alone : (name : Option (List ℕ)) → first_name name None ≡ name
 first_alone None = refl

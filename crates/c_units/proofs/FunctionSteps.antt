@@ -1,18 +1,9 @@
 -- The definition of a function, as the walk changes it where it stands.
-use Rattle.std.proofs.Common.{◌≡◌, ℕ, List, Result, Ok, Err, IfOk, ap, ap₂, sym, ◌∙◌}
-use Rattle.c_tree.specs.declared.tree.Specs.{Specs}
-use Rattle.c_tree.specs.declared.tree.Declarator.{Declarator}
-use Rattle.c_tree.specs.declared.statement.Stmt.{Stmt}
-use Rattle.c_tree.specs.declared.statement.Decl.{Decl}
+use Rattle.c_units.proofs.Words.Std.{Err, IfOk, List, Ok, Result, ap, ap₂, sym, ℕ, ◌∙◌, ◌≡◌}
+use Rattle.c_units.proofs.Words.Trees.{At, Decl, Declarator, Node, Specs, Stmt, Tree, body_view, decl_view, declarator_tree, none, params_of, specs_view, ◌▹◌}
+use Rattle.c_units.proofs.Words.Units.{Defined, Names, behind, behind_declarator, behind_external, inside_params, left_scope, renamed, renamed_declarator, renamed_external}
 use Rattle.c_tree.specs.declared.statement.Decl.TheVariants as d
 use Rattle.c_tree.specs.Forms as f
-use Rattle.c_tree.specs.Tree.{Tree, At, Node, none, ◌▹◌}
-use Rattle.c_tree.specs.Scopes.{params_of}
-use Rattle.c_tree.specs.View.{declarator_tree}
-use Rattle.c_tree.specs.StatementView.{specs_view, body_view, decl_view}
-use Rattle.c_units.specs.declared.mention.Role.TheVariants.{Defined}
-use Rattle.c_units.specs.Names.{Names, behind, renamed, left_scope}
-use Rattle.c_units.specs.Externals.{behind_declarator, renamed_declarator, inside_params, behind_external, renamed_external}
 use Rattle.c_units.proofs.KeptParams.{file_params}
 use Rattle.c_units.proofs.WalkSteps.{if_by}
 

@@ -1,17 +1,12 @@
 -- What stands at file scope changes no binding in an inner scope.
-use Rattle.std.proofs.Common.{◌≡◌, ℕ, suc, Bool, true, false, if◌then◌else◌, bytes_eq, map, List, [], ◌∷◌, ◌++◌, Option, Some, None, ◌⊎◌, inl, inr, refl, ap, ap₂, sym, subst, subst₂, ◌∙◌}
-use Rattle.std.proofs.lemmas.List.{map-append}
+use Rattle.c_units.proofs.Words.Std.{Bool, List, None, Option, Some, [], ap, ap₂, bytes_eq, false, if◌then◌else◌, map, map-append, refl, subst, suc, sym, true, ℕ, ⊤, ◌++◌, ◌∙◌, ◌∷◌, ◌≡◌}
+use Rattle.c_units.proofs.Words.Trees.{At, Leaf, Tree, Trees, name_among, none, ◌▹◌}
+use Rattle.c_units.proofs.Words.Units.{Constant, Declaration, Held, Scope, Use, after, after_all, after_external, binding_at, binding_of, declaration_of, declared_as, hold, hold_here, hold_inner, inner_of, inner_use, name_by, names_at_start, use_of}
 use Rattle.c_tree.specs.Words as w
-use Rattle.c_tree.specs.Forms.{Form}
-use Rattle.c_tree.specs.Forms as f
-use Rattle.c_tree.specs.Places.{Place}
 use Rattle.c_tree.specs.Places as p
-use Rattle.c_tree.specs.Tree.{Tree, Trees, Leaf, At, Node, none, ◌▹◌, count}
-use Rattle.c_tree.specs.Grammar.{shape}
-use Rattle.c_tree.specs.Scopes.{name_of, name_among, params_of, has_typedef, is_scope, places}
-use Rattle.c_units.specs.Binding.{Declaration, Inner, Constant, Held, Use, Scope, declaration_of, hold, hold_inner, hold_here, use_of, left_part, entered, left, after, after_all, declared_as, after_declarator, after_entries, inside_params, after_external}
-use Rattle.c_units.specs.MergedBindings.{inner_of, inner_use}
-use Rattle.c_units.proofs.BoundTrees.{Same, IsName, IsOther, name_parts, use_same}
+use Rattle.c_units.specs.Binding.{Inner, inside_params}
+use Rattle.c_units.proofs.FileWalks.{declare_suffix, name_stays, tree_stays, parts_stay, KeepsFile, external_held}
+use Rattle.c_units.proofs.Walks.{World, anything, at_scope, Keeps, tree_kept, parts_kept}
 
 -- two places of one inner scope, where other declarations may hold at file scope
 abbrev pub Alike : Scope → Scope → Type 0
@@ -57,85 +52,50 @@ name_alike line name s t h =
           ∙ sym (map-append inner_use s.uses (here ∷ [])),
     )
 
-use_by : (parts : Trees) (s t : Scope) → Alike s t → IsName parts ⊎ IsOther parts → Alike (use_of parts s) (use_of parts t)
-use_by parts s t h (inl g) = subst (λ (ps : Trees). Alike (use_of ps s) (use_of ps t)) (sym g.2) (name_alike g.0 g.1 s t h)
-use_by parts s t h (inr g) = subst₂ Alike (sym (g.1 s)) (sym (g.1 t)) h
+keeps_alike : Keeps (λ _. ⊤) (λ u. (u.by.suffix ≡ []) × Alike u.scope u.held)
+keeps_alike = record {
+  ends = λ u inner h g.
+      let more = g (h.0, (h.1.0, refl, h.1.2, h.1.3)) in
+      (more.0, (h.1.0, h.1.1, more.1.2, more.1.3));
+  declares = λ parts u d h. (declare_suffix (name_among parts) (binding_at u.by) u.by ∙ h.0, here_alike (name_among parts) u.scope u.held h.1);
+  uses = λ line name u d h.
+      let same = ap (λ (suffix : List ℕ). name_by (binding_of u.by.known name) suffix name) h.0 ∙ name_stays (binding_of u.by.known name) name in (
+        h.0,
+        subst (λ (new : List ℕ). Alike (use_of (At line ▹ Leaf (w.Name name) ▹ none) u.scope) (use_of (At line ▹ Leaf (w.Name new) ▹ none) u.held)) (sym same)
+            (name_alike line name u.scope u.held h.1),
+      );
+  says = λ first second third u h. h;
+}
 
-entered_alike : (form : Form) (s t : Scope) → Alike s t → Alike (entered form s) (entered form t)
-unfolding entered
-entered_alike f.FunctionSuffix s t h = (h.0, refl, h.2, h.3)
-entered_alike form s t h = h
+at_both : Scope → Scope → World
+at_both s t = record (at_scope s) { held = t }
 
-left_alike : (form : Form) (parts : Trees) (s t inner other : Scope) → Alike s t → Alike inner other → Alike (left form parts s inner) (left form parts t other)
-unfolding left
-left_alike f.Body parts s t inner other h g = (h.0, h.1, g.2, g.3)
-left_alike f.Block parts s t inner other h g = (h.0, h.1, g.2, g.3)
-left_alike f.Delay parts s t inner other h g = (h.0, h.1, g.2, g.3)
-left_alike f.If parts s t inner other h g = (h.0, h.1, g.2, g.3)
-left_alike f.IfElse parts s t inner other h g = (h.0, h.1, g.2, g.3)
-left_alike f.While parts s t inner other h g = (h.0, h.1, g.2, g.3)
-left_alike f.Do parts s t inner other h g = (h.0, h.1, g.2, g.3)
-left_alike f.For parts s t inner other h g = (h.0, h.1, g.2, g.3)
-left_alike f.Switch parts s t inner other h g = (h.0, h.1, g.2, g.3)
-left_alike f.FunctionSuffix parts s t inner other h g = (h.0, h.1, g.2, g.3)
-left_alike f.Declared parts s t inner other h g = here_alike (name_among parts) inner other g
-left_alike f.Param parts s t inner other h g = here_alike (name_among parts) inner other g
-left_alike f.Enumerator parts s t inner other h g = here_alike (name_among parts) inner other g
-left_alike f.Name parts s t inner other h g = use_by parts inner other g (name_parts parts)
-left_alike form parts s t inner other h g = g
-
-part_alike : (scope : Bool) (s t inner other : Scope) → Alike s t → Alike inner other → Alike (left_part scope s inner) (left_part scope t other)
-part_alike true s t inner other h g = (h.0, h.1, g.2, g.3)
-part_alike false s t inner other h g = g
-
-mutual
-  unfolding after after_all
-
-  tree_alike : (tree : Tree) (s t : Scope) → Alike s t → Alike (after tree s) (after tree t)
-  tree_alike (Leaf word) s t h = h
-  tree_alike (At line) s t h = h
-  tree_alike (Node form parts) s t h =
-      let ps = places (shape form (count parts)) in
-      left_alike form parts s t (after_all parts ps (entered form s)) (after_all parts ps (entered form t)) h
-      (parts_alike parts ps (entered form s) (entered form t) (entered_alike form s t h))
-
-  parts_alike : (parts : Trees) (ps : List Place) (s t : Scope) → Alike s t → Alike (after_all parts ps s) (after_all parts ps t)
-  parts_alike none ps s t h = h
-  parts_alike (tree ▹ rest) [] s t h = h
-  parts_alike (tree ▹ rest) (place ∷ ps) s t h =
-      parts_alike rest ps (left_part (is_scope place) s (after tree s)) (left_part (is_scope place) t (after tree t))
-      (part_alike (is_scope place) s t (after tree s) (after tree t) h (tree_alike tree s t h))
-
-declarator_alike : (typedef : Bool) (declarator : Tree) (s t : Scope) → Alike s t → Alike (after_declarator typedef declarator s) (after_declarator typedef declarator t)
-declarator_alike typedef declarator s t h =
-    hold_alike (name_of declarator) (declared_as typedef) (after declarator s) (after declarator t) (tree_alike declarator s t h)
+tree_alike : (tree : Tree) (s t : Scope) → Alike s t → Alike (after tree s) (after tree t)
+unfolding at_both
+tree_alike tree s t h =
+    subst (λ (new : Tree). Alike (after tree s) (after new t)) (tree_stays tree (names_at_start [] []) refl)
+    (tree_kept anything keeps_alike tree none (at_both s t) tt (refl, h)).1
 
 params_alike : (params : Option Trees) (s t : Scope) → Alike s t → Alike (inside_params params s) (inside_params params t)
+unfolding at_both
 params_alike None s t h = (h.0, refl, h.2, h.3)
 params_alike (Some params) s t h =
-    let g = parts_alike params (p.Params ∷ []) (record s { inside = true }) (record t { inside = true }) (h.0, refl, h.2, h.3) in
+    let opened = at_both (record s { inside = true }) (record t { inside = true }) in
+    let g = subst (λ (new : Trees). Alike (after_all params (p.Params ∷ []) opened.scope) (after_all new (p.Params ∷ []) opened.held))
+    (parts_stay params (p.Params ∷ []) (names_at_start [] []) refl) (parts_kept anything keeps_alike params (p.Params ∷ []) opened tt (refl, (h.0, refl, h.2, h.3))).1 in
     (g.0, g.1, g.2, h.3)
 
-entries_alike : (typedef : Bool) (names : Trees) (s t : Scope) → Alike s t → Alike (after_entries typedef names s) (after_entries typedef names t)
-unfolding after_entries
-entries_alike typedef (Node f.Entry (Node f.Declared (declarator ▹ none) ▹ init ▹ none) ▹ rest) s t h =
-    entries_alike typedef rest (after init (after_declarator typedef declarator s)) (after init (after_declarator typedef declarator t))
-    (tree_alike init (after_declarator typedef declarator s) (after_declarator typedef declarator t) (declarator_alike typedef declarator s t h))
-entries_alike typedef names s t h = h
+file_alike : KeepsFile (λ _. ⊤) (λ _. ⊤) Alike
+file_alike = record {
+  tree = λ tree rest s t d h. tree_alike tree s t h;
+  name = λ typedef name s t has h. hold_alike name (declared_as typedef) s t h;
+  body = λ params tree rest s t d h.
+      let g = tree_alike tree _ _ (params_alike params s t h) in (h.0, h.1, g.2, g.3);
+}
 
 -- an external declaration
 pub external_alike : (tree : Tree) (s t : Scope) → Alike s t → Alike (after_external tree s) (after_external tree t)
-unfolding after_external
-external_alike (Node f.Function (line ▹ words ▹ Node f.Declared (declarator ▹ none) ▹ body ▹ none)) s t h =
-    let s1 : Scope = after_declarator false declarator (after words s) in
-    let t1 : Scope = after_declarator false declarator (after words t) in
-    let g : Alike s1 t1 = declarator_alike false declarator (after words s) (after words t) (tree_alike words s t h) in
-    let s2 : Scope = inside_params (params_of declarator) s1 in
-    let t2 : Scope = inside_params (params_of declarator) t1 in
-    part_alike true s1 t1 (after body s2) (after body t2) g (tree_alike body s2 t2 (params_alike (params_of declarator) s1 t1 g))
-external_alike (Node f.Declaration (line ▹ Node f.Specs words ▹ Node f.Names names ▹ none)) s t h =
-    entries_alike (has_typedef words) names (after (Node f.Specs words) s) (after (Node f.Specs words) t) (tree_alike (Node f.Specs words) s t h)
-external_alike tree s t h = h
+external_alike tree s t h = external_held anything file_alike tree none s t tt (λ name e. tt) h
 
 -- a place at file scope, where no declaration of an inner scope holds
 abbrev pub Outer : Scope → Type 0
@@ -155,81 +115,24 @@ here_outer : (name : Option (List ℕ)) (s : Scope) → Outer s → Outer (hold_
 here_outer name s h =
     subst (λ (x : Bool). Outer (if x then hold_inner name s else hold name Constant s)) (sym h.1) (hold_outer name Constant s refl h)
 
-outer_same : (s t : Scope) → Same t s → Outer s → Outer t
-outer_same s t e h =
-    (λ name. ap (λ (l : List Held). inner_of (declaration_of l name)) e.0 ∙ h.0 name, e.1 ∙ h.1)
-
-left_outer : (form : Form) (parts : Trees) (s inner : Scope) → Outer s → Outer inner → Outer (left form parts s inner)
-unfolding left
-left_outer f.Body parts s inner h g = (h.0, h.1)
-left_outer f.Block parts s inner h g = (h.0, h.1)
-left_outer f.Delay parts s inner h g = (h.0, h.1)
-left_outer f.If parts s inner h g = (h.0, h.1)
-left_outer f.IfElse parts s inner h g = (h.0, h.1)
-left_outer f.While parts s inner h g = (h.0, h.1)
-left_outer f.Do parts s inner h g = (h.0, h.1)
-left_outer f.For parts s inner h g = (h.0, h.1)
-left_outer f.Switch parts s inner h g = (h.0, h.1)
-left_outer f.FunctionSuffix parts s inner h g = (h.0, h.1)
-left_outer f.Declared parts s inner h g = here_outer (name_among parts) inner g
-left_outer f.Param parts s inner h g = here_outer (name_among parts) inner g
-left_outer f.Enumerator parts s inner h g = here_outer (name_among parts) inner g
-left_outer f.Name parts s inner h g = outer_same inner (use_of parts inner) (use_same parts inner) g
-left_outer form parts s inner h g = g
-
--- but in a parameter list, which ends where it began
-list_or_outer : (form : Form) (s : Scope) → Outer s → (form ≡ f.FunctionSuffix) ⊎ Outer (entered form s)
-unfolding entered
-list_or_outer f.FunctionSuffix s h = inl refl
-list_or_outer form s h = inr h
-
-node_outer : (form : Form) (parts : Trees) (s inner : Scope) → Outer s → (form ≡ f.FunctionSuffix) ⊎ Outer (entered form s) →
-    (Outer (entered form s) → Outer inner) → Outer (left form parts s inner)
-unfolding left
-node_outer form parts s inner h (inl e) within = subst (λ (g : Form). Outer (left g parts s inner)) (sym e) (h.0, h.1)
-node_outer form parts s inner h (inr g) within = left_outer form parts s inner h (within g)
-
-part_outer : (scope : Bool) (s inner : Scope) → Outer s → Outer inner → Outer (left_part scope s inner)
-part_outer true s inner h g = (h.0, h.1)
-part_outer false s inner h g = g
-
-mutual
-  unfolding after after_all
-
-  tree_outer : (tree : Tree) (s : Scope) → Outer s → Outer (after tree s)
-  tree_outer (Leaf word) s h = h
-  tree_outer (At line) s h = h
-  tree_outer (Node form parts) s h =
-      let ps = places (shape form (count parts)) in
-      node_outer form parts s (after_all parts ps (entered form s)) h (list_or_outer form s h)
-      (λ g. parts_outer parts ps (entered form s) g)
-
-  parts_outer : (parts : Trees) (ps : List Place) (s : Scope) → Outer s → Outer (after_all parts ps s)
-  parts_outer none ps s h = h
-  parts_outer (tree ▹ rest) [] s h = h
-  parts_outer (tree ▹ rest) (place ∷ ps) s h =
-      parts_outer rest ps (left_part (is_scope place) s (after tree s))
-      (part_outer (is_scope place) s (after tree s) h (tree_outer tree s h))
+keeps_outer : Keeps (λ _. ⊤) (λ u. Outer u.scope)
+keeps_outer = record {
+  ends = λ u inner h g. h;
+  declares = λ parts u d h. here_outer (name_among parts) u.scope h;
+  uses = λ line name u d h. h;
+  says = λ first second third u h. h;
+}
 
 kind_outer : (typedef : Bool) → inner_of (Some (declared_as typedef)) ≡ None
 kind_outer true = refl
 kind_outer false = refl
 
-declarator_outer : (typedef : Bool) (declarator : Tree) (s : Scope) → Outer s → Outer (after_declarator typedef declarator s)
-declarator_outer typedef declarator s h =
-    hold_outer (name_of declarator) (declared_as typedef) (after declarator s) (kind_outer typedef) (tree_outer declarator s h)
-
-entries_outer : (typedef : Bool) (names : Trees) (s : Scope) → Outer s → Outer (after_entries typedef names s)
-unfolding after_entries
-entries_outer typedef (Node f.Entry (Node f.Declared (declarator ▹ none) ▹ init ▹ none) ▹ rest) s h =
-    entries_outer typedef rest (after init (after_declarator typedef declarator s))
-    (tree_outer init (after_declarator typedef declarator s) (declarator_outer typedef declarator s h))
-entries_outer typedef names s h = h
+file_outer : KeepsFile (λ _. ⊤) (λ _. ⊤) (λ s t. Outer s)
+file_outer = record {
+  tree = λ tree rest s t d h. tree_kept anything keeps_outer tree none (at_scope s) tt h;
+  name = λ typedef name s t has h. hold_outer name (declared_as typedef) s (kind_outer typedef) h;
+  body = λ params tree rest s t d h. h;
+}
 
 pub external_outer : (tree : Tree) (s : Scope) → Outer s → Outer (after_external tree s)
-unfolding after_external
-external_outer (Node f.Function (line ▹ words ▹ Node f.Declared (declarator ▹ none) ▹ body ▹ none)) s h =
-    let g = declarator_outer false declarator (after words s) (tree_outer words s h) in (g.0, g.1)
-external_outer (Node f.Declaration (line ▹ Node f.Specs words ▹ Node f.Names names ▹ none)) s h =
-    entries_outer (has_typedef words) names (after (Node f.Specs words) s) (tree_outer (Node f.Specs words) s h)
-external_outer tree s h = h
+external_outer tree s h = external_held anything file_outer tree none s s tt (λ name e. tt) h

@@ -4,9 +4,10 @@ pub mod ListTurns
 pub mod TreeParts
 pub mod ScopeEnds
 pub mod ItemTurns
-pub mod KeptSuffix
 pub mod BoundNames
 pub mod BoundTrees
+pub mod Walks
+pub mod FileWalks
 pub mod BoundDeclarators
 pub mod BoundExternals
 pub mod DefinedParams
@@ -17,23 +18,16 @@ pub mod SaidTurns
 pub mod FileNames
 pub mod ProgramTurns
 pub mod InnerBindings
-pub mod InnerUses
-pub mod Suffixes
 pub mod MergedNames
 pub mod WalkSteps
-pub mod SuffixesApart
-pub mod DeclaredNames
-pub mod UsedNames
 pub mod FileBindings
 pub mod WordTexts
 pub mod WordSorts
 pub mod SoundTrees
-pub mod SpecSorts
 pub mod DeclaredSorts
-pub mod ReadTrees
-pub mod HeldNames
 pub mod FileDeclared
 pub mod KeptParams
 pub mod FunctionSteps
 pub mod NamedSteps
 pub mod TokenForms
+mod Words

@@ -1,14 +1,10 @@
 -- Parts of a node that are gone through in turn.
-use Rattle.std.proofs.Common.{◌≡◌, ◌≤◌, ℕ, zero, suc, Bool, false, List, ◌∷◌, refl, ap, ◌∙◌, arith}
-use Rattle.std.specs.Prelude.{replicate}
+use Rattle.c_units.proofs.Words.Std.{Bool, List, ap, arith, false, refl, replicate, suc, zero, ℕ, ◌∙◌, ◌∷◌, ◌≡◌, ◌≤◌}
+use Rattle.c_units.proofs.Words.Trees.{At, Expression, Node, Place, Trees, behind_commas, commas, count, is_scope, none, places, rows, shape, some, some_commas, ◌▹◌}
+use Rattle.c_units.proofs.Words.Units.{Names, all_behind, all_renamed, behind, each_renamed, entered, in_turn, left, made, renamed}
 use Rattle.c_tree.specs.Forms as f
-use Rattle.c_tree.specs.Places.{Place, Expression}
 use Rattle.c_tree.specs.Places as p
-use Rattle.c_tree.specs.Tree.{Trees, At, Node, none, ◌▹◌, count}
-use Rattle.c_tree.specs.Grammar.{shape, rows, commas, behind_commas, some_commas, some}
-use Rattle.c_tree.specs.Scopes.{places, is_scope}
-use Rattle.c_units.specs.Names.{Names, behind, all_behind, renamed, all_renamed, left, left_part, entered, made}
-use Rattle.c_units.specs.Turns.{in_turn, each_renamed}
+use Rattle.c_units.specs.Names.{left_part}
 
 -- parts at these places are gone through in turn
 abbrev Turns : Trees → List Place → Names → Type 0

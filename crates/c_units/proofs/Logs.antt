@@ -1,17 +1,7 @@
 -- Declarations as the code keeps them, and what each name is bound to.
-use Rattle.std.proofs.Common.{◌≡◌, ℕ, suc, ◌-◌, ◌<◌, ◌≤◌, Bool, true, false, if◌then◌else◌, bytes_eq, unwrap_or, List, [], ◌∷◌, ◌++◌, reverse, length, drop, get_or, Option, Some, Vec, refl, ap, sym, subst, ◌∙◌, arith}
-use Rattle.std.specs.HashMap.{HashMap, UpdatesBy}
-use Rattle.std.specs.Map.{lookup, KeepsOthers}
-use Rattle.std.specs.List.{slice_get}
-use Rattle.std.specs.Option.{option_to_list}
-use Rattle.std.proofs.lemmas.List.{reverse-append}
-use Rattle.std.proofs.lemmas.Slice.Eq.{bytes_eq-Decides}
-use Rattle.std.proofs.lemmas.Option.{get_or_from_slice_get}
-use Rattle.c_units.specs.declared.names.Binding.{Binding}
-use Rattle.c_units.specs.declared.names.Binding.TheVariants.{Shared}
-use Rattle.c_units.specs.declared.names.Entry.{Entry}
-use Rattle.c_units.specs.Names.{Known, binding_of}
-use Rattle.c_units.specs.Sets.{entries_known, TellBefore, AreBound, bound_in, without_latest, oldest}
+use Rattle.c_units.proofs.Words.Std.{Bool, HashMap, List, Option, Some, UpdatesBy, Vec, [], ap, arith, bytes_eq, bytes_eq-Decides, drop, false, get_or, get_or_from_slice_get, if◌then◌else◌, length, lookup, option_to_list, refl, reverse, reverse-append, slice_get, subst, suc, sym, true, unwrap_or, ℕ, ◌++◌, ◌-◌, ◌<◌, ◌∙◌, ◌∷◌, ◌≡◌, ◌≤◌}
+use Rattle.c_units.proofs.Words.Units.{AreBound, Binding, Entry, Known, Shared, TellBefore, binding_of, bound_in, entries_known, oldest, without_latest}
+use Rattle.std.specs.Map.{KeepsOthers}
 
 not_true : (b : Bool) → (b ≡ true → ⊥) → b ≡ false
 not_true false h = refl

@@ -1,54 +1,159 @@
 -- A unit as it stands in the program differs from the unit in names alone, some of which have the suffix there.
-use Rattle.std.proofs.Common.{◌≡◌, ◌≤◌, ◌+◌, ℕ, Bool, true, false, not, if◌then◌else◌, map, length, List, [], ◌∷◌, Option, Some, None, Result, Ok, Err, IfOk, ◌⊎◌, inl, inr, refl, sym, subst, arith}
-use Rattle.std.specs.Prelude.{⊤}
-use Rattle.std.proofs.lemmas.List.{append-nil}
-use Rattle.c_tree.specs.declared.tree.Declarator.{Declarator}
-use Rattle.c_tree.specs.declared.tree.Declarator.TheVariants as d
-use Rattle.c_tree.specs.declared.tree.Base.{Base}
-use Rattle.c_tree.specs.declared.tree.Base.TheVariants as b
-use Rattle.c_tree.specs.declared.statement.Init.{Init}
-use Rattle.c_tree.specs.declared.statement.Decl.{Decl}
-use Rattle.c_tree.specs.declared.statement.Decl.TheVariants as e
+use Rattle.c_units.proofs.Words.Std.{Bool, Err, IfOk, List, None, Ok, Option, Result, Some, [], append-nil, arith, bytes_eq, bytes_eq-Decides, codes, false, false_from_ne_true, false≢true, if◌then◌else◌, inl, inr, length, length-decimal-le, list_any-append, map, not, or_from, or_parts, refl, subst, sym, true, ℕ, ⊤, ◌++◌, ◌+◌, ◌∙◌, ◌∷◌, ◌≡◌, ◌≤◌}
+use Rattle.c_units.proofs.Words.Trees.{At, Base, Decl, Declarator, Init, IsDotted, IsRenamed, IsSuffixed, Leaf, Node, Renames, RenamesAll, RenamesSome, Tree, Trees, Word, base_tree, body_view, decl_view, declarator_tree, entry_view, first_name, has_static, has_typedef, init_view, is_scope, leads_to_name, name_among, name_of, none, params_of, shape, spec_tree, specs_view, suffix_trees, trees, unit_view, ◌▹◌}
+use Rattle.c_units.proofs.Words.Units.{Binding, Defined, Inner, MergeError, Merges, MergesRename, Names, Own, Role, Said, Shared, Typedef, all_noted, all_renamed, all_with_name, before_declarator, behind, behind_declarator, behind_entries, behind_external, binding_as, binding_at, binding_of, but_main, declare, each_said, entered, entry_names, inside_params, is_again, is_among, joined, joined_all, kept, left_scope, made, mention, name_by, named_as, no_program, noted, own_names, renamed, renamed_declarator, renamed_entries, renamed_external, role_of, static_names, suffix_of, trees_of, unit_names, with_name, with_units}
+use Rattle.c_units.proofs.Walks.{anything, at_names, Keeps, tree_kept, Stands, tree_stands}
+use Rattle.c_units.proofs.FileWalks.{declarator_kept, params_kept, external_kept}
 use Rattle.c_tree.specs.declared.statement.Unit.{Unit as Code}
-use Rattle.c_tree.specs.Words.{Word}
-use Rattle.c_tree.specs.Words as w
-use Rattle.c_tree.specs.Forms.{Form}
-use Rattle.c_tree.specs.Forms as f
-use Rattle.c_tree.specs.Places.{Place}
-use Rattle.c_tree.specs.Tree.{Tree, Trees, Leaf, At, Node, none, ◌▹◌, count}
-use Rattle.c_tree.specs.Grammar.{shape}
-use Rattle.c_tree.specs.Scopes.{first_name, name_of, name_among, params_of, has_typedef, leads_to_name, is_scope, places}
-use Rattle.c_tree.specs.View.{declarator_tree, base_tree, suffix_trees, spec_tree}
-use Rattle.c_tree.specs.StatementView.{trees, init_view, entry_view, decl_view, specs_view, body_view, unit_view}
-use Rattle.c_tree.specs.Renaming.{IsSuffixed, IsRenamed, Renames, RenamesAll, RenamesSome}
-use Rattle.c_units.specs.declared.error.MergeError.{MergeError}
-use Rattle.c_units.specs.declared.names.Binding.{Binding}
-use Rattle.c_units.specs.declared.names.Binding.TheVariants.{Inner, Own, Shared}
-use Rattle.c_units.specs.declared.mention.Role.{Role}
-use Rattle.c_units.specs.declared.mention.Role.TheVariants.{Defined}
-use Rattle.c_units.specs.Mentions.{Mention, first_taken, all_noted, with_mentions}
-use Rattle.c_units.specs.Names.{Names, name_by, binding_of, mention, behind, renamed, all_renamed, named, made, entered, left_part}
-use Rattle.c_units.specs.Externals.{with_name, all_with_name, before_declarator, behind_declarator, binding_as, named_as, renamed_declarator, role_of, behind_entries, renamed_entries, inside_params, behind_external, renamed_external, Said, each_said, unit_names, unit_said}
-use Rattle.c_units.specs.Turns.{joined}
-use Rattle.c_units.specs.Merge.{Program, no_program, is_again, kept, spellings_of, mentions_of, trees_of, unless, followed, with_units, Merges}
-use Rattle.c_units.specs.MergedNames.{joined_all, MergesRename}
 use Rattle.c_units.proofs.ItemTurns.{joined_none}
-use Rattle.c_units.proofs.BoundTrees.{IsName, IsOther, name_parts}
-use Rattle.c_units.proofs.Suffixes.{main, IsShared, Holds, mention_holds, entered_holds, behind_holds, next_holds, as_shared, declarator_holds, entry_holds, params_hold, external_holds, unit_holds}
 use Rattle.c_units.proofs.BoundDeclarators.{pointer_renamed}
-use Rattle.c_units.proofs.InnerUses.{joined_assoc, same_answer, no_answer}
+use Rattle.c_units.proofs.FileBindings.{all_left, merge_is, same_answer}
+use Rattle.c_tree.specs.declared.statement.Decl.TheVariants as e
+use Rattle.c_tree.specs.Forms as f
+use Rattle.c_tree.specs.declared.tree.Declarator.TheVariants as d
+use Rattle.c_tree.specs.declared.tree.Base.TheVariants as b
+use Rattle.c_tree.specs.Words as w
+
+-- What is known at a place of a unit: its suffix is short and begins with a dot, and `main` gets none.
+
+abbrev pub main : List ℕ
+main = codes "main"
+
+abbrev pub IsShared : Binding → Type 0
+IsShared Own = ⊥
+IsShared Inner = ⊤
+IsShared Shared = ⊤
+
+-- the suffix is one that a name may get, and `main` is not bound to what the unit has for itself
+abbrev pub Holds : Names → Type 0
+Holds s = (length s.suffix ≤ 3) × IsDotted s.suffix × (is_among s.own main ≡ false) × IsShared (binding_of s.known main)
+
+pub mention_holds : (b : Binding) (role : Role) (name : List ℕ) (line : ℕ) (s : Names) → Holds s → Holds (mention b role name line s)
+mention_holds Inner role name line s h = h
+mention_holds b role name line s h = h
+
+chosen : (test : Bool) (b c : Binding) → (test ≡ true → IsShared b) → IsShared c → IsShared (if test then b else c)
+chosen true b c h g = h refl
+chosen false b c h g = g
+
+declare_holds : (name : List ℕ) (b : Binding) (s : Names) → (name ≡ main → IsShared b) → Holds s → Holds (declare (Some name) b s)
+declare_holds name b s g h =
+    (h.0, h.1, h.2, chosen (bytes_eq name main) b (binding_of s.known main) (λ e. g ((bytes_eq-Decides name main).0 e)) h.3)
+
+here_shared : (inside : Bool) → IsShared (if inside then Inner else Shared)
+here_shared true = tt
+here_shared false = tt
+
+here_holds : (name : Option (List ℕ)) (s : Names) → Holds s → Holds (declare name (binding_at s) s)
+here_holds None s h = h
+here_holds (Some name) s h = declare_holds name (binding_at s) s (λ _. here_shared s.inside) h
+
+scope_holds : (before inner : Names) → Holds before → Holds inner → Holds (left_scope before inner)
+scope_holds before inner h g = (g.0, g.1, g.2, h.3)
+
+pub keeps_holds : Keeps (λ _. ⊤) (λ u. Holds u.by)
+keeps_holds = record {
+  ends = λ u inner h g. scope_holds u.by inner.by h (g h);
+  declares = λ parts u d h. here_holds (name_among parts) u.by h;
+  uses = λ line name u d h. h;
+  says = λ first second third u h. h;
+}
+
+pub behind_holds : (tree : Tree) (s : Names) → Holds s → Holds (behind tree s)
+behind_holds tree s h = tree_kept anything keeps_holds tree none (at_names s) tt h
+
+-- what file scope declares
+
+own_by : (among : Bool) → among ≡ false → IsShared (if among then Own else Shared)
+own_by true h = absurd (false≢true (sym h))
+own_by false h = tt
+
+own_main : (own : List (List ℕ)) (name : List ℕ) → is_among own main ≡ false → name ≡ main → IsShared (if is_among own name then Own else Shared)
+own_main own name h e = subst (λ (n : List ℕ). IsShared (if is_among own n then Own else Shared)) (sym e) (own_by (is_among own main) h)
+
+pub as_shared : (role : Role) (own : List (List ℕ)) (name : List ℕ) → is_among own main ≡ false → name ≡ main → IsShared (binding_as role own name)
+as_shared Typedef own name h e = tt
+as_shared role own name h e = own_main own name h e
+
+declares_holds : (role : Role) (name : List ℕ) (before x : Names) → Holds before → Holds x → Holds (declare (Some name) (binding_as role before.own name) x)
+declares_holds role name before x g h = declare_holds name (binding_as role before.own name) x (λ e. as_shared role before.own name g.2 e) h
+
+pub declarator_holds : (role : Role) (line : ℕ) (tree : Tree) (x : Names) → Holds x → Holds (behind_declarator role line tree x)
+declarator_holds role line tree x h = declarator_kept keeps_holds (λ x h. h) declares_holds role line tree x h
+
+-- behind a name of a declaration and its initializer
+pub entry_holds : (role : Role) (line : ℕ) (tree init : Tree) (x : Names) → Holds x → Holds (behind init (behind_declarator role line tree x))
+entry_holds role line tree init x h = behind_holds init (behind_declarator role line tree x) (declarator_holds role line tree x h)
+
+pub params_hold : (params : Option Trees) (x : Names) → Holds x → Holds (inside_params params x)
+params_hold params x h = params_kept keeps_holds (λ x h. h) declares_holds params x h
+
+pub external_holds : (tree : Tree) (x : Names) → Holds x → Holds (behind_external tree x)
+external_holds tree x h = external_kept keeps_holds (λ x h. h) declares_holds tree x h
+
+-- a unit has no `main` for itself
+
+append_none : (xs ys : List (List ℕ)) → is_among xs main ≡ false → is_among ys main ≡ false → is_among (xs ++ ys) main ≡ false
+append_none xs ys h g = list_any-append (bytes_eq main) xs ys ∙ or_from (is_among xs main) (is_among ys main) h g
+
+noted_by : (among : Bool) (names : List (List ℕ)) (name : List ℕ) → is_among names main ≡ false → is_among (name ∷ []) main ≡ false →
+    is_among (if among then names else names ++ name ∷ []) main ≡ false
+noted_by true names name h g = h
+noted_by false names name h g = append_none names (name ∷ []) h g
+
+all_none : (names more : List (List ℕ)) → is_among names main ≡ false → is_among more main ≡ false → is_among (all_noted names more) main ≡ false
+all_none names [] h g = h
+all_none names (name ∷ rest) h g =
+    let both = or_parts (bytes_eq main name) (is_among rest main) g in
+    all_none (noted names name) rest (noted_by (is_among names name) names name h (or_from (bytes_eq main name) false both.0 refl)) both.1
+
+but_main_by : (is : Bool) (name : List ℕ) → bytes_eq name main ≡ is → is_among (if is then [] else name ∷ []) main ≡ false
+but_main_by true name e = refl
+but_main_by false name e =
+    let other = λ (h : bytes_eq main name ≡ true). false≢true (sym e ∙ (bytes_eq-Decides name main).1 (sym ((bytes_eq-Decides main name).0 h))) in
+    or_from (bytes_eq main name) false (false_from_ne_true (bytes_eq main name) other) refl
+
+found_none : (found : Option (List ℕ)) → is_among (but_main found) main ≡ false
+found_none None = refl
+found_none (Some name) = but_main_by (bytes_eq name main) name refl
+
+entries_none : (names : Trees) → is_among (entry_names names) main ≡ false
+unfolding entry_names
+entries_none (Node f.Entry (declared ▹ rest) ▹ more) = append_none (but_main (name_of declared)) (entry_names more) (found_none (name_of declared)) (entries_none more)
+entries_none names = refl
+
+static_by : (is : Bool) (names : List (List ℕ)) → is_among names main ≡ false → is_among (if is then names else []) main ≡ false
+static_by true names h = h
+static_by false names h = refl
+
+static_none : (tree : Tree) → is_among (static_names tree) main ≡ false
+unfolding static_names
+static_none (Node f.Function (line ▹ Node f.Specs words ▹ declared ▹ rest)) = static_by (has_static words) _ (found_none (name_of declared))
+static_none (Node f.Declaration (line ▹ Node f.Specs words ▹ Node f.Names entries ▹ none)) = static_by (has_static words) _ (entries_none entries)
+static_none tree = refl
+
+own_none : (unit : Trees) (names : List (List ℕ)) → is_among names main ≡ false → is_among (own_names unit names) main ≡ false
+own_none none names h = h
+own_none (tree ▹ rest) names h = own_none rest (all_noted names (static_names tree)) (all_none names (static_names tree) h (static_none tree))
+
+-- the suffix of the unit of a number of at most two digits
+suffix_short : (number : ℕ) → number ≤ 64 → length (suffix_of number) ≤ 3
+suffix_short number h =
+    let digits = length-decimal-le 2 number (omega arith) (omega (arith, h)) (omega (arith, h)) in
+    omega (arith, digits)
+
+-- before the first external declaration of a unit
+pub unit_holds : (number : ℕ) (decls : List Decl) → number ≤ 64 → Holds (unit_names number (trees decl_view decls))
+unit_holds number decls h = (suffix_short number h, refl, own_none (trees decl_view decls) [] refl, tt)
+
+-- A unit as it stands in the program differs from the unit in names alone, some of which have the suffix there.
 
 same_name : (name : List ℕ) → IsSuffixed name name
 same_name name = record { suffix = []; is = sym (append-nil name); dotted = tt; short = omega arith; main = λ _. refl }
 
 same_word : (word : Word) → IsRenamed word word
 same_word (w.Name name) = (name, refl, same_name name)
-same_word (w.Key keyword) = refl
-same_word (w.Mark sign) = refl
-same_word (w.Int bytes) = refl
-same_word (w.Char bytes) = refl
-same_word (w.Str bytes) = refl
-same_word (w.Other kind bytes) = refl
+same_word word = refl
 
 mutual
   unfolding Renames RenamesAll
@@ -73,104 +178,20 @@ by_known : (s : Names) (name : List ℕ) → Holds s → IsSuffixed name (name_b
 by_known s name h =
     by_binding (binding_of s.known name) s name h (λ e. subst (λ (n : List ℕ). IsShared (binding_of s.known n)) (sym e) h.3)
 
--- a part as it stands in the program: a word or a line is the same
-abbrev Like : Tree → Tree → Type 0
-Like (Leaf word) new = new ≡ Leaf word
-Like (At line) new = new ≡ At line
-Like (Node form parts) new = Renames (Node form parts) new
-
-abbrev AllLike : Trees → Trees → Type 0
-AllLike none none = ⊤
-AllLike none (new ▹ news) = ⊥
-AllLike (tree ▹ rest) none = ⊥
-AllLike (tree ▹ rest) (new ▹ news) = Like tree new × AllLike rest news
-
-like_renames : (tree new : Tree) → Like tree new → Renames tree new
-unfolding Renames
-like_renames (Leaf word) new h = subst (λ (t : Tree). Renames (Leaf word) t) (sym h) (same_word word)
-like_renames (At line) new h = subst (λ (t : Tree). Renames (At line) t) (sym h) refl
-like_renames (Node form parts) new h = h
-
-all_renames : (parts news : Trees) → AllLike parts news → RenamesAll parts news
-unfolding RenamesAll
-all_renames none none h = tt
-all_renames none (new ▹ news) h = h
-all_renames (tree ▹ rest) none h = h
-all_renames (tree ▹ rest) (new ▹ news) h = (like_renames tree new h.0, all_renames rest news h.1)
-
-like_same : (tree : Tree) → Like tree tree
-like_same (Leaf word) = refl
-like_same (At line) = refl
-like_same (Node form parts) = same_tree (Node form parts)
-
-all_same : (parts : Trees) → AllLike parts parts
-all_same none = tt
-all_same (tree ▹ rest) = (like_same tree, all_same rest)
-
-word_is : (x y : Word) → Leaf x ≡ Leaf y → x ≡ y
-word_is x y h = cc
-
-line_is : (x y : ℕ) → At x ≡ At y → x ≡ y
-line_is x y h = cc
-
-no_line : (line : ℕ) (word : Word) → At line ≡ Leaf word → ⊥
-no_line line word h = cc
-
-no_word : (line : ℕ) (word : Word) → Leaf word ≡ At line → ⊥
-no_word line word h = cc
-
--- a name in an expression gets a name that may have the suffix
-one_named : (parts : Trees) (line : ℕ) (name new : List ℕ) → IsSuffixed name new → AllLike parts (At line ▹ Leaf (w.Name name) ▹ none) →
-    Renames (Node f.Name parts) (Node f.Name (At line ▹ Leaf (w.Name new) ▹ none))
+renames_stand : Stands Holds Renames RenamesAll
 unfolding Renames RenamesAll
-one_named none line name new is h = absurd h
-one_named (Leaf word ▹ rest) line name new is h = absurd (no_line line word h.0)
-one_named (Node form parts ▹ rest) line name new is h = absurd h.0
-one_named (At at ▹ none) line name new is h = absurd h.1
-one_named (At at ▹ At next ▹ rest) line name new is h = absurd (no_word next (w.Name name) h.1.0)
-one_named (At at ▹ Node form parts ▹ rest) line name new is h = absurd h.1.0
-one_named (At at ▹ Leaf word ▹ tree ▹ rest) line name new is h = absurd h.1.1
-one_named (At at ▹ Leaf word ▹ none) line name new is h =
-    let renamed : IsRenamed word (w.Name new) =
-    subst (λ (old : Word). IsRenamed old (w.Name new)) (word_is (w.Name name) word h.1.0) (new, refl, is) in
-    (refl, (line_is line at h.0, (renamed, tt)))
-
-named_by : (parts news : Trees) (s : Names) → Holds s → AllLike parts news → IsName news ⊎ IsOther news →
-    Renames (Node f.Name parts) (named news s)
-unfolding Renames named
-named_by parts news s holds h (inl is) =
-    subst (λ (ts : Trees). Renames (Node f.Name parts) (named ts s)) (sym is.2)
-    (one_named parts is.0 is.1 (name_by (binding_of s.known is.1) s.suffix is.1) (by_known s is.1 holds)
-    (subst (λ (ts : Trees). AllLike parts ts) is.2 h))
-named_by parts news s holds h (inr is) =
-    subst (λ (t : Tree). Renames (Node f.Name parts) t) (sym (is.0 s)) (refl, all_renames parts news h)
-
-made_renames : (form : Form) (parts news : Trees) (s : Names) → Holds s → AllLike parts news → Renames (Node form parts) (made form news s)
-unfolding Renames made
-made_renames f.Name parts news s holds h = named_by parts news s holds h (name_parts news)
-made_renames form parts news s holds h = (refl, all_renames parts news h)
-
-mutual
-  unfolding renamed all_renamed
-
-  tree_like : (tree : Tree) (s : Names) → Holds s → Like tree (renamed tree s)
-  tree_like (Leaf word) s holds = refl
-  tree_like (At line) s holds = refl
-  tree_like (Node form parts) s holds =
-      let ps = places (shape form (count parts)) in
-      let e = entered form parts s in
-      made_renames form parts (all_renamed parts ps e) s holds (parts_like parts ps e (entered_holds form parts s holds))
-
-  parts_like : (parts : Trees) (ps : List Place) (s : Names) → Holds s → AllLike parts (all_renamed parts ps s)
-  parts_like none ps s holds = tt
-  parts_like (tree ▹ rest) [] s holds = all_same (tree ▹ rest)
-  parts_like (tree ▹ rest) (place ∷ ps) s holds =
-      let next = left_part (is_scope place) s (behind tree s) in
-      (tree_like tree s holds, parts_like rest ps next (next_holds (is_scope place) tree s holds))
+renames_stand = record {
+  same = same_trees;
+  more = λ tree new rest news h g. (h, g);
+  word = same_word;
+  line = λ line. refl;
+  node = λ form parts news e h. (refl, h);
+  name = λ line name x holds. (refl, (refl, ((_, refl, by_known x name holds), tt)));
+}
 
 -- a tree as it stands in the program
 tree_renames : (tree : Tree) (s : Names) → Holds s → Renames tree (renamed tree s)
-tree_renames tree s holds = like_renames tree (renamed tree s) (tree_like tree s holds)
+tree_renames tree s holds = tree_stands keeps_holds (λ x h. h) renames_stand tree s holds
 
 -- a name that may have a suffix, for a declarator that has a name
 abbrev Fits : List ℕ → Option (List ℕ) → Type 0
@@ -305,47 +326,30 @@ module _ (spellings : List (List ℕ)) where
       let said : Said = record { tree = renamed_external (decl_view decl) before; mentions = next.mentions } in
       one_kept (is_again spellings said) said (decl_view decl) (trees decl_view rest)
       (kept spellings (each_said (trees decl_view rest) next)) (external_renames decl before holds)
-      (unit_kept rest next (external_holds decl before holds))
+      (unit_kept rest next (external_holds (decl_view decl) before holds))
 
--- with the units from this number on behind those that are done
-abbrev Renaming : ℕ → List Code → Trees → Trees → Type 0
-Renaming number units done trees = RenamesSome (joined done (joined_all (map unit_view units))) trees
+-- the units from this number on
+units_rename : (units : List Code) (number : ℕ) (spellings : List (List ℕ)) → number + length units ≤ 65 →
+    RenamesSome (joined_all (map unit_view units)) (all_left number (map unit_view units) spellings)
+unfolding RenamesSome
+units_rename [] number spellings few = tt
+units_rename (unit ∷ units) number spellings few =
+    some_joined (unit_view unit) _ (joined_all (map unit_view units)) _
+    (unit_kept spellings unit.decls (unit_names number (unit_view unit)) (unit_holds number unit.decls (omega (arith, few))))
+    (units_rename units (number + 1) _ (omega (arith, few)))
 
-units_by : (taken : Option Mention) (number : ℕ) (unit : Code) (units : List Code) (before : Program) (trees done : Trees) → number ≤ 64 →
-    RenamesSome done before.trees →
-    let said = unit_said number (unit_view unit) in
-    let left = kept before.spellings said in
-    let next : Program = record { trees = joined before.trees (trees_of left); spellings = all_noted before.spellings (spellings_of said); taken = with_mentions (mentions_of left) before.taken } in
-    (RenamesSome (joined done (unit_view unit)) next.trees → with_units (number + 1) (map unit_view units) next ≡ Ok trees →
-    Renaming (number + 1) units (joined done (unit_view unit)) trees) →
-    followed (unless taken next) (λ next. with_units (number + 1) (map unit_view units) next) ≡ Ok trees → Renaming number (unit ∷ units) done trees
-units_by (Some mention) number unit units before trees done few h rest is =
-    absurd (no_answer (record { name = mention.name; line = mention.line }) trees is)
-units_by None number unit units before trees done few h rest is =
-    let said = unit_said number (unit_view unit) in
-    let left = kept before.spellings said in
-    let one = unit_kept before.spellings unit.decls (unit_names number (unit_view unit)) (unit_holds number unit.decls few) in
-    subst (λ (ts : Trees). RenamesSome ts trees) (joined_assoc done (unit_view unit) (joined_all (map unit_view units)))
-    (rest (some_joined done before.trees (unit_view unit) (trees_of left) h one) is)
-
-units_rename : (units : List Code) (number : ℕ) (before : Program) (trees done : Trees) → number + length units ≤ 65 →
-    RenamesSome done before.trees → with_units number (map unit_view units) before ≡ Ok trees → Renaming number units done trees
-units_rename [] number before trees done few h is =
-    subst (λ (ts : Trees). RenamesSome ts trees) (sym (joined_none done))
-    (subst (λ (ts : Trees). RenamesSome done ts) (sym (same_answer before.trees trees is)) h)
-units_rename (unit ∷ units) number before trees done few h is =
-    let said = unit_said number (unit_view unit) in
-    units_by (first_taken before.taken (mentions_of (kept before.spellings said))) number unit units before trees done (omega (arith, few)) h
-    (λ g next. units_rename units (number + 1) _ trees (joined done (unit_view unit)) (omega (arith, few)) g next) is
+all_rename : (units : List Code) (trees : Trees) → length units ≤ 64 → with_units 1 (map unit_view units) no_program ≡ Ok trees → RenamesSome (joined_all (map unit_view units)) trees
+all_rename units trees few is =
+    subst (λ (ts : Trees). RenamesSome (joined_all (map unit_view units)) ts) (sym (merge_is (map unit_view units) 1 no_program trees is)) (units_rename units 1 [] (omega (arith, few)))
 
 pub merges_rename : MergesRename
 unfolding RenamesSome
-merges_rename [] trees few is = units_rename [] 1 no_program trees none (omega arith) tt is
+merges_rename [] trees few is = all_rename [] trees few is
 merges_rename (unit ∷ []) trees few is =
     subst (λ (ts : Trees). RenamesSome ts trees) (sym (joined_none (unit_view unit)))
     (subst (λ (ts : Trees). RenamesSome (unit_view unit) ts) (sym (same_answer (unit_view unit) trees is)) (some_same (unit_view unit)))
 merges_rename (first ∷ second ∷ more) trees few is =
-    units_rename (first ∷ second ∷ more) 1 no_program trees none (omega (arith, few)) tt is
+    all_rename (first ∷ second ∷ more) trees few is
 
 -- what is answered
 pub merge_renames : (units : List Code) (result : Result Code MergeError) → length units ≤ 64 → Merges (map unit_view units) result →

@@ -1,9 +1,7 @@
 -- Keys of a set as names without repeats.
-use Rattle.std.proofs.Common.{◌≡◌, ℕ, Bool, true, false, if◌then◌else◌, bytes_eq, ◌||◌, List, [], ◌∷◌, ◌++◌, map, refl, ap, ◌∙◌}
-use Rattle.std.specs.List.{list_any}
-use Rattle.std.proofs.lemmas.List.{map-append}
-use Rattle.indexmap.specs.IndexSet.{insert_key}
-use Rattle.c_units.specs.Mentions.{is_among, noted}
+use Rattle.c_units.proofs.Words.Std.{Bool, List, [], ap, bytes_eq, false, if◌then◌else◌, list_any, map, map-append, refl, true, ℕ, ◌++◌, ◌||◌, ◌∙◌, ◌∷◌, ◌≡◌}
+use Rattle.c_units.proofs.Words.Trees.{insert_key}
+use Rattle.c_units.proofs.Words.Units.{is_among, noted}
 
 module _ {K : Type 0} (bytes : K → List ℕ) where
   -- a name among keys

@@ -1,22 +1,12 @@
 -- A declarator that gets another name where it stands.
-use Rattle.std.proofs.Common.{◌≡◌, ℕ, List, Option, Some, Result, IfOk, Box, Vec, Global, refl, ap, ap₂, sym, ◌∙◌}
-use Rattle.c_tree.specs.declared.tree.Declarator.{Declarator}
+use Rattle.c_units.proofs.Words.Std.{Box, Global, IfOk, List, Option, Result, Some, Vec, ap, ap₂, refl, sym, ℕ, ◌∙◌, ◌≡◌}
+use Rattle.c_units.proofs.Words.Trees.{At, Base, Declarator, Node, Suffix, Tree, Trees, base_tree, declarator_tree, direct_tree, leads_to_name, name_among, name_of, none, suffix_view, trees, ◌▹◌}
+use Rattle.c_units.proofs.Words.Units.{Binding, Names, Role, all_with_name, behind, binding_as, declare, mention, name_by, renamed, renamed_declarator, with_name}
 use Rattle.c_tree.specs.declared.tree.Declarator.TheVariants as d
-use Rattle.c_tree.specs.declared.tree.Base.{Base}
 use Rattle.c_tree.specs.declared.tree.Base.TheVariants as b
-use Rattle.c_tree.specs.declared.tree.Suffix.{Suffix}
 use Rattle.c_tree.specs.Forms as f
-use Rattle.c_tree.specs.Tree.{Tree, Trees, At, Node, none, ◌▹◌}
-use Rattle.c_tree.specs.Scopes.{name_of, name_among, leads_to_name}
-use Rattle.c_tree.specs.View.{declarator_tree, base_tree}
-use Rattle.c_tree.specs.StatementView.{trees, suffix_view}
-use Rattle.c_tree.specs.ViewEquations.{direct_tree}
-use Rattle.c_units.specs.declared.mention.Role.{Role}
-use Rattle.c_units.specs.declared.names.Binding.{Binding}
-use Rattle.c_units.specs.Names.{Names, name_by, declare, mention, behind, renamed}
-use Rattle.c_units.specs.Externals.{with_name, all_with_name, binding_as, renamed_declarator}
 use Rattle.c_units.proofs.BoundTrees.{name_same}
-use Rattle.c_units.proofs.KeptSuffix.{mention_suffix, declare_suffix, behind_suffix}
+use Rattle.c_units.proofs.FileWalks.{mention_suffix, declare_suffix, behind_suffix}
 use Rattle.c_units.proofs.FileNames.{first_alone, named_made}
 use Rattle.c_units.proofs.WalkSteps.{if_by}
 

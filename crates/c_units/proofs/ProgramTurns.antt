@@ -1,19 +1,10 @@
 -- Units that are added in turn, and the external declarations that are left of them.
-use Rattle.std.proofs.Common.{◌≡◌, ◌≢◌, ◌<◌, ◌≤◌, ◌+◌, ℕ, Bool, true, false, not, ◌&&◌, if◌then◌else◌, List, [], ◌∷◌, ◌++◌, drop, length, get_or, map, reverse, option_to_list, Option, Some, None, Result, Ok, Err, append_assoc, append-nil, refl, ap, ap₂, sym, ◌∙◌, arith}
-use Rattle.std.proofs.lemmas.List.{map-append, length-append, reverse-append}
-use Rattle.std.proofs.lemmas.List.Elements.{filter-append}
-use Rattle.c_tree.specs.Tree.{Trees, none, ◌▹◌}
-use Rattle.c_tree.specs.declared.statement.Decl.{Decl}
+use Rattle.c_units.proofs.Words.Std.{Bool, Err, List, None, Ok, Option, Result, Some, [], ap, append-nil, append_assoc, ap₂, arith, drop, false, filter-append, get_or, if◌then◌else◌, length, length-append, map, map-append, not, option_to_list, refl, reverse, reverse-append, sym, true, ℕ, ◌&&◌, ◌++◌, ◌+◌, ◌<◌, ◌∙◌, ◌∷◌, ◌≡◌, ◌≢◌, ◌≤◌}
+use Rattle.c_units.proofs.Words.Trees.{Decl, Trees, decl_view, none, trees, unit_view, ◌▹◌}
+use Rattle.c_units.proofs.Words.Units.{Adds, Conflict, IsConflict, Mention, MergeError, Merges, Program, Said, Taken, all_noted, first_taken, followed, is_again, is_among, is_plain, is_taken, joined, kept, mentions_of, merged, no_program, said_view, spelling, spellings_of, trees_of, unit_said, unless, with_mentions, with_unit, with_units}
 use Rattle.c_tree.specs.declared.statement.Unit.{Unit as Code}
-use Rattle.c_tree.specs.StatementView.{trees, decl_view, unit_view}
 use Rattle.c_units.specs.declared.said.Said.{Said as Kept}
-use Rattle.c_units.specs.Mentions.{Mention, Taken, is_among, is_taken, all_noted, first_taken, with_mentions}
-use Rattle.c_units.specs.declared.error.MergeError.{MergeError}
 use Rattle.c_units.specs.declared.error.MergeError.TheVariants as e
-use Rattle.c_units.specs.Externals.{Said, unit_said}
-use Rattle.c_units.specs.Merge.{Conflict, Program, Adds, IsConflict, Merges, is_plain, spelling, is_again, kept, spellings_of, mentions_of, trees_of, unless, with_unit, with_units, followed, merged, no_program}
-use Rattle.c_units.specs.Kept.{said_view}
-use Rattle.c_units.specs.Turns.{joined}
 use Rattle.c_units.proofs.Steps.{drop_next, drop_end}
 use Rattle.c_units.proofs.ItemTurns.{joined_more, joined_none}
 
@@ -28,39 +19,28 @@ spellings_append (x ∷ xs) ys = by (is_plain x.tree) (spellings_append xs ys)
     by false h = h
 
 -- the declarations so far, with one more
-left_next : (spellings : List (List ℕ)) (seen : List Kept) (one : Kept) →
-    (kept spellings (map said_view (seen ++ one ∷ [])) ≡ kept spellings (map said_view seen) ++ kept spellings (said_view one ∷ []))
-    × (spellings_of (map said_view (seen ++ one ∷ [])) ≡ spellings_of (map said_view seen) ++ spellings_of (said_view one ∷ []))
-left_next spellings seen one = (
-  ap (kept spellings) (map-append said_view seen (one ∷ [])) ∙ filter-append (λ said. not (is_again spellings said)) (map said_view seen) (said_view one ∷ []),
-  ap spellings_of (map-append said_view seen (one ∷ [])) ∙ spellings_append (map said_view seen) (said_view one ∷ []),
-)
+pub kept_next : (spellings : List (List ℕ)) (seen : List Kept) (one : Kept) →
+    kept spellings (map said_view (seen ++ one ∷ [])) ≡ kept spellings (map said_view seen) ++ kept spellings (said_view one ∷ [])
+kept_next spellings seen one =
+    ap (kept spellings) (map-append said_view seen (one ∷ [])) ∙ filter-append (λ said. not (is_again spellings said)) (map said_view seen) (said_view one ∷ [])
 
-left_start : (spellings : List (List ℕ)) → (kept spellings [] ≡ []) × (spellings_of [] ≡ [])
-left_start spellings = (refl, refl)
+pub spellings_next : (seen : List Kept) (one : Kept) →
+    spellings_of (map said_view (seen ++ one ∷ [])) ≡ spellings_of (map said_view seen) ++ spellings_of (said_view one ∷ [])
+spellings_next seen one = ap spellings_of (map-append said_view seen (one ∷ [])) ∙ spellings_append (map said_view seen) (said_view one ∷ [])
 
+-- one with a body or an initializer is left; one without is left where no earlier unit has it
 module _ (spellings : List (List ℕ)) (said : Said) where
-  -- with a body or an initializer it is left
-  whole_left : is_plain said.tree ≡ false → (kept spellings (said ∷ []) ≡ said ∷ []) × (spellings_of (said ∷ []) ≡ [])
-  whole_left h = (
-    ap (λ (b : Bool). if not (b && is_among spellings (spelling said.tree)) then said ∷ [] else []) h,
-    ap (λ (b : Bool). if b then spelling said.tree ∷ [] else []) h,
-  )
+  pub whole_kept : is_plain said.tree ≡ false → kept spellings (said ∷ []) ≡ said ∷ []
+  whole_kept h = ap (λ (b : Bool). if not (b && is_among spellings (spelling said.tree)) then said ∷ [] else []) h
 
-  -- without, it is left where no earlier unit has it
-  new_left : is_plain said.tree ≡ true → is_among spellings (spelling said.tree) ≡ false →
-      (kept spellings (said ∷ []) ≡ said ∷ []) × (spellings_of (said ∷ []) ≡ spelling said.tree ∷ [])
-  new_left h g = (
-    ap₂ (λ (b c : Bool). if not (b && c) then said ∷ [] else []) h g,
-    ap (λ (b : Bool). if b then spelling said.tree ∷ [] else []) h,
-  )
+  pub new_kept : is_plain said.tree ≡ true → is_among spellings (spelling said.tree) ≡ false → kept spellings (said ∷ []) ≡ said ∷ []
+  new_kept h g = ap₂ (λ (b c : Bool). if not (b && c) then said ∷ [] else []) h g
 
-  again_left : is_plain said.tree ≡ true → is_among spellings (spelling said.tree) ≡ true →
-      (kept spellings (said ∷ []) ≡ []) × (spellings_of (said ∷ []) ≡ spelling said.tree ∷ [])
-  again_left h g = (
-    ap₂ (λ (b c : Bool). if not (b && c) then said ∷ [] else []) h g,
-    ap (λ (b : Bool). if b then spelling said.tree ∷ [] else []) h,
-  )
+  pub again_kept : is_plain said.tree ≡ true → is_among spellings (spelling said.tree) ≡ true → kept spellings (said ∷ []) ≡ []
+  again_kept h g = ap₂ (λ (b c : Bool). if not (b && c) then said ∷ [] else []) h g
+
+pub whole_spelled : (said : Said) → is_plain said.tree ≡ false → spellings_of (said ∷ []) ≡ []
+whole_spelled said h = ap (λ (b : Bool). if b then spelling said.tree ∷ [] else []) h
 
 -- the first of two mentions
 abbrev first_of : Option Mention → Option Mention → Option Mention
@@ -125,37 +105,29 @@ trees_start base = joined_none base
 
 -- a unit more
 module _ (number : ℕ) (unit : Trees) (before : Program) (left : List Said) where
+  abbrev next : Program
+  next = record {
+    trees = joined before.trees (trees_of left);
+    spellings = all_noted before.spellings (spellings_of (unit_said number unit));
+    taken = with_mentions (mentions_of left) before.taken;
+  }
+
+  at_left : left ≡ kept before.spellings (unit_said number unit) → with_unit number unit before ≡ unless (first_taken before.taken (mentions_of left)) next
+  at_left is =
+      ap (λ (l : List Said). unless (first_taken before.taken (mentions_of l))
+      (record next { trees = joined before.trees (trees_of l); taken = with_mentions (mentions_of l) before.taken })) (sym is)
+
   pub added : left ≡ kept before.spellings (unit_said number unit) → first_taken before.taken (mentions_of left) ≡ None →
       with_unit number unit before ≡ Ok (record {
         trees = joined before.trees (trees_of left);
         spellings = all_noted before.spellings (spellings_of (unit_said number unit));
         taken = with_mentions (mentions_of left) before.taken;
       })
-  added is free =
-      ap (λ (l : List Said). unless (first_taken before.taken (mentions_of l)) (record {
-        trees = joined before.trees (trees_of l);
-        spellings = all_noted before.spellings (spellings_of (unit_said number unit));
-        taken = with_mentions (mentions_of l) before.taken;
-      })) (sym is)
-      ∙ ap (λ (m : Option Mention). unless m (record {
-        trees = joined before.trees (trees_of left);
-        spellings = all_noted before.spellings (spellings_of (unit_said number unit));
-        taken = with_mentions (mentions_of left) before.taken;
-      })) free
+  added is free = at_left is ∙ ap (λ (m : Option Mention). unless m next) free
 
   stopped : (mention : Mention) → left ≡ kept before.spellings (unit_said number unit) → first_taken before.taken (mentions_of left) ≡ Some mention →
       with_unit number unit before ≡ Err (record { name = mention.name; line = mention.line })
-  stopped mention is found =
-      ap (λ (l : List Said). unless (first_taken before.taken (mentions_of l)) (record {
-        trees = joined before.trees (trees_of l);
-        spellings = all_noted before.spellings (spellings_of (unit_said number unit));
-        taken = with_mentions (mentions_of l) before.taken;
-      })) (sym is)
-      ∙ ap (λ (m : Option Mention). unless m (record {
-        trees = joined before.trees (trees_of left);
-        spellings = all_noted before.spellings (spellings_of (unit_said number unit));
-        taken = with_mentions (mentions_of left) before.taken;
-      })) found
+  stopped mention is found = at_left is ∙ ap (λ (m : Option Mention). unless m next) found
 
   pub refused : (mention : Mention) (new : Program) (error : MergeError) → left ≡ kept before.spellings (unit_said number unit) →
       first_taken before.taken (mentions_of left) ≡ Some mention → IsConflict mention error →
@@ -213,28 +185,6 @@ one_popped xs left popped x one is found = by left (is ∙ ap (λ (p : Option Co
     by : (left : List Code) → xs ≡ left ++ x ∷ [] → merged (map unit_view xs) ≡ Ok (unit_view x)
     by [] h = ap (λ (l : List Code). merged (map unit_view l)) h
     by (first ∷ rest) h = absurd (omega (arith, one, ap length h, length-append rest (x ∷ [])))
-
--- the same, each alone
-pub kept_next : (spellings : List (List ℕ)) (seen : List Kept) (one : Kept) →
-    kept spellings (map said_view (seen ++ one ∷ [])) ≡ kept spellings (map said_view seen) ++ kept spellings (said_view one ∷ [])
-kept_next spellings seen one = (left_next spellings seen one).0
-
-pub spellings_next : (seen : List Kept) (one : Kept) →
-    spellings_of (map said_view (seen ++ one ∷ [])) ≡ spellings_of (map said_view seen) ++ spellings_of (said_view one ∷ [])
-spellings_next seen one = (left_next [] seen one).1
-
-module _ (spellings : List (List ℕ)) (said : Said) where
-  pub whole_kept : is_plain said.tree ≡ false → kept spellings (said ∷ []) ≡ said ∷ []
-  whole_kept h = (whole_left spellings said h).0
-
-  pub new_kept : is_plain said.tree ≡ true → is_among spellings (spelling said.tree) ≡ false → kept spellings (said ∷ []) ≡ said ∷ []
-  new_kept h g = (new_left spellings said h g).0
-
-  pub again_kept : is_plain said.tree ≡ true → is_among spellings (spelling said.tree) ≡ true → kept spellings (said ∷ []) ≡ []
-  again_kept h g = (again_left spellings said h g).0
-
-pub whole_spelled : (said : Said) → is_plain said.tree ≡ false → spellings_of (said ∷ []) ≡ []
-whole_spelled said h = (whole_left [] said h).1
 
 pub plain_spelled : (said : Said) → is_plain said.tree ≡ true → spellings_of (said ∷ []) ≡ spelling said.tree ∷ []
 plain_spelled said h = ap (λ (b : Bool). if b then spelling said.tree ∷ [] else []) h

@@ -1,22 +1,11 @@
 -- External declarations that are gone through in turn.
-use Rattle.std.proofs.Common.{◌≡◌, ◌<◌, ◌≤◌, ◌+◌, ℕ, zero, suc, arith, Bool, true, false, List, [], ◌∷◌, ◌++◌, take, drop, length, get_or, map, option_to_list, Option, Some, None, is_some, refl, ap, ap₂, sym, ◌∙◌}
-use Rattle.std.proofs.lemmas.List.{map-append}
-use Rattle.c_tree.specs.declared.tree.Declarator.{Declarator}
-use Rattle.c_tree.specs.declared.statement.Init.{Init}
-use Rattle.c_tree.specs.declared.statement.Decl.{Decl}
+use Rattle.c_units.proofs.Words.Std.{Bool, List, None, Option, Some, [], ap, ap₂, drop, false, get_or, is_some, length, map, map-append, option_to_list, refl, set, sym, take, true, ℕ, ◌++◌, ◌+◌, ◌<◌, ◌∙◌, ◌∷◌, ◌≡◌, ◌≤◌}
+use Rattle.c_units.proofs.Words.Trees.{Decl, Declarator, Init, Node, Tree, Trees, decl_view, declarator_tree, entry_view, init_view, maybe, none, trees, ◌▹◌}
+use Rattle.c_units.proofs.Words.Units.{Names, Said, are_plain, behind, behind_declarator, behind_entries, behind_external, each_said, inits_of, joined, renamed, renamed_declarator, renamed_entries, renamed_external, role_of, said_view}
 use Rattle.c_tree.specs.Forms as f
-use Rattle.c_tree.specs.Tree.{Tree, Trees, Node, none, ◌▹◌}
-use Rattle.c_tree.specs.StatementView.{trees, maybe, init_view, entry_view, decl_view}
-use Rattle.c_tree.specs.View.{declarator_tree}
 use Rattle.c_units.specs.declared.said.Said.{Said as Kept}
-use Rattle.c_units.specs.Names.{Names, behind, renamed}
-use Rattle.c_units.specs.Externals.{Said, role_of, behind_declarator, renamed_declarator, behind_entries, renamed_entries, behind_external, renamed_external, each_said}
-use Rattle.c_units.specs.Merge.{are_plain}
-use Rattle.c_units.specs.Kept.{said_view}
-use Rattle.c_units.specs.Turns.{joined, inits_of}
-use Rattle.std.proofs.Math.ListN.{set}
 use Rattle.c_units.proofs.Steps.{drop_next, drop_end}
-use Rattle.c_units.proofs.ItemTurns.{AreLeft, left_next}
+use Rattle.c_units.proofs.ItemTurns.{AreLeft, next_leads, all_lead}
 
 abbrev Entry : Type 0
 Entry = Declarator × Option Init
@@ -87,58 +76,26 @@ module _ (line : ℕ) (typedef : Bool) where
       (joined (trees entry_view (take i ys)) (renamed_entries line typedef (trees entry_view (drop i ys)) s) ≡ renamed_entries line typedef (trees entry_view xs) first)
       × (behind_entries line typedef (trees entry_view (drop i ys)) s ≡ behind_entries line typedef (trees entry_view xs) first)
 
-  made_here : (ys : List Entry) (i : ℕ) (x r : Entry) (s d : Names) → i < length ys →
-      entry_view r ▹ none ≡ renamed_entries line typedef (entry_view (get_or ys i x) ▹ none) s → d ≡ behind_entries line typedef (entry_view (get_or ys i x) ▹ none) s →
-      joined (trees entry_view (take (suc i) (set ys i r))) (renamed_entries line typedef (trees entry_view (drop (suc i) (set ys i r))) d) ≡
-      joined (trees entry_view (take i ys)) (renamed_entries line typedef (trees entry_view (drop i ys)) s)
-  made_here [] i x r s d h made known = absurd (omega (arith, h))
-  made_here (y ∷ ys) zero x r s d h made known =
-      ap (λ (u : Names). entry_view r ▹ renamed_entries line typedef (trees entry_view ys) u) known
-      ∙ sym (first_made y r (trees entry_view ys) s made)
-  made_here (y ∷ ys) (suc i) x r s d h made known =
-      ap (λ (t : Trees). entry_view y ▹ t) (made_here ys i x r s d (omega (arith, h)) made known)
-
-  known_here : (ys : List Entry) (i : ℕ) (x r : Entry) (s d : Names) → i < length ys → d ≡ behind_entries line typedef (entry_view (get_or ys i x) ▹ none) s →
-      behind_entries line typedef (trees entry_view (drop (suc i) (set ys i r))) d ≡ behind_entries line typedef (trees entry_view (drop i ys)) s
-  known_here [] i x r s d h known = absurd (omega (arith, h))
-  known_here (y ∷ ys) zero x r s d h known =
-      ap (λ (u : Names). behind_entries line typedef (trees entry_view ys) u) known ∙ sym (first_known y (trees entry_view ys) s)
-  known_here (y ∷ ys) (suc i) x r s d h known = known_here ys i x r s d (omega (arith, h)) known
-
   pub entries_next : (xs ys : List Entry) (i : ℕ) (x r : Entry) (s d first : Names) → i < length xs → AreLeft xs ys i → Leads xs ys i s first →
       entry_view r ▹ none ≡ renamed_entries line typedef (entry_view (get_or ys i x) ▹ none) s → d ≡ behind_entries line typedef (entry_view (get_or ys i x) ▹ none) s →
       AreLeft xs (set ys i r) (i + 1) × Leads xs (set ys i r) (i + 1) d first
-  entries_next xs ys i x r s d first h left leads made known =
-      let within : i < length ys = omega (arith, h, left.0) in
-      let next : i + 1 ≡ suc i = omega arith in (
-        left_next xs ys i r left,
-        (
-          ap (λ (n : ℕ). joined (trees entry_view (take n (set ys i r))) (renamed_entries line typedef (trees entry_view (drop n (set ys i r))) d)) next
-              ∙ made_here ys i x r s d within made known ∙ leads.0,
-          ap (λ (n : ℕ). behind_entries line typedef (trees entry_view (drop n (set ys i r))) d) next ∙ known_here ys i x r s d within known ∙ leads.1,
-        ),
-      )
+  entries_next =
+      next_leads entry_view (renamed_entries line typedef) (behind_entries line typedef) (λ x r s. entry_view r ▹ none ≡ renamed_entries line typedef (entry_view x ▹ none) s)
+      (λ x s. behind_entries line typedef (entry_view x ▹ none) s) (λ x r rest s h. first_made x r rest s h) first_known none_made none_known
 
-  made_end : (ys : List Entry) (i : ℕ) (s : Names) → length ys ≤ i →
-      joined (trees entry_view (take i ys)) (renamed_entries line typedef (trees entry_view (drop i ys)) s) ≡ trees entry_view ys
-  made_end [] zero s h = none_made s
-  made_end [] (suc i) s h = none_made s
-  made_end (y ∷ ys) zero s h = absurd (omega (arith, h))
-  made_end (y ∷ ys) (suc i) s h = ap (λ (t : Trees). entry_view y ▹ t) (made_end ys i s (omega (arith, h)))
-
-  known_end : (ys : List Entry) (i : ℕ) (s : Names) → length ys ≤ i → behind_entries line typedef (trees entry_view (drop i ys)) s ≡ s
-  known_end [] zero s h = none_known s
-  known_end [] (suc i) s h = none_known s
-  known_end (y ∷ ys) zero s h = absurd (omega (arith, h))
-  known_end (y ∷ ys) (suc i) s h = known_end ys i s (omega (arith, h))
+  all_entries : (xs ys : List Entry) (i : ℕ) (s first : Names) → length xs ≤ i → AreLeft xs ys i → Leads xs ys i s first →
+      (trees entry_view ys ≡ renamed_entries line typedef (trees entry_view xs) first) × (s ≡ behind_entries line typedef (trees entry_view xs) first)
+  all_entries =
+      all_lead entry_view (renamed_entries line typedef) (behind_entries line typedef) (λ x r s. entry_view r ▹ none ≡ renamed_entries line typedef (entry_view x ▹ none) s)
+      (λ x s. behind_entries line typedef (entry_view x ▹ none) s) (λ x r rest s h. first_made x r rest s h) first_known none_made none_known
 
   pub entries_made : (xs ys : List Entry) (i : ℕ) (s first : Names) → length xs ≤ i → AreLeft xs ys i → Leads xs ys i s first →
       trees entry_view ys ≡ renamed_entries line typedef (trees entry_view xs) first
-  entries_made xs ys i s first h left leads = sym (made_end ys i s (omega (arith, h, left.0))) ∙ leads.0
+  entries_made xs ys i s first h left leads = (all_entries xs ys i s first h left leads).0
 
   pub entries_known : (xs ys : List Entry) (i : ℕ) (s first : Names) → length xs ≤ i → AreLeft xs ys i → Leads xs ys i s first →
       s ≡ behind_entries line typedef (trees entry_view xs) first
-  entries_known xs ys i s first h left leads = sym (known_end ys i s (omega (arith, h, left.0))) ∙ leads.1
+  entries_known xs ys i s first h left leads = (all_entries xs ys i s first h left leads).1
 
 -- whether names have no initializers
 plain_by : (declarator : Declarator) (init : Option Init) (rest : Trees) → is_some init ≡ false → are_plain (entry_view (declarator, init) ▹ rest) ≡ are_plain rest

@@ -1,26 +1,12 @@
 -- Declarations stand in front of those before them, so those before a scope hold again behind it.
-use Rattle.std.proofs.Common.{◌≡◌, ℕ, ◌-◌, Bool, true, false, List, [], ◌∷◌, ◌++◌, Option, Some, None, drop, length, refl, ap, sym, ◌∙◌, append_assoc, arith}
-use Rattle.std.proofs.lemmas.List.{length-append}
-use Rattle.c_tree.specs.Forms.{Form}
+use Rattle.c_units.proofs.Words.Std.{Bool, List, None, Option, Some, [], ap, append_assoc, arith, drop, length, length-append, refl, sym, true, ℕ, ⊤, ◌++◌, ◌-◌, ◌∙◌, ◌∷◌, ◌≡◌}
+use Rattle.c_units.proofs.Words.Trees.{At, Form, Node, None', Place, Some', StmtKind, Tree, Trees, count, expr_view, if_tree, is_scope, maybe_expr, name_among, none, places, shape, start_view, stmt_tree, stmt_trees, ◌▹◌}
+use Rattle.c_units.proofs.Words.Units.{Binding, Known, Names, Outer, all_behind, all_renamed, back_if, back_to, behind, binding_at, declare, each_renamed, entered, in_turn, inner, inside_params, is_scope_kind, left, left_scope, made, oldest, renamed}
 use Rattle.c_tree.specs.Forms as f
-use Rattle.c_tree.specs.Places.{Place}
 use Rattle.c_tree.specs.Places as p
-use Rattle.c_tree.specs.Tree.{Tree, Trees, Leaf, At, Node, none, ◌▹◌, count}
-use Rattle.c_tree.specs.Grammar.{shape}
-use Rattle.c_tree.specs.Scopes.{places, is_scope, name_among}
-use Rattle.c_units.specs.declared.names.Binding.{Binding}
-use Rattle.c_units.specs.declared.names.Binding.TheVariants.{Inner, Own, Shared}
-use Rattle.c_units.specs.declared.mention.Role.{Role}
-use Rattle.c_units.specs.declared.mention.Role.TheVariants.{Defined, Used, Tagged}
-use Rattle.c_units.specs.declared.walk.Outer.{Outer}
-use Rattle.c_units.specs.Names.{Known, Names, behind, all_behind, left, left_part, left_scope, entered, made, renamed, all_renamed, mention, mention_any, used, tag_name, line_in, declare, binding_at, binding_of}
-use Rattle.c_units.specs.Sets.{back_to, oldest}
-use Rattle.c_tree.specs.declared.statement.StmtKind.{StmtKind, None', Some'}
 use Rattle.c_tree.specs.declared.statement.StmtKind.TheVariants as k
-use Rattle.c_tree.specs.StatementView.{expr_view, start_view, maybe_expr, stmt_tree, stmt_trees, if_tree}
-use Rattle.c_units.specs.Externals.{inside_params}
-use Rattle.c_units.specs.Turns.{in_turn, each_renamed, inner, back_if, is_scope_kind}
 use Rattle.c_units.proofs.ListTurns.{items_turn}
+use Rattle.c_units.proofs.Walks.{anything, at_names, Keeps, tree_kept, parts_kept}
 
 -- some declarations in front of others
 abbrev pub Before : List Known → List Known → Type 0
@@ -38,69 +24,20 @@ declare_before outer None b s h = h
 declare_before outer (Some name) b s h =
     (record { name = name; binding = b } ∷ h.0, ap (λ (l : List Known). record { name = name; binding = b } ∷ l) h.1)
 
-mention_same : (b : Binding) (role : Role) (name : List ℕ) (line : ℕ) (s : Names) → (mention b role name line s).known ≡ s.known
-mention_same Inner role name line s = refl
-mention_same Own role name line s = refl
-mention_same Shared role name line s = refl
+-- the declarations before a place of a unit stand behind those at a later place
+keeps_before : (outer : List Known) → Keeps (λ _. ⊤) (λ u. Before outer u.by.known)
+keeps_before outer = record {
+  ends = λ u inner h g. h;
+  declares = λ parts u d h. declare_before outer (name_among parts) (binding_at u.by) u.by h;
+  uses = λ line name u d h. h;
+  says = λ first second third u h. h;
+}
 
-any_same : (name : Option (List ℕ)) (b : Binding) (role : Role) (line : ℕ) (s : Names) → (mention_any name b role line s).known ≡ s.known
-any_same None b role line s = refl
-any_same (Some name) b role line s = mention_same b role name line s
+tree_before : (tree : Tree) (s : Names) → Before s.known (behind tree s).known
+tree_before tree s = tree_kept anything (keeps_before s.known) tree none (at_names s) tt (same s.known)
 
-used_same : (name : Option (List ℕ)) (line : ℕ) (s : Names) → (used name line s).known ≡ s.known
-used_same None line s = refl
-used_same (Some name) line s = mention_same (binding_of s.known name) Used name line s
-
-entered_same : (form : Form) (parts : Trees) (s : Names) → (entered form parts s).known ≡ s.known
-unfolding entered
-entered_same (f.RecordBody sort) parts s = any_same (tag_name parts) (binding_at s) Tagged (line_in parts) s
-entered_same (f.EnumBody trailing) parts s = any_same (tag_name parts) (binding_at s) Tagged (line_in parts) s
-entered_same f.Enumerator parts s = any_same (name_among parts) (binding_at s) Defined (line_in parts) s
-entered_same form parts s = refl
-
-left_before : (form : Form) (parts : Trees) (before inner : Names) → Before before.known inner.known →
-    Before before.known (left form parts before inner).known
-unfolding left
-left_before f.Body parts before inner h = same before.known
-left_before f.Block parts before inner h = same before.known
-left_before f.Delay parts before inner h = same before.known
-left_before f.If parts before inner h = same before.known
-left_before f.IfElse parts before inner h = same before.known
-left_before f.While parts before inner h = same before.known
-left_before f.Do parts before inner h = same before.known
-left_before f.For parts before inner h = same before.known
-left_before f.Switch parts before inner h = same before.known
-left_before f.FunctionSuffix parts before inner h = same before.known
-left_before f.Declared parts before inner h = declare_before before.known (name_among parts) (binding_at inner) inner h
-left_before f.Param parts before inner h = declare_before before.known (name_among parts) (binding_at inner) inner h
-left_before f.Enumerator parts before inner h = declare_before before.known (name_among parts) (binding_at inner) inner h
-left_before f.Name parts before inner h = (h.0, used_same (name_among parts) (line_in parts) inner ∙ h.1)
-left_before other parts before inner h = h
-
-part_before : (scope : Bool) (before inner : Names) → Before before.known inner.known →
-    Before before.known (left_part scope before inner).known
-part_before true before inner h = same before.known
-part_before false before inner h = h
-
-mutual
-  unfolding behind all_behind
-
-  tree_before : (tree : Tree) (s : Names) → Before s.known (behind tree s).known
-  tree_before (Leaf word) s = same s.known
-  tree_before (At line) s = same s.known
-  tree_before (Node form parts) s =
-      let e = entered form parts s in
-      let inner = all_behind parts (places (shape form (count parts))) e in
-      let h = parts_before parts (places (shape form (count parts))) e in
-      left_before form parts s inner (h.0, h.1 ∙ ap (λ (l : List Known). h.0 ++ l) (entered_same form parts s))
-
-  parts_before : (parts : Trees) (ps : List Place) (s : Names) → Before s.known (all_behind parts ps s).known
-  parts_before none ps s = same s.known
-  parts_before (tree ▹ rest) [] s = same s.known
-  parts_before (tree ▹ rest) (place ∷ ps) s =
-      let next : Names = left_part (is_scope place) s (behind tree s) in
-      both s.known next.known (all_behind rest ps next).known
-      (part_before (is_scope place) s (behind tree s) (tree_before tree s)) (parts_before rest ps next)
+parts_before : (parts : Trees) (ps : List Place) (s : Names) → Before s.known (all_behind parts ps s).known
+parts_before parts ps s = parts_kept anything (keeps_before s.known) parts ps (at_names s) tt (same s.known)
 
 turns_before : (parts : Trees) (s : Names) → Before s.known (in_turn parts s).known
 turns_before none s = same s.known

@@ -1,34 +1,19 @@
 -- The trees of a text have as many parts as their forms have places, and words that can be told apart; so have they in the program.
-use Rattle.std.proofs.Common.{◌≡◌, ℕ, suc, ◌+◌, ◌<◌, ◌≤◌, Bool, true, false, not, ◌||◌, ◌&&◌, if◌then◌else◌, length, map, List, [], ◌∷◌, ◌++◌, Option, Some, None, ◌⊎◌, inl, inr, decimal, refl, ap, ap₂, sym, subst, ◌∙◌, arith}
-use Rattle.std.specs.Prelude.{⊤}
-use Rattle.std.specs.List.{list_all}
-use Rattle.std.specs.Int.Digits.{digits_of}
-use Rattle.std.proofs.lemmas.Bool.{ne_eqb}
-use Rattle.std.proofs.lemmas.Fmt.{decimal-digits_of}
-use Rattle.std.proofs.lemmas.List.{append-nil}
-use Rattle.c_lexer.specs.Pieces.{IsToken}
+use Rattle.c_units.proofs.Words.Std.{All, All-cons, All-head, All-nil, All-tail, Bool, IsSome, List, None, Option, Some, [], and_parts, ap, append-nil, ap₂, arith, decimal, decimal-digits_of, digits_of, false, if◌then◌else◌, length, list_all, map, ne_eqb, not, refl, subst, suc, sym, true, zero, ℕ, ⊤, ◌&&◌, ◌++◌, ◌+◌, ◌<◌, ◌||◌, ◌∙◌, ◌∷◌, ◌≡◌, ◌≤◌}
+use Rattle.c_units.proofs.Words.Trees.{AllAllowed, Allowed, AreExternals, At, Decl, Declarator, Form, Here, Init, IsExternal, IsFormed, IsToken, Item, Leaf, Node, Part, Piece, Place, Says, Sign, Specs, Takes, TokenKind, TokensAreLongest, Tree, Trees, Word, are_specs, behind_commas, commas, count, decl_view, declarator_tree, entry_view, filled, first_name, form_home, has_typedef, init_view, is_one_type, leads_to_name, name_among, name_of, none, obeys, places, rows, shape, spec_tree, specs_view, spell, spell_all, tally, tree_text, trees, unit_words, word_bytes, word_kind, word_spellings, words, words_text, ◌▹◌}
+use Rattle.c_units.proofs.Words.Units.{Binding, Names, Role, Said, all_with_name, before_declarator, behind, behind_declarator, behind_external, binding_as, binding_of, declared_by, each_said, is_plain, mention, name_by, named_as, renamed, renamed_declarator, renamed_entries, renamed_external, role_of, spelling, suffix_of, with_name, word_as}
+use Rattle.c_tree.specs.Scopes.{Scope, after}
+use Rattle.c_units.proofs.FileWalks.{suffix_stands, mention_suffix, behind_suffix, declarator_suffix, external_suffix}
+use Rattle.c_units.proofs.Walks.{Stands}
+use Rattle.c_units.proofs.WordTexts.{clean, Begins, AllBegin, words_back}
+use Rattle.c_units.proofs.WordSorts.{words_append, level, is_some, even, word_begins, place_some, one_fewer, IsLeaf, IsSound, AreSound, key_begins, Sort, sort, sorts, tree_sorts, Before, run, names_in, sound_begins}
+use Rattle.c_units.proofs.DeclaredSorts.{HaveNames, HasName, declaration_read}
 use Rattle.c_lexer.specs.declared.token.TokenKind.TheVariants as t
-use Rattle.c_tree.specs.declared.word.Sign.{Sign}
-use Rattle.c_tree.specs.Words.{Word}
 use Rattle.c_tree.specs.Words as w
-use Rattle.c_tree.specs.Forms.{Form}
 use Rattle.c_tree.specs.Forms as f
-use Rattle.c_tree.specs.Places.{Place}
 use Rattle.c_tree.specs.Places as p
-use Rattle.c_tree.specs.Tree.{Tree, Trees, Leaf, At, Node, none, ◌▹◌, count}
-use Rattle.c_tree.specs.Grammar.{Item, Says, Here, Part, shape}
-use Rattle.c_tree.specs.Spelling.{filled, spell, spell_all, words}
-use Rattle.c_tree.specs.Scopes.{Scope, leads_to_name, is_scope, places}
-use Rattle.c_tree.specs.Allowed.{Takes, Allowed, AllAllowed}
-use Rattle.c_tree.specs.Reread.{IsFormed}
-use Rattle.c_units.specs.declared.names.Binding.{Binding}
 use Rattle.c_units.specs.declared.names.Binding.TheVariants as b
-use Rattle.c_units.specs.Names.{Names, name_by, binding_of, behind, renamed, all_renamed, named, made, entered, left_part}
-use Rattle.c_units.specs.Externals.{word_as, with_name, all_with_name, suffix_of}
-use Rattle.c_units.proofs.BoundTrees.{IsName, IsOther, name_places, stays_other, count_same}
-use Rattle.c_units.proofs.KeptSuffix.{entered_suffix, part_suffix, behind_suffix}
-use Rattle.c_units.proofs.WordTexts.{clean, Begins}
-use Rattle.c_units.proofs.WordSorts.{words_append, level, is_some, even, word_begins, place_some, one_fewer, IsLeaf, IsSound, AreSound, key_begins}
+use Rattle.c_tree.specs.declared.statement.Decl.TheVariants as e
 
 -- Trees of a text.
 
@@ -139,11 +124,7 @@ takes_other place kind bytes h g = no_place place g h
 leaf_text : (place : Place) (word : Word) → is_some place ≡ true → Takes place (Leaf word) → IsFormed word → IsTextLeaf word
 leaf_text place (w.Mark sign) h g formed = takes_mark place sign h g
 leaf_text place (w.Other kind bytes) h g formed = takes_other place kind bytes h g
-leaf_text place (w.Key keyword) h g formed = tt
-leaf_text place (w.Name bytes) h g formed = formed
-leaf_text place (w.Int bytes) h g formed = formed
-leaf_text place (w.Char bytes) h g formed = formed
-leaf_text place (w.Str bytes) h g formed = formed
+leaf_text place word h g formed = formed
 
 pub all_counted : (parts : Trees) (ps : List Place) (scope : Scope) → AllAllowed parts ps scope → count parts ≡ length ps
 unfolding AllAllowed
@@ -177,10 +158,7 @@ plain_begins : (word : Word) → IsTextLeaf word → IsLeaf word
 plain_begins (w.Mark sign) h = h
 plain_begins (w.Other kind bytes) h = h
 plain_begins (w.Key keyword) h = key_begins keyword
-plain_begins (w.Name bytes) h = record { core = bytes; end = []; is = sym (append-nil bytes); token = h; ends = tt }
-plain_begins (w.Int bytes) h = record { core = bytes; end = []; is = sym (append-nil bytes); token = h; ends = tt }
-plain_begins (w.Char bytes) h = record { core = bytes; end = []; is = sym (append-nil bytes); token = h; ends = tt }
-plain_begins (w.Str bytes) h = record { core = bytes; end = []; is = sym (append-nil bytes); token = h; ends = tt }
+plain_begins word h = record { core = word_bytes word; end = []; is = sym (append-nil (word_bytes word)); token = h; ends = tt }
 
 mutual
   unfolding IsText AreText IsSound AreSound
@@ -207,55 +185,26 @@ name_begins b.Own suffix name h g = suffixed_begins name suffix h g
 name_begins b.Inner suffix name h g = plain_begins (w.Name name) h
 name_begins b.Shared suffix name h g = plain_begins (w.Name name) h
 
-name_sound : (parts : Trees) (s : Names) → IsSuffix s.suffix → AreText parts → count parts ≡ 2 → AreSound (all_renamed parts name_places s) →
-    IsName parts ⊎ (IsOther parts × IsOther (all_renamed parts name_places s)) → IsSound (named (all_renamed parts name_places s) s)
-unfolding IsSound AreSound IsText AreText named shape renamed all_renamed
-name_sound parts s g text two sound (inl is) =
-    subst (λ (ts : Trees). IsSound (named (all_renamed ts name_places s) s)) (sym is.2)
-    (refl, (tt, (name_begins (binding_of s.known is.1) s.suffix is.1 (subst AreText is.2 text).1.0 g, tt)))
-name_sound parts s g text two sound (inr is) =
-    subst IsSound (sym (is.1.0 s)) (count_same parts name_places s ∙ two, sound)
+sound_stands : (suffix : List ℕ) → IsSuffix suffix → Stands (λ x. x.suffix ≡ suffix) (λ tree new. IsText tree → IsSound new) (λ parts news. AreText parts → AreSound news)
+unfolding IsSound AreSound IsText AreText shape
+sound_stands suffix g = record {
+  same = texts_sound;
+  more = λ tree new rest news h more text. (h text.0, more text.1);
+  word = plain_begins;
+  line = λ line h. tt;
+  node = λ form parts news same h text. (same ∙ text.0 ∙ ap (λ (n : ℕ). length (places (shape form n))) (sym same), h text.1);
+  name = λ line name x e text. (refl, (tt, (name_begins (binding_of x.known name) x.suffix name text.1.1.0 (subst IsSuffix (sym e) g), tt)));
+}
 
-made_sound : (form : Form) (parts : Trees) (s : Names) → IsSuffix s.suffix → AreText parts → count parts ≡ length (places (shape form (count parts))) →
-    AreSound (all_renamed parts (places (shape form (count parts))) (entered form parts s)) →
-    IsSound (made form (all_renamed parts (places (shape form (count parts))) (entered form parts s)) s)
-unfolding IsSound AreSound made entered shape
-made_sound f.Name parts s g text counted sound = name_sound parts s g text counted sound (stays_other parts s)
-made_sound form parts s g text counted sound =
-    let ps = places (shape form (count parts)) in
-    let same : count (all_renamed parts ps (entered form parts s)) ≡ count parts = count_same parts ps (entered form parts s) in
-    (same ∙ counted ∙ ap (λ (n : ℕ). length (places (shape form n))) (sym same), sound)
-
-mutual
-  unfolding IsText AreText IsSound AreSound renamed all_renamed
-
-  -- a tree of a text as it stands in the program
-  pub renamed_sound : (tree : Tree) (s : Names) → IsSuffix s.suffix → IsText tree → IsSound (renamed tree s)
-  renamed_sound (Leaf word) s g h = plain_begins word h
-  renamed_sound (At line) s g h = tt
-  renamed_sound (Node form parts) s g h =
-      made_sound form parts s g h.1 h.0
-      (all_sound parts (places (shape form (count parts))) (entered form parts s) (subst IsSuffix (sym (entered_suffix form parts s)) g) h.1)
-
-  all_sound : (parts : Trees) (ps : List Place) (s : Names) → IsSuffix s.suffix → AreText parts → AreSound (all_renamed parts ps s)
-  all_sound none ps s g h = tt
-  all_sound (tree ▹ rest) [] s g h = texts_sound (tree ▹ rest) h
-  all_sound (tree ▹ rest) (place ∷ ps) s g h =
-      let next = left_part (is_scope place) s (behind tree s) in (
-        renamed_sound tree s g h.0,
-        all_sound rest ps next (subst IsSuffix (sym (part_suffix (is_scope place) s (behind tree s) ∙ behind_suffix tree s)) g) h.1,
-      )
+-- a tree of a text as it stands in the program
+pub renamed_sound : (tree : Tree) (s : Names) → IsSuffix s.suffix → IsText tree → IsSound (renamed tree s)
+renamed_sound tree s g h = suffix_stands s.suffix _ _ (sound_stands s.suffix g) tree s refl h
 
 -- With another name.
 
 word_sound : (name : List ℕ) (word : Word) → Begins (w.Name name) → IsLeaf word → IsLeaf (word_as name word)
 word_sound name (w.Name old) g h = g
-word_sound name (w.Mark sign) g h = h
-word_sound name (w.Other kind bytes) g h = h
-word_sound name (w.Key keyword) g h = h
-word_sound name (w.Int bytes) g h = h
-word_sound name (w.Char bytes) g h = h
-word_sound name (w.Str bytes) g h = h
+word_sound name word g h = h
 
 count_named : (name : List ℕ) (parts : Trees) → count (all_with_name name parts) ≡ count parts
 unfolding all_with_name
@@ -294,3 +243,194 @@ digits_clean (n ∷ ds) = ap (λ (x : Bool). x && list_all clean (map (λ n. 48 
 pub unit_suffix : (number : ℕ) → 0 < number → number ≤ 64 → IsSuffix (suffix_of number)
 unit_suffix number some few =
     (decimal number, refl, ap (list_all clean) (decimal-digits_of number some (omega (arith, few))) ∙ digits_clean (digits_of 10 number))
+
+-- External declarations without bodies and initializers that are spelled alike declare the same names.
+
+-- Declarations of a text.
+
+-- a declaration without a body is the tree of a text, with specs of one type and a name in each declarator
+abbrev pub IsRead : Decl → Type 0
+IsRead (e.Function line specs declarator body end) = ⊤
+IsRead (e.Names line specs list) = IsText (decl_view (e.Names line specs list)) × (is_one_type (tally (trees spec_tree specs.words.items)) ≡ true) × HaveNames list
+
+abbrev pub AreRead : List Decl → Type 0
+AreRead [] = ⊤
+AreRead (decl ∷ rest) = IsRead decl × AreRead rest
+
+has_name : (o : Option (List ℕ)) → IsSome o → HasName o
+has_name None h = absurd (cc)
+has_name (Some name) h = tt
+
+entries_named : (list : List (Declarator × Option Init)) (ps : List Place) (scope : Scope) → AllAllowed (trees entry_view list) ps scope → HaveNames list
+unfolding Allowed AllAllowed Takes shape
+entries_named [] ps scope h = tt
+entries_named (one ∷ rest) [] scope h = absurd h
+entries_named (one ∷ rest) (place ∷ ps) scope h =
+    (has_name (name_of (declarator_tree one.0)) h.1.1.1.1.0.1, entries_named rest ps _ h.2)
+
+external_read : (decl : Decl) (scope : Scope) → IsExternal (decl_view decl) scope → AllFormed (words (spell (decl_view decl))) → IsRead decl
+unfolding IsExternal Allowed AllAllowed Takes form_home obeys are_specs tally shape
+external_read (e.Function line specs declarator body end) scope h formed = tt
+external_read (e.Names line specs list) scope h formed = (
+  allowed_text p.External (decl_view (e.Names line specs list)) scope refl refl h formed,
+  (and_parts (is_one_type (tally (trees spec_tree specs.words.items))) _ h.1.2.1.0).0,
+  entries_named list _ _ h.1.2.2.1.1,
+)
+
+all_read : (decls : List Decl) (scope : Scope) → AreExternals (trees decl_view decls) scope → EachFormed (trees decl_view decls) → AreRead decls
+unfolding AreExternals
+all_read [] scope h formed = tt
+all_read (decl ∷ rest) scope h formed = (external_read decl scope h.0 formed.0, all_read rest (after (decl_view decl) scope) h.1 formed.1)
+
+all_formed : (ws : List Word) → All IsFormed ws → AllFormed ws
+all_formed [] h = tt
+all_formed (w ∷ ws) h = (All-head IsFormed w ws h, all_formed ws (All-tail IsFormed w ws h))
+
+rows_counted : (place : Place) (n : ℕ) → n ≡ length (places (rows place n))
+rows_counted place zero = refl
+rows_counted place (suc n) = ap suc (rows_counted place n)
+
+pub unit_read : (decls : List Decl) (scope : Scope) → AreExternals (trees decl_view decls) scope → All IsFormed (unit_words (trees decl_view decls)) → AreRead decls
+unfolding spell shape
+unit_read decls scope h formed =
+    let unit = trees decl_view decls in
+    all_read decls scope h
+    (items_formed (rows p.External (count unit)) unit (rows_counted p.External (count unit)) (all_formed (unit_words unit) formed))
+
+-- They are sound in the program.
+
+abbrev IsNameToken : Option (List ℕ) → Type 0
+IsNameToken None = ⊤
+IsNameToken (Some name) = IsToken t.Name name
+
+first_token : (x y : Option (List ℕ)) → IsNameToken x → IsNameToken y → IsNameToken (first_name x y)
+first_token None y h g = g
+first_token (Some name) y h g = h
+
+node_token : (leads : Bool) (x : Option (List ℕ)) → IsNameToken x → IsNameToken (if leads then x else None)
+node_token true x h = h
+node_token false x h = tt
+
+mutual
+  unfolding name_of name_among IsText AreText
+
+  name_token : (tree : Tree) → IsText tree → IsNameToken (name_of tree)
+  name_token (Leaf (w.Name bytes)) h = h
+  name_token (Leaf word) h = tt
+  name_token (At line) h = tt
+  name_token (Node form parts) h = node_token (leads_to_name form) (name_among parts) (names_token parts h.1)
+
+  names_token : (parts : Trees) → AreText parts → IsNameToken (name_among parts)
+  names_token none h = tt
+  names_token (tree ▹ rest) h = first_token (name_of tree) (name_among rest) (name_token tree h.0) (names_token rest h.1)
+
+declarator_by : (found : Option (List ℕ)) (tree : Tree) (role : Role) (line : ℕ) (x : Names) → IsSuffix x.suffix → IsText tree → IsNameToken found →
+    IsSound (named_as found role (renamed tree (before_declarator found role line x)) x)
+declarator_by None tree role line x g h token = renamed_sound tree x g h
+declarator_by (Some name) tree role line x g h token =
+    let binding = binding_as role x.own name in
+    let y = mention binding role name line x in
+    with_name_sound (name_by binding x.suffix name) (renamed tree y) (name_begins binding x.suffix name token g)
+    (renamed_sound tree y (subst IsSuffix (sym (mention_suffix binding role name line x)) g) h)
+
+declarator_sound : (tree : Tree) (role : Role) (line : ℕ) (x : Names) → IsSuffix x.suffix → IsText tree → IsSound (renamed_declarator role line tree x)
+declarator_sound tree role line x g h = declarator_by (name_of tree) tree role line x g h (name_token tree h)
+
+entries_sound : (line : ℕ) (typedef : Bool) (list : List (Declarator × Option Init)) (x : Names) → IsSuffix x.suffix → AreText (trees entry_view list) →
+    AreSound (renamed_entries line typedef (trees entry_view list) x)
+unfolding renamed_entries IsText AreText IsSound AreSound shape
+entries_sound line typedef [] x g h = tt
+entries_sound line typedef ((declarator, None) ∷ rest) x g h =
+    let tree = declarator_tree declarator in
+    let role = role_of typedef none in
+    let y = behind_declarator role line tree x in
+    let now : IsSuffix y.suffix = subst IsSuffix (sym (declarator_suffix role line tree x)) g in
+    let later : IsSuffix (behind (Node f.MaybeInit none) y).suffix = subst IsSuffix (sym (behind_suffix (Node f.MaybeInit none) y)) now in (
+      (refl, ((refl, (declarator_sound tree role line x g h.0.1.0.1.0, tt)), (renamed_sound (Node f.MaybeInit none) y now h.0.1.1.0, tt))),
+      entries_sound line typedef rest (behind (Node f.MaybeInit none) y) later h.1,
+    )
+entries_sound line typedef ((declarator, Some one) ∷ rest) x g h =
+    let tree = declarator_tree declarator in
+    let init = Node f.MaybeInit (init_view one ▹ none) in
+    let role = role_of typedef (init_view one ▹ none) in
+    let y = behind_declarator role line tree x in
+    let now : IsSuffix y.suffix = subst IsSuffix (sym (declarator_suffix role line tree x)) g in
+    let later : IsSuffix (behind init y).suffix = subst IsSuffix (sym (behind_suffix init y)) now in (
+      (refl, ((refl, (declarator_sound tree role line x g h.0.1.0.1.0, tt)), (renamed_sound init y now h.0.1.1.0, tt))),
+      entries_sound line typedef rest (behind init y) later h.1,
+    )
+
+behind_counted : (n : ℕ) → n ≡ length (places (behind_commas p.Entry n))
+behind_counted zero = refl
+behind_counted (suc n) = ap suc (behind_counted n)
+
+commas_counted : (n : ℕ) → n ≡ length (places (commas p.Entry n))
+commas_counted zero = refl
+commas_counted (suc n) = ap suc (behind_counted n)
+
+names_sound : (line : ℕ) (specs : Specs) (list : List (Declarator × Option Init)) (x : Names) → IsSuffix x.suffix → IsText (decl_view (e.Names line specs list)) →
+    IsSound (renamed_external (decl_view (e.Names line specs list)) x)
+unfolding renamed_external IsText AreText IsSound AreSound shape
+names_sound line specs list x g h =
+    let words = At specs.line ▹ trees spec_tree specs.words.items in
+    let y = behind (Node f.Specs words) x in
+    let entries = renamed_entries line (has_typedef words) (trees entry_view list) y in (
+      refl,
+      (
+        tt,
+        (
+          renamed_sound (specs_view specs) x g h.1.1.0,
+          (
+            (
+              commas_counted (count entries),
+              entries_sound line (has_typedef words) list y (subst IsSuffix (sym (behind_suffix (Node f.Specs words) x)) g) h.1.1.1.0.1,
+            ),
+            tt,
+          ),
+        ),
+      ),
+    )
+
+-- Trees that are spelled alike.
+
+-- what a tree declares is read off its words, which can be told apart
+abbrev pub Tells : Tree → Type 0
+Tells tree = AllBegin (words (spell tree)) × (names_in (run (Before false 0 []) (tree_sorts tree)) ≡ declared_by tree)
+
+false_true : false ≡ true → ⊥
+false_true h = cc
+
+external_tells : (decl : Decl) (x : Names) → IsSuffix x.suffix → IsRead decl → is_plain (renamed_external (decl_view decl) x) ≡ true → Tells (renamed_external (decl_view decl) x)
+unfolding renamed_external is_plain
+external_tells (e.Function line specs declarator body end) x g h plain = absurd (false_true plain)
+external_tells (e.Names line specs list) x g h plain =
+    let sound = names_sound line specs list x g h.0 in
+    (sound_begins (renamed_external (decl_view (e.Names line specs list)) x) sound, declaration_read line specs list x h.1 h.2 sound plain)
+
+-- those of a unit that have neither body nor initializer
+pub each_tells : (decls : List Decl) (x : Names) → IsSuffix x.suffix → AreRead decls →
+    All (λ said. is_plain said.tree ≡ true → Tells said.tree) (each_said (trees decl_view decls) x)
+unfolding each_said
+each_tells [] x g h = All-nil _
+each_tells (decl ∷ rest) x g h =
+    let before : Names = record x { mentions = [] } in
+    let next = behind_external (decl_view decl) before in
+    All-cons (λ (said : Said). is_plain said.tree ≡ true → Tells said.tree) (record { tree = renamed_external (decl_view decl) before; mentions = next.mentions })
+    (each_said (trees decl_view rest) next) (λ plain. external_tells decl before g h.0 plain)
+    (each_tells rest next (subst IsSuffix (sym (external_suffix (decl_view decl) before)) g) h.1)
+
+sorts_by : (ws : List Word) → sorts ws ≡ map (λ (x : TokenKind × List ℕ). sort x.0 x.1) (word_spellings ws)
+sorts_by [] = refl
+sorts_by (w ∷ ws) = ap (λ (l : List Sort). sort (word_kind w) (word_bytes w) ∷ l) (sorts_by ws)
+
+spelling_is : (tree : Tree) → spelling tree ≡ words_text (words (spell tree))
+unfolding tree_text spell spell_all shape
+spelling_is tree = ap (λ (l : List Piece). words_text (words l)) (append-nil (spell tree))
+
+pub alike_declare : TokensAreLongest → (tree other : Tree) → Tells tree → Tells other → spelling tree ≡ spelling other → declared_by tree ≡ declared_by other
+alike_declare longest tree other h g e =
+    let same : word_spellings (words (spell tree)) ≡ word_spellings (words (spell other)) =
+    words_back longest (words (spell tree)) (words (spell other)) h.0 g.0 (sym (spelling_is tree) ∙ e ∙ spelling_is other) in
+    let read : tree_sorts tree ≡ tree_sorts other =
+    sorts_by (words (spell tree)) ∙ ap (map (λ (x : TokenKind × List ℕ). sort x.0 x.1)) same ∙ sym (sorts_by (words (spell other))) in
+    sym h.1 ∙ ap (λ (l : List Sort). names_in (run (Before false 0 []) l)) read ∙ g.1

@@ -1,16 +1,8 @@
 -- What a unit declares `static`, declaration by declaration.
-use Rattle.std.proofs.Common.{◌≡◌, ◌<◌, ◌≤◌, ◌+◌, ℕ, Bool, true, if◌then◌else◌, List, [], ◌∷◌, ◌++◌, drop, length, get_or, Option, Some, None, refl, ap, ◌∙◌}
-use Rattle.c_tree.specs.declared.tree.Declarator.{Declarator}
-use Rattle.c_tree.specs.declared.statement.Init.{Init}
-use Rattle.c_tree.specs.declared.statement.Decl.{Decl}
+use Rattle.c_units.proofs.Words.Std.{Bool, List, None, Option, Some, [], ap, drop, get_or, if◌then◌else◌, length, refl, true, ℕ, ◌++◌, ◌+◌, ◌<◌, ◌∙◌, ◌∷◌, ◌≡◌, ◌≤◌}
+use Rattle.c_units.proofs.Words.Trees.{Decl, Declarator, Init, Specs, decl_view, declarator_tree, entry_view, first_name, has_static, leads_to_name, name_among, name_of, spec_tree, trees}
+use Rattle.c_units.proofs.Words.Units.{all_noted, but_main, entry_names, noted, own_names, static_names}
 use Rattle.c_tree.specs.declared.statement.Decl.TheVariants as d
-use Rattle.c_tree.specs.declared.tree.Specs.{Specs}
-use Rattle.c_tree.specs.Scopes.{first_name, name_of, name_among, leads_to_name}
-use Rattle.c_tree.specs.StatementView.{trees, entry_view, decl_view}
-use Rattle.c_tree.specs.View.{declarator_tree, spec_tree}
-use Rattle.c_units.specs.Mentions.{noted, all_noted}
-use Rattle.c_tree.specs.SpecWords.{has_static}
-use Rattle.c_units.specs.Externals.{but_main, entry_names, static_names, own_names}
 use Rattle.c_units.proofs.Steps.{next_is, end_is}
 
 pub noted_append : (names xs ys : List (List ℕ)) → all_noted names (xs ++ ys) ≡ all_noted (all_noted names xs) ys

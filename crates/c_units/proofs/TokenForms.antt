@@ -1,14 +1,6 @@
 -- Each sign and each keyword has the form of its kind.
-use Rattle.std.proofs.Common.{◌≡◌, ℕ, true, ◌||◌, List, [], ◌∷◌, inl, inr, refl, subst, sym}
-use Rattle.std.proofs.lemmas.Bool.{eqb-true, or_cases}
-use Rattle.std.proofs.lemmas.Slice.Eq.{bytes_eq-Decides}
-use Rattle.std.specs.Prelude.{◌==◌, bytes_eq, codes}
-use Rattle.std.specs.List.{list_any}
-use Rattle.c_lexer.specs.Bytes.{is_space, is_letter, is_digit, is_name_byte, is_mark, class_of}
-use Rattle.c_lexer.specs.Names.{keywords, is_keyword}
-use Rattle.c_lexer.specs.Signs.{double_signs, triple_signs, is_single_sign, is_double_sign, is_triple_sign, is_sign}
-use Rattle.c_lexer.specs.Pieces.{kind_of, IsToken}
-use Rattle.c_lexer.specs.declared.token.TokenKind.{TokenKind}
+use Rattle.c_units.proofs.Words.Std.{List, [], bytes_eq, bytes_eq-Decides, codes, eqb-true, inl, inr, list_any, or_cases, refl, subst, sym, true, ℕ, ◌==◌, ◌||◌, ◌∷◌, ◌≡◌}
+use Rattle.c_units.proofs.Words.Trees.{IsToken, TokenKind, class_of, double_signs, is_digit, is_double_sign, is_keyword, is_letter, is_mark, is_name_byte, is_sign, is_single_sign, is_space, is_triple_sign, keywords, kind_of, triple_signs}
 use Rattle.c_lexer.specs.declared.token.TokenKind.TheVariants.{Keyword, Sign}
 
 -- each of these words is a token of the kind

@@ -1,35 +1,18 @@
 -- What an external declaration without a body and initializers declares can be read off its words: a walk over their sorts.
-use Rattle.std.proofs.Common.{◌≡◌, ℕ, zero, suc, Bool, true, false, ◌||◌, if◌then◌else◌, bytes_eq, codes, replicate, length, map, List, [], ◌∷◌, ◌++◌, Option, Some, None, refl, ap, sym, subst, ◌∙◌}
-use Rattle.std.specs.Prelude.{⊤}
-use Rattle.std.proofs.lemmas.List.{append-nil}
-use Rattle.c_lexer.specs.Names.{is_keyword}
-use Rattle.c_lexer.specs.Bytes.{is_mark}
-use Rattle.c_lexer.specs.Signs.{is_sign, is_double_sign, is_triple_sign}
-use Rattle.c_lexer.specs.declared.token.TokenKind.{TokenKind}
+use Rattle.c_units.proofs.Words.Std.{Bool, List, None, Option, Some, [], ap, append-nil, bytes_eq, codes, false, if◌then◌else◌, length, map, refl, replicate, subst, suc, sym, true, zero, ℕ, ⊤, ◌++◌, ◌||◌, ◌∙◌, ◌∷◌, ◌≡◌}
+use Rattle.c_units.proofs.Words.Trees.{AssignOp, At, BinaryOp, Form, Here, Item, Keyword, Leaf, Line, Node, Part, Piece, Place, Says, Sign, TokenKind, Tree, Trees, UnaryOp, Word, assign_sign, behind_commas, binary_sign, commas, count, filled, is_double_sign, is_keyword, is_mark, is_sign, is_triple_sign, key, keyword_bytes, none, places, record_word, rows, shape, sign_bytes, spell, spell_all, unary_sign, word_bytes, word_kind, words, ◌▹◌}
 use Rattle.c_lexer.specs.declared.token.TokenKind.TheVariants as t
 use Rattle.c_units.proofs.TokenForms.{keyword_token, sign_token}
-use Rattle.c_tree.specs.declared.operator.UnaryOp.{UnaryOp}
 use Rattle.c_tree.specs.declared.operator.UnaryOp.TheVariants as unary
-use Rattle.c_tree.specs.declared.operator.BinaryOp.{BinaryOp}
 use Rattle.c_tree.specs.declared.operator.BinaryOp.TheVariants as binary
-use Rattle.c_tree.specs.declared.operator.AssignOp.{AssignOp}
 use Rattle.c_tree.specs.declared.operator.AssignOp.TheVariants as assign
 use Rattle.c_tree.specs.declared.operator.RecordSort.TheVariants as r
-use Rattle.c_tree.specs.declared.word.Keyword.{Keyword}
 use Rattle.c_tree.specs.declared.word.Keyword.TheVariants as k
-use Rattle.c_tree.specs.declared.word.Sign.{Sign}
 use Rattle.c_tree.specs.declared.word.Sign.TheVariants as s
-use Rattle.c_tree.specs.Operators.{unary_sign, binary_sign, assign_sign, record_word}
-use Rattle.c_tree.specs.Words.{Word, word_kind, word_bytes, keyword_bytes, sign_bytes}
 use Rattle.c_tree.specs.Words as w
-use Rattle.c_tree.specs.Forms.{Form}
 use Rattle.c_tree.specs.Forms as f
-use Rattle.c_tree.specs.Places.{Place}
 use Rattle.c_tree.specs.Places as p
-use Rattle.c_tree.specs.Tree.{Tree, Trees, Leaf, At, Node, none, ◌▹◌, count}
-use Rattle.c_tree.specs.Grammar.{Item, Says, Here, Part, key, rows, behind_commas, commas, shape}
-use Rattle.c_tree.specs.Spelling.{Piece, Said, Line, filled, spell, spell_all, words}
-use Rattle.c_tree.specs.Scopes.{places}
+use Rattle.c_tree.specs.Spelling.{Said}
 use Rattle.c_units.proofs.WordTexts.{Begins, AllBegin}
 
 -- an opening bracket other than a brace, a brace, a closing bracket, a comma; a keyword of a type, of a tag, `typedef`; a name;
@@ -263,40 +246,25 @@ unfolding shape keyword_bytes sign_bytes record_word
 even f.Unit n deep = rows_even p.External refl n deep
 even f.Names n deep = commas_even p.Entry refl n deep
 even f.MaybeInit zero deep = refl
-even f.MaybeInit (suc n) deep = refl
-even f.Specs zero deep = refl
 even f.Specs (suc n) deep = rows_even p.SpecWord refl n deep
 even f.MaybeName zero deep = refl
-even f.MaybeName (suc n) deep = refl
-even f.Members zero deep = refl
 even f.Members (suc n) deep = rows_even p.Member refl (suc n) deep
-even f.MemberNames zero deep = refl
 even f.MemberNames (suc n) deep = commas_even p.Declarator refl (suc n) deep
-even f.Enumerators zero deep = refl
 even f.Enumerators (suc n) deep = commas_even p.Enumerator refl (suc n) deep
 even f.MaybeValue zero deep = refl
-even f.MaybeValue (suc n) deep = refl
 even (f.Pointer consts) n deep = consts_even consts deep
 even f.Suffixes n deep = rows_even p.Suffix refl n deep
 even f.MaybeLength zero deep = refl
-even f.MaybeLength (suc n) deep = refl
 even f.Params n deep = commas_even p.Param refl n deep
-even f.Inits zero deep = refl
 even f.Inits (suc n) deep = commas_even p.Init refl (suc n) deep
 even f.Items n deep = rows_even p.Item refl n deep
 even f.MaybeExpr zero deep = refl
-even f.MaybeExpr (suc n) deep = refl
-even f.Strings zero deep = refl
 even f.Strings (suc n) deep = rows_even p.Str refl (suc n) deep
 even f.Arguments n deep = commas_even (p.Expression 14) refl n deep
 even (f.RecordTag r.Struct) n deep = refl
-even (f.RecordTag r.Union) n deep = refl
 even (f.RecordBody r.Struct) n deep = refl
-even (f.RecordBody r.Union) n deep = refl
 even (f.EnumBody true) n deep = refl
-even (f.EnumBody false) n deep = refl
 even (f.InitList true) n deep = refl
-even (f.InitList false) n deep = refl
 even (f.Unary op) n deep = ap (λ (o : Option ℕ). and_then o (λ next. Some next)) (unary_even op deep)
 even (f.Binary op) n deep = ap (λ (o : Option ℕ). and_then o (λ next. Some next)) (binary_even op deep)
 even (f.Assign op) n deep = ap (λ (o : Option ℕ). and_then o (λ next. Some next)) (assign_even op deep)
@@ -322,17 +290,9 @@ some_is deep next h = cc
 
 stepped : (word : Sort) (within : Bool) (deep next : ℕ) (names : List (List ℕ)) → shift word deep ≡ Some next →
     step (inside within deep names) word ≡ inside within next names
-stepped Open true deep next names h = ap (λ (n : ℕ). inside true n names) (some_is (suc deep) next h)
-stepped Open false deep next names h = ap (λ (n : ℕ). inside false n names) (some_is (suc deep) next h)
-stepped Brace true deep next names h = ap (λ (n : ℕ). inside true n names) (some_is (suc deep) next h)
-stepped Brace false deep next names h = ap (λ (n : ℕ). inside false n names) (some_is (suc deep) next h)
 stepped Close within zero next names h = absurd (cc)
-stepped Close true (suc deep) next names h = ap (λ (n : ℕ). inside true n names) (some_is deep next h)
-stepped Close false (suc deep) next names h = ap (λ (n : ℕ). inside false n names) (some_is deep next h)
-stepped Comma true deep next names h = ap (λ (n : ℕ). inside true n names) (some_is deep next h)
-stepped Comma false deep next names h = ap (λ (n : ℕ). inside false n names) (some_is deep next h)
-stepped word true deep next names h = ap (λ (n : ℕ). inside true n names) (some_is deep next h)
-stepped word false deep next names h = ap (λ (n : ℕ). inside false n names) (some_is deep next h)
+stepped word true deep next names h = ap (λ (n : ℕ). inside true n names) (some_is _ next h)
+stepped word false deep next names h = ap (λ (n : ℕ). inside false n names) (some_is _ next h)
 
 -- a form with neutral parts
 abbrev Walks : List Item → Trees → ℕ → ℕ → Type 0
@@ -403,10 +363,7 @@ leaf_shift : (word : Word) (deep : ℕ) → IsLeaf word → shift (word_sort wor
 leaf_shift (w.Mark sign) deep h = absurd h
 leaf_shift (w.Other kind bytes) deep h = absurd h
 leaf_shift (w.Key keyword) deep h = key_shift keyword deep
-leaf_shift (w.Name bytes) deep h = refl
-leaf_shift (w.Int bytes) deep h = refl
-leaf_shift (w.Char bytes) deep h = refl
-leaf_shift (w.Str bytes) deep h = refl
+leaf_shift word deep h = refl
 
 mutual
   unfolding IsSound AreSound spell
@@ -490,11 +447,7 @@ items_begin (Part place ∷ items) (tree ▹ rest) deep next h g =
 leaf_begins : (word : Word) → IsLeaf word → Begins word
 leaf_begins (w.Mark sign) h = absurd h
 leaf_begins (w.Other kind bytes) h = absurd h
-leaf_begins (w.Key keyword) h = h
-leaf_begins (w.Name bytes) h = h
-leaf_begins (w.Int bytes) h = h
-leaf_begins (w.Char bytes) h = h
-leaf_begins (w.Str bytes) h = h
+leaf_begins word h = h
 
 mutual
   unfolding IsSound AreSound spell

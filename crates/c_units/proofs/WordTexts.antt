@@ -1,34 +1,11 @@
 -- External declarations that are spelled alike have words of the same kinds and spellings, where names may have a suffix.
-use Rattle.std.proofs.Common.{◌≡◌, ℕ, zero, suc, ◌+◌, ◌-◌, ◌<◌, ◌≤◌, Bool, true, false, not, cond, ◌&&◌, List, [], ◌∷◌, ◌++◌, length, take, Option, Some, None, refl, ap, ap₂, subst, sym, ◌∙◌, arith}
-use Rattle.std.specs.Prelude.{⊤, ◌==◌}
-use Rattle.std.specs.List.{list_all}
-use Rattle.std.proofs.lemmas.Bool.{cond-false, and_right, and_parts}
-use Rattle.std.proofs.lemmas.List.{take_at, length-append, append_cancel_left, append_assoc}
-use Rattle.std.proofs.lemmas.List.Folds.{list_all-append}
-use Rattle.std.proofs.Math.Seq.{take-append-add}
-use Rattle.c_lexer.specs.Bytes.{is_letter, is_digit, is_name_byte, is_number_byte, class_of}
-use Rattle.c_lexer.specs.Numbers.{form_of, base_of, number_value, is_held}
-use Rattle.c_lexer.specs.Signs.{is_sign}
-use Rattle.c_lexer.specs.Gaps.{is_on_line, comment_end}
-use Rattle.c_lexer.specs.Pieces.{is_empty, literal_end, ends_at, literal_kind, number_kind, number_kind_by, quote_kind, block_kind, slash_kind, kind_by, kind_of, Longest, IsToken}
-use Rattle.c_lexer.specs.Readers.{piece}
-use Rattle.c_lexer.specs.Written.{TokensAreLongest, is_separator}
-use Rattle.c_lexer.specs.declared.bytes.ByteClass.{ByteClass}
-use Rattle.c_lexer.specs.declared.bytes.ByteClass.TheVariants.{Space, Letter, Digit, Quote, Hash, Slash, Mark, Other}
+use Rattle.c_units.proofs.Words.Std.{Bool, List, None, Option, Some, [], and_parts, and_right, ap, append_assoc, append_cancel_left, ap₂, arith, cond, cond-false, false, length, length-append, list_all, list_all-append, not, refl, subst, suc, sym, take, take-append-add, take_at, true, zero, ℕ, ⊤, ◌&&◌, ◌++◌, ◌+◌, ◌-◌, ◌<◌, ◌==◌, ◌∙◌, ◌∷◌, ◌≡◌, ◌≤◌}
+use Rattle.c_units.proofs.Words.Trees.{BadByte, ByteClass, Digit, Gap, Hash, IsToken, Letter, LiteralTooWide, Longest, Mark, Other, PieceKind, Quote, Refused, Sign, Slash, Space, Token, TokenKind, TokensAreLongest, Word, base_of, block_kind, class_of, comment_end, ends_at, form_of, is_digit, is_empty, is_held, is_letter, is_name_byte, is_number_byte, is_on_line, is_separator, is_sign, kind_by, kind_of, literal_end, literal_kind, longest_one, number_kind, number_kind_by, number_value, piece, quote_kind, separator, slash_kind, word_bytes, word_kind, word_spellings, words_text}
 use Rattle.c_lexer.specs.declared.number.Suffix.{Suffix}
-use Rattle.c_lexer.specs.declared.token.TokenKind.{TokenKind}
 use Rattle.c_lexer.specs.declared.token.TokenKind.TheVariants as t
-use Rattle.c_lexer.specs.declared.token.LexKind.TheVariants.{BadByte, LiteralTooWide}
-use Rattle.c_lexer.specs.declared.piece.PieceKind.{PieceKind}
-use Rattle.c_lexer.specs.declared.piece.PieceKind.TheVariants.{Gap, Token, Refused}
 use Rattle.c_lexer.specs.declared.piece.Piece.{Piece}
-use Rattle.c_lexer.specs.PiecesEquations.{longest_one}
-use Rattle.c_tree.specs.declared.word.Sign.{Sign}
 use Rattle.c_tree.specs.declared.word.Sign.TheVariants as s
-use Rattle.c_tree.specs.Words.{Word, word_kind, word_bytes}
 use Rattle.c_tree.specs.Words as w
-use Rattle.c_tree.specs.Canonical.{separator, words_text}
-use Rattle.c_tree.specs.Reread.{word_spellings}
 
 -- no space and no end of line
 abbrev pub clean : ℕ → Bool

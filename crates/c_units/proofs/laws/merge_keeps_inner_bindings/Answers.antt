@@ -1,4 +1,4 @@
-use Rattle.c_units.proofs.InnerUses.{merge_keeps_inner}
+use Rattle.c_units.proofs.FileBindings.{merge_keeps_inner}
 use Rattle.c_units.proofs.laws.merge_keeps_inner_bindings.Goals as goal
 
 pub returns : goal.returns

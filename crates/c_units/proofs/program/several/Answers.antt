@@ -1,6 +1,5 @@
-use Rattle.std.proofs.Common.{◌+◌}
-use Rattle.std.proofs.lemmas.Result.{err_from_is_err_and}
-use Rattle.c_units.specs.Kept.{program_view}
+use Rattle.c_units.proofs.Words.Std.{err_from_is_err_and, ◌+◌}
+use Rattle.c_units.proofs.Words.Units.{program_view}
 use Rattle.c_units.proofs.ProgramTurns.{merge_refused}
 use Rattle.c_units.proofs.program.several.Goals as goal
 

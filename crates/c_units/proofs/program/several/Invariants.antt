@@ -1,7 +1,6 @@
-use Rattle.std.proofs.Common.{◌≡◌, ◌+◌, length, map, reverse}
-use Rattle.c_tree.specs.StatementView.{unit_view}
-use Rattle.c_units.specs.Merge.{no_program, with_units}
-use Rattle.c_units.specs.Kept.{program_view}
+use Rattle.c_units.proofs.Words.Std.{length, map, reverse, ◌+◌, ◌≡◌}
+use Rattle.c_units.proofs.Words.Trees.{unit_view}
+use Rattle.c_units.proofs.Words.Units.{no_program, program_view, with_units}
 use Rattle.c_units.proofs.program.several.Given as goal
 
 -- the units that are left come behind those that were added

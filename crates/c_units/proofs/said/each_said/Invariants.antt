@@ -1,7 +1,6 @@
-use Rattle.std.proofs.Common.{◌≡◌, [], map}
-use Rattle.c_tree.specs.StatementView.{trees, decl_view}
-use Rattle.c_units.specs.Externals.{each_said}
-use Rattle.c_units.specs.Kept.{said_view}
+use Rattle.c_units.proofs.Words.Std.{[], map, ◌≡◌}
+use Rattle.c_units.proofs.Words.Trees.{decl_view, trees}
+use Rattle.c_units.proofs.Words.Units.{each_said, said_view}
 use Rattle.c_units.proofs.SaidTurns.{behind_all}
 use Rattle.c_units.proofs.said.each_said.Given as goal
 

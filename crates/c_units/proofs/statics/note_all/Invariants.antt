@@ -1,7 +1,6 @@
-use Rattle.std.proofs.Common.{◌≡◌, drop}
-use Rattle.c_tree.specs.StatementView.{trees, entry_view}
-use Rattle.c_units.specs.Mentions.{all_noted}
-use Rattle.c_units.specs.Externals.{entry_names}
+use Rattle.c_units.proofs.Words.Std.{drop, ◌≡◌}
+use Rattle.c_units.proofs.Words.Trees.{entry_view, trees}
+use Rattle.c_units.proofs.Words.Units.{all_noted, entry_names}
 use Rattle.c_units.proofs.statics.note_all.Given as goal
 
 -- the names of the entries that are left come behind those that are noted

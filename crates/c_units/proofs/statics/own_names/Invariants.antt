@@ -1,4 +1,4 @@
-use Rattle.std.proofs.Common.{◌≡◌, [], drop}
+use Rattle.std.proofs.Common.{◌≡◌, drop, []}
 use Rattle.c_tree.specs.StatementView.{trees, decl_view}
 use Rattle.c_units.specs.Externals.{own_names}
 use Rattle.c_units.proofs.statics.own_names.Given as goal

@@ -1,6 +1,5 @@
-use Rattle.std.proofs.Common.{List, ℕ, if◌then◌else◌, bytes_eq, ap, sym, ◌∙◌}
-use Rattle.c_units.specs.Names.{Known, binding_of}
-use Rattle.c_units.specs.Sets.{bound_in}
+use Rattle.c_units.proofs.Words.Std.{List, ap, bytes_eq, if◌then◌else◌, sym, ℕ, ◌∙◌}
+use Rattle.c_units.proofs.Words.Units.{Known, binding_of, bound_in}
 use Rattle.c_units.proofs.Logs.{one_more}
 use Rattle.c_units.proofs.names.Scope.declare.Goals as goal
 

@@ -1,7 +1,5 @@
-use Rattle.std.proofs.Common.{◌≡◌, drop, map}
-use Rattle.c_units.specs.Mentions.{first_taken}
-use Rattle.c_units.specs.Merge.{mentions_of}
-use Rattle.c_units.specs.Kept.{said_view}
+use Rattle.c_units.proofs.Words.Std.{drop, map, ◌≡◌}
+use Rattle.c_units.proofs.Words.Units.{first_taken, mentions_of, said_view}
 use Rattle.c_units.proofs.program.Program.first_taken.Given as goal
 
 -- the declarations that are left decide

@@ -1,6 +1,5 @@
-use Rattle.std.proofs.Common.{◌≡◌, map}
-use Rattle.c_units.specs.Merge.{kept, spellings_of}
-use Rattle.c_units.specs.Kept.{said_view}
+use Rattle.c_units.proofs.Words.Std.{map, ◌≡◌}
+use Rattle.c_units.proofs.Words.Units.{kept, said_view, spellings_of}
 use Rattle.c_units.proofs.program.Program.left.Given as goal
 
 -- what is left of the declarations so far

@@ -1,8 +1,6 @@
-use Rattle.std.proofs.Common.{◌≡◌, map}
-use Rattle.c_tree.specs.StatementView.{trees, decl_view}
-use Rattle.c_units.specs.Merge.{mentions_of, trees_of}
-use Rattle.c_units.specs.Kept.{said_view}
-use Rattle.c_units.specs.Turns.{joined}
+use Rattle.c_units.proofs.Words.Std.{map, ◌≡◌}
+use Rattle.c_units.proofs.Words.Trees.{decl_view, trees}
+use Rattle.c_units.proofs.Words.Units.{joined, mentions_of, said_view, trees_of}
 use Rattle.c_units.proofs.program.Program.take_in.Given as goal
 
 -- what was taken in so far

@@ -1,9 +1,7 @@
-use Rattle.std.proofs.Common.{refl, ap, ◌∙◌}
+use Rattle.c_units.proofs.Words.Std.{ap, refl, values_o, values_o_at, with_items, ◌∙◌}
+use Rattle.c_units.proofs.Words.Trees.{init_view}
 use Rattle.c_tree.specs.contracts.statement.InitKind.{enum}
 use Rattle.c_tree.specs.declared.statement.InitKind.TheVariants.{List}
-use Rattle.std.specs.Vec.{with_items}
-use borrow.Enum.Total.{values_o, values_o_at}
-use Rattle.c_tree.specs.StatementView.{init_view}
 use Rattle.c_units.proofs.ItemTurns.{item_next}
 use Rattle.c_units.proofs.WalkSteps.{init_list_new, items_in}
 use Rattle.c_units.proofs.walk.Walk.+inits.Goals as goal

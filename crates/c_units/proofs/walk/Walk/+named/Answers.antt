@@ -1,11 +1,9 @@
-use Rattle.std.proofs.Common.{refl, ap, ◌∙◌}
-use Rattle.std.specs.Box.{with_value}
+use Rattle.c_units.proofs.Words.Std.{ap, refl, values_o, values_o_at, with_value, ◌∙◌}
+use Rattle.c_units.proofs.Words.Trees.{Pointer}
+use Rattle.c_units.proofs.Words.Units.{name_by}
 use Rattle.c_tree.specs.contracts.tree.Declarator.{enum}
-use Rattle.c_tree.specs.declared.tree.Declarator.TheVariants.{Pointer}
-use Rattle.c_units.specs.Names.{name_by}
 use Rattle.c_units.proofs.WalkSteps.{inside}
 use Rattle.c_units.proofs.NamedSteps.{pointer_named, direct_named, parens_named}
-use borrow.Enum.Total.{values_o, values_o_at}
 use Rattle.c_units.proofs.walk.Walk.+named.Goals as goal
 
 pub rename_declared-returns-in-Pointer : goal.rename_declared-returns-in-Pointer

@@ -1,7 +1,5 @@
-use Rattle.std.proofs.Common.{◌+◌, ◌*◌}
-use Rattle.c_tree.specs.declared.statement.Stmt.{size-Stmt}
-use Rattle.c_tree.specs.declared.statement.StmtKind.{size-StmtKind}
-use Rattle.c_tree.specs.StatementView.{stmt_view}
+use Rattle.c_units.proofs.Words.Std.{◌*◌, ◌+◌}
+use Rattle.c_units.proofs.Words.Trees.{size-Stmt, size-StmtKind, stmt_view}
 use Rattle.c_units.proofs.ItemTurns.{AreLeft, Leads}
 use Rattle.c_units.proofs.walk.Walk.+statements.Given as goal
 

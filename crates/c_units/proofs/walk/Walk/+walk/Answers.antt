@@ -1,17 +1,8 @@
-use Rattle.std.proofs.Common.{rules, refl, ap, ap₂, ◌∙◌}
-use Rattle.c_tree.specs.declared.tree.Enumerator.{out-Enumerator, out-roll-Enumerator}
-use Rattle.c_units.specs.declared.mention.Role.TheVariants.{Defined, Tagged}
-use Rattle.c_units.specs.Names.{mention, mention_any, binding_at}
+use Rattle.c_units.proofs.Words.Std.{ap, ap₂, refl, rules, values_o, values_o_at, with_items, with_value, ◌∙◌}
+use Rattle.c_units.proofs.Words.Trees.{EnumBody, Pointer, RecordBody, declarator_tree, enumerator_tree, expr_view, member_view, out-Enumerator, out-roll-Enumerator, param_view, spec_tree, suffix_view}
+use Rattle.c_units.proofs.Words.Units.{Defined, Tagged, binding_at, braced_name, mention, mention_any}
 use Rattle.c_tree.specs.contracts.tree.TagKind.{enum as tag}
 use Rattle.c_tree.specs.contracts.tree.Declarator.{enum as declarator}
-use Rattle.std.specs.Vec.{with_items}
-use Rattle.std.specs.Box.{with_value}
-use Rattle.c_tree.specs.declared.tree.TagKind.TheVariants.{RecordBody, EnumBody}
-use Rattle.c_tree.specs.declared.tree.Declarator.TheVariants.{Pointer}
-use borrow.Enum.Total.{values_o, values_o_at}
-use Rattle.c_tree.specs.View.{spec_tree, enumerator_tree, declarator_tree}
-use Rattle.c_tree.specs.StatementView.{expr_view, member_view, suffix_view, param_view}
-use Rattle.c_units.specs.Turns.{braced_name}
 use Rattle.c_units.proofs.ItemTurns.{item_next}
 use Rattle.c_units.proofs.WalkSteps.{call_new, call_names, sizeof_new, sizeof_names, cast_new, cast_names, record_new, record_names, enum_new, enum_names, specs_new, member_new, pointer_new, direct_new, direct_names, array_new, params_new, enumerator_new, enumerator_names, items_in}
 use Rattle.c_units.proofs.walk.Walk.+walk.Goals as goal

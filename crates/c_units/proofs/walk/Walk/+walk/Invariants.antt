@@ -1,5 +1,4 @@
-use Rattle.c_tree.specs.View.{spec_tree, enumerator_tree, declarator_tree}
-use Rattle.c_tree.specs.StatementView.{expr_view, member_view, suffix_view, param_view}
+use Rattle.c_units.proofs.Words.Trees.{declarator_tree, enumerator_tree, expr_view, member_view, param_view, spec_tree, suffix_view}
 use Rattle.c_units.proofs.ItemTurns.{AreLeft, Leads}
 use Rattle.c_units.proofs.walk.Walk.+walk.Given as goal
 

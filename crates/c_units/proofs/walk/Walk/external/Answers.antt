@@ -1,10 +1,6 @@
-use Rattle.std.proofs.Common.{refl, ap, ap₂, ◌∙◌}
-use Rattle.c_tree.specs.Scopes.{params_of}
-use Rattle.c_tree.specs.View.{declarator_tree}
-use Rattle.c_tree.specs.StatementView.{specs_view, body_view}
-use Rattle.c_units.specs.declared.mention.Role.TheVariants.{Defined}
-use Rattle.c_units.specs.Names.{behind, renamed, left_scope}
-use Rattle.c_units.specs.Externals.{behind_declarator, renamed_declarator, inside_params}
+use Rattle.c_units.proofs.Words.Std.{ap, ap₂, refl, ◌∙◌}
+use Rattle.c_units.proofs.Words.Trees.{body_view, declarator_tree, params_of, specs_view}
+use Rattle.c_units.proofs.Words.Units.{Defined, behind, behind_declarator, inside_params, left_scope, renamed, renamed_declarator}
 use Rattle.c_units.proofs.FunctionSteps.{function_names, function_new}
 use Rattle.c_units.proofs.WalkSteps.{if_by}
 use Rattle.c_units.proofs.walk.Walk.external.Goals as goal

@@ -1,8 +1,6 @@
-use Rattle.std.proofs.Common.{ap, ◌∙◌}
-use Rattle.std.specs.Option.{option_copied}
-use Rattle.c_tree.specs.View.{declarator_tree}
-use Rattle.c_units.specs.Names.{mention}
-use Rattle.c_units.specs.Externals.{binding_as}
+use Rattle.c_units.proofs.Words.Std.{ap, option_copied, ◌∙◌}
+use Rattle.c_units.proofs.Words.Trees.{declarator_tree}
+use Rattle.c_units.proofs.Words.Units.{binding_as, mention}
 use Rattle.c_units.proofs.NamedSteps.{file_made}
 use Rattle.c_units.proofs.walk.Walk.file_declarator.Goals as goal
 

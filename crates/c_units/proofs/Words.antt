@@ -1,0 +1,4 @@
+-- The words that lemmas speak of, by house.
+pub mod Std
+pub mod Trees
+pub mod Units
