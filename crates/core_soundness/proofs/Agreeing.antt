@@ -1,9 +1,9 @@
 -- The type of an expression that is elaborated is the one that its types alone give it.
-use Rattle.std.proofs.Common.{◌≡◌, ◌&&◌, ℕ, pos, Bool, true, false, not, cond, List, Option, Some, Ok, refl, sym, ap, ◌∙◌, subst, ◌+◌, [], ◌∷◌, length, None, arith}
+use Rattle.core_soundness.proofs.Words.Std.{◌≡◌, ◌&&◌, ℕ, pos, Bool, true, false, not, cond, List, Option, Some, Ok, refl, sym, ap, ◌∙◌, subst, ◌+◌, [], ◌∷◌, length, None, arith}
 use Rattle.core_soundness.proofs.Words.Trees.{Tree, Trees, Leaf, At, Node, none, ◌▹◌, AssignOp, BinaryOp, UnaryOp}
-use Rattle.core_soundness.proofs.Words.Types.{TagTable, PlainType, PlainTypes, Void, Int, Pointer, Array, named, Callee, Takes, Prints, NoFunction, called, call, no_function, line_of, answered, wanted, one, two, string, typed, values, calling, int_constant, char_constant, joined, literal, first_literal, typename, PlainNamed, held_place, element, dot, arrow, cast, choice, assigned, changed, changed_types, is_written, behind_comma, Checked, then, unless, found as declaration, address, unary, unary_of, binary, PlainTyped, Operand, Number, operand, read, is_null_constant, int, wanted_value, place, value, is_record, constant, NotLvalue, TypeTooLarge}
+use Rattle.core_soundness.proofs.Words.Types.{TagTable, PlainType, PlainTypes, Void, Int, Pointer, Array, named, Callee, Takes, Prints, NoFunction, call, line_of, answered, wanted, one, two, string, typed, values, calling, int_constant, char_constant, joined, literal, first_literal, typename, PlainNamed, element, dot, arrow, cast, choice, assigned, changed, is_written, behind_comma, Checked, then, unless, found as declaration, address, unary, unary_of, binary, PlainTyped, Operand, operand, read, is_null_constant, int, wanted_value, place, value, is_record, constant, NotLvalue}
 use Rattle.core_soundness.proofs.Words.Core.{Atom, Copy}
-use Rattle.core_soundness.proofs.Words.Elaborating.{record_assigned, set_to, scalar_assigned, old_value, change_place, changed_answer, changed_by, stepped, Argument, types_of, first_type, rest_types, argument_from, Code, Context, With, asked, told, emit, here, new_label, Found, Value, Empty, Unknown, found_as, atom_in, valued_from, valued, size_or_zero, unused, wanted_from, valued_as, name_answer, literal_answer, unevaluated, address_answer, changing, cast_operand, comma_answer, callee_name, callee, parameters, format_argument, is_printf, call_answer, found, arguments, offset_of, constant_found, object_found, built_in_found, name_found, indexed, member_of, dotted, target_of, pointed, apply, applied, before_number, left_operand, tells_equal, is_pointer_ahead, ahead, between, cast_to, and_ended, or_ended, choose_first, choose_last, choice_found, chosen, and_then, or_else, choose, type_ahead}
+use Rattle.core_soundness.proofs.Words.Elaborating.{record_assigned, set_to, scalar_assigned, old_value, changed_by, stepped, Argument, types_of, first_type, rest_types, argument_from, Code, Context, With, asked, told, emit, here, new_label, Found, Value, Empty, Unknown, found_as, atom_in, valued_from, valued, size_or_zero, unused, wanted_from, valued_as, name_answer, literal_answer, unevaluated, address_answer, changing, cast_operand, comma_answer, callee_name, callee, parameters, format_argument, is_printf, call_answer, found, arguments, offset_of, constant_found, object_found, built_in_found, name_found, indexed, member_of, dotted, target_of, pointed, apply, applied, left_operand, tells_equal, is_pointer_ahead, ahead, between, cast_to, and_ended, or_ended, choose_first, choose_last, choice_found, chosen, and_then, or_else, choose, type_ahead}
 use Rattle.c_types.specs.declared.types.IntType.TheVariants as i
 use Rattle.core_tree.specs.declared.statements.Atom.TheVariants as atom
 use Rattle.c_tree.specs.Forms as f
@@ -14,7 +14,7 @@ use Rattle.c_tree.specs.declared.operator.UnaryOp.TheVariants as u
 use Rattle.c_decls.specs.Expressions as types
 use Rattle.c_decls.specs.PlaceRules as rules
 use Rattle.c_decls.specs.TypeNames as names
-use Rattle.core_soundness.proofs.CodeWalk.{Quiet, quiet_read, quiet_convert, quiet_tested_value, quiet_write, quiet_before, quiet_combined, quiet_changed, quiet_literal, quiet_compare_again, quiet_chosen_by, quiet_choose_last, quiet_argument, quiet_call}
+use Rattle.core_soundness.proofs.CodeWalk.{Quiet, quiet_read, quiet_convert, quiet_tested_value, quiet_write, quiet_before, quiet_combined, quiet_changed, quiet_literal, quiet_compare_again, quiet_chosen_by, quiet_choose_last, quiet_argument, quiet_result, quiet_of_built_in}
 use Rattle.core_soundness.proofs.Growth.{good, ok_same, never}
 use Rattle.core_soundness.proofs.Choices.{either_way}
 
@@ -53,19 +53,6 @@ answered_is known r t e = ap (λ (x : Checked PlainTyped). answered known x) e
 pub wanted_is : (tree : Tree) (x : types.Found) (known : names.Context) (t v : PlainTyped) → x ≡ Ok (known, t) → wanted_value (line_of tree) known.tags t ≡ Ok v → wanted tree x ≡ Ok (known, v)
 wanted_is tree x known t v e h = ap (λ (y : types.Found). wanted tree y) e ∙ answered_is known (wanted_value (line_of tree) known.tags t) v h
 
-pub unused_is : (tree : Tree) (x : types.Found) (known : names.Context) (t v : PlainTyped) → x ≡ Ok (known, t) → read (line_of tree) known.tags t ≡ Ok v → types.unused tree x ≡ Ok (known, v)
-unused_is tree x known t v e h = ap (λ (y : types.Found). types.unused tree y) e ∙ answered_is known (read (line_of tree) known.tags t) v h
-
-changing_is : (tree : Tree) (x : types.Found) (known : names.Context) (t v : PlainTyped) → x ≡ Ok (known, t) → held_place (line_of tree) known.tags t ≡ Ok v → types.changing tree x ≡ Ok (known, v)
-changing_is tree x known t v e h = ap (λ (y : types.Found). types.changing tree y) e ∙ answered_is known (held_place (line_of tree) known.tags t) v h
-
-pub one_is : (x : types.Found) (rule : TagTable → PlainTyped → Checked PlainTyped) (known : names.Context) (t v : PlainTyped) → x ≡ Ok (known, t) → rule known.tags t ≡ Ok v → one x rule ≡ Ok (known, v)
-one_is x rule known t v e h = ap (λ (y : types.Found). one y rule) e ∙ answered_is known (rule known.tags t) v h
-
-pub two_is : (x : types.Found) (y : names.Context → types.Found) (rule : TagTable → PlainTyped → PlainTyped → Checked PlainTyped) (known later : names.Context) (t v z : PlainTyped) → x ≡ Ok (known, t) → y known ≡ Ok (later, v)
-    → rule later.tags t v ≡ Ok z → two x y rule ≡ Ok (later, z)
-two_is x y rule known later t v z e h k = search (arith, answered_is)
-
 -- values
 
 pub valued_from_rule : (tree : Tree) (c : Context) (e : Found) (z : Context × Found) → valued_from tree c e ≡ Ok z → Ruled (read (line_of tree) c.tags e.typed) (asked c) z
@@ -79,13 +66,13 @@ pub valued_agrees : (tree : Tree) (answer : With Found) (x : types.Found) (z : C
 valued_agrees tree answer x z h e = search (arith, came, wanted_from_rule, finish, wanted_is)
 
 pub unused_agrees : (tree : Tree) (answer : With Found) (x : types.Found) (z : Context × Found) → ((d : Context × Found) → answer ≡ Ok d → Agreed x d) → unused tree answer ≡ Ok z → Agreed (types.unused tree x) z
-unused_agrees tree answer x z h e = search (arith, came, valued_from_rule, finish, unused_is)
+unused_agrees tree answer x z h e = search (arith, came, valued_from_rule, finish, answered_is)
 
 pub cast_agrees : (type : PlainType) (tree : Tree) (answer : With Found) (x : types.Found) (z : Context × Found) → ((d : Context × Found) → answer ≡ Ok d → Agreed x d) → cast_operand type tree answer ≡ Ok z → Agreed (types.cast_operand type tree x) z
 cast_agrees type tree answer x z h e = grind (arith, true, unused_agrees, false, valued_agrees)
 
 pub changing_agrees : (tree : Tree) (answer : With Found) (x : types.Found) (z : Context × Found) → ((d : Context × Found) → answer ≡ Ok d → Agreed x d) → changing tree answer ≡ Ok z → Agreed (types.changing tree x) z
-changing_agrees tree answer x z h e = grind (arith, came, ok_same, changing_is)
+changing_agrees tree answer x z h e = grind (arith, came, ok_same, answered_is)
 
 -- names and literals
 
@@ -126,13 +113,10 @@ address_rule line c e z h = ruled (address line e.typed) (λ t. (c, found_as t (
 
 -- an operator before a value: what is no integer is refused, but for `*` and `!`
 
-quiet_number : (line : ℕ) (op : UnaryOp) (t : PlainTyped) (o : Operand) (c : Context) (e : Found) → Quiet c (before_number line op t o c e).0
-quiet_number line op t o c e = search (arith, quiet_before) fits 100
-
 quiet_apply : (line : ℕ) (op : UnaryOp) (tree : Tree) (t : PlainTyped) (c : Context) (e : Found) → Quiet c (apply line op tree t c e).0
 quiet_apply line u.Deref tree t c e = refl
 quiet_apply line u.Not tree t c e = quiet_tested_value tree (c, e)
-quiet_apply line op tree t c e = quiet_number line op t (operand e.typed.type) c e
+quiet_apply line op tree t c e = search (arith, quiet_before) fits 100
 
 apply_of : (line : ℕ) (op : UnaryOp) (tree : Tree) (t : PlainTyped) (c : Context) (e : Found) (o : Operand) → operand e.typed.type ≡ o → unary_of line op e.typed o ≡ Ok t → (apply line op tree t c e).1.typed ≡ t
 apply_of line op tree t c e o is h = search (arith, never) fits 100
@@ -167,13 +151,6 @@ quiet_first line other before type d = quiet_chosen_by line before type d.1.type
 
 -- assignments
 
-pub record_rule : (line right : ℕ) (target : Found) (d : Context × Found) (z : Context × Found) → record_assigned line right target d ≡ Ok z → Ruled (assigned line right d.0.tags target.typed d.1.typed) (asked d.0) z
-record_rule line right target d z h =
-    ruled (assigned line right d.0.tags target.typed d.1.typed) (λ t. (emit line (Copy (atom_in target) (atom_in d.1) (pos (size_or_zero d.0 t.type))) d.0, found_as t Empty Unknown)) (asked d.0) z (λ t. refl) (λ t. refl) h
-
-quiet_set_to : (line : ℕ) (before : Code) (t : PlainTyped) (target : Found) (d : Context × Found) → Quiet d.0 (set_to line before t target d).0
-quiet_set_to line before t target d = search (arith, quiet_write, quiet_convert)
-
 pub scalar_rule : (line : ℕ) (before : Code) (tree : Tree) (target : Found) (d : Context × Found) (z : Context × Found) → scalar_assigned line before tree target d ≡ Ok z → Ruled (assigned line (line_of tree) d.0.tags target.typed d.1.typed) (asked d.0) z
 scalar_rule line before tree target d z h =
     let t = came (assigned line (line_of tree) d.0.tags target.typed d.1.typed) h in
@@ -182,27 +159,14 @@ scalar_rule line before tree target d z h =
     let read_rule = valued_from_rule tree d.0 d.1 v.value v.is in
     record {
       typed = t.is ∙ ap (λ (x : Context × Found). good x.1.typed) same;
-      same = sym (ap (λ (x : Context × Found). asked x.0) same) ∙ quiet_set_to line before t.value target v.value ∙ read_rule.same;
+      same = sym (ap (λ (x : Context × Found). asked x.0) same) ∙ (search (arith, quiet_write, quiet_convert)) ∙ read_rule.same;
     }
 
-quiet_change_place : (line : ℕ) (op : BinaryOp) (t : PlainTyped) (target : Found) (old : Atom) (e : PlainTyped) (y : Atom) (c : Context) → Quiet c (change_place line op t target old e y c).0
-quiet_change_place line op t target old e y c = search (arith, quiet_write, quiet_changed)
-
-quiet_answer : (keeps_old : Bool) (t : PlainTyped) (old : Atom) (v : Context × Atom) → Quiet v.0 (changed_answer keeps_old t old v).0
-quiet_answer keeps_old t old v = search arith fits 100
-
-answer_typed : (keeps_old : Bool) (t : PlainTyped) (old : Atom) (v : Context × Atom) → (changed_answer keeps_old t old v).1.typed ≡ t
-answer_typed keeps_old t old v = search arith fits 100
-
 pub changed_rule : (line : ℕ) (op : AssignOp) (keeps_old : Bool) (target : Found) (old : Atom) (d : Context × Found) (z : Context × Found) → changed_by line op keeps_old target old d ≡ Ok z → Ruled (changed line op d.0.tags target.typed d.1.typed) (asked d.0) z
-changed_rule line op keeps_old target old d z h = search (arith, ruled, answer_typed, quiet_answer, quiet_change_place)
-
--- `--` is refused where `++` is
-steps_alike : (line : ℕ) (tags : TagTable) (type : PlainType) (o : Operand) → changed_types line a.Subtract tags type o (Number i.Int) ≡ changed_types line a.Add tags type o (Number i.Int)
-steps_alike line tags type o = search arith fits 100
+changed_rule line op keeps_old target old d z h = search (arith, ruled, quiet_write, quiet_changed)
 
 pub stepped_alike : (line : ℕ) (tags : TagTable) (t : PlainTyped) → changed line a.Subtract tags t int ≡ changed line a.Add tags t int
-stepped_alike line tags t = ap (λ (x : Checked PlainTyped). unless (not (is_written t)) NotLvalue line x) (steps_alike line tags t.type (operand t.type))
+stepped_alike line tags t = ap (λ (x : Checked PlainTyped). unless (not (is_written t)) NotLvalue line x) (search arith fits 100)
 
 pub stepped_rule : (line : ℕ) (op : AssignOp) (keeps_old : Bool) (d : Context × Found) (z : Context × Found) → stepped line op keeps_old d ≡ Ok z → Ruled (changed line op d.0.tags d.1.typed int) (asked d.0) z
 stepped_rule line op keeps_old d z h = search (arith, quiet_read, changed_rule)
@@ -214,22 +178,11 @@ stepped_rule line op keeps_old d z h = search (arith, quiet_read, changed_rule)
 abbrev CalleeAgrees : Checked (names.Context × Callee) → Context × Callee → Type 0
 CalleeAgrees x z = x ≡ Ok (asked z.0, z.1)
 
-name_callee : (r : Checked Callee) (c : Context) (z : Context × Callee) → then r (λ function. good (c, function)) ≡ Ok z → CalleeAgrees (then r (λ function. good (asked c, function))) z
-name_callee r c z h = search (arith, ok_same, never) fits 100
-
-other_callee : (tree : Tree) (answer : With Found) (x : types.Found) (z : Context × Callee) → ((d : Context × Found) → answer ≡ Ok d → Agreed x d) → then (valued tree answer) (λ d. good (d.0, NoFunction)) ≡ Ok z
-    → CalleeAgrees (then x (λ d. then (no_function (line_of tree) d.0.tags (Ok d.1)) (λ function. good (d.0, function)))) z
-other_callee tree answer x z h e = search (arith, came, wanted_from_rule, ok_same)
-
 callee_agrees : (tree : Tree) (c : Context) (answer : With Found) (x : types.Found) (z : Context × Callee) → ((d : Context × Found) → answer ≡ Ok d → Agreed x d) → callee tree c answer ≡ Ok z → CalleeAgrees (types.callee tree (asked c) x) z
-callee_agrees (Node f.Name (At line ▹ Leaf (w.Name name) ▹ none)) c answer x z h e = name_callee (called line c.tags (declaration c.scopes name)) c z e
-callee_agrees tree c answer x z h e = other_callee tree answer x z h e
+callee_agrees (Node f.Name (At line ▹ Leaf (w.Name name) ▹ none)) c answer x z h e = search (arith, ok_same, never) fits 100
+callee_agrees tree c answer x z h e = search (arith, came, wanted_from_rule, ok_same)
 
 -- formats: string literals stand for themselves
-
-string_text : (test : Bool) (line k : ℕ) (known : names.Context) (t : names.Context × PlainTyped) → then (unless test TypeTooLarge line (good (place (Array (Int i.Char) k)))) (λ e. good (known, e)) ≡ Ok t
-    → t ≡ (known, place (Array (Int i.Char) k))
-string_text test line k known t h = search (arith, never, ok_same) fits 100
 
 abbrev TextOf : Option (List ℕ) → names.Context → names.Context × PlainTyped → Type 0
 TextOf None known t = Unit {0}
@@ -237,7 +190,7 @@ TextOf (Some bytes) known t = (k : ℕ) × (t ≡ (known, place (Array (Int i.Ch
 
 text_of : (e : Tree) (known : names.Context) (t : names.Context × PlainTyped) → typed e known ≡ Ok t → TextOf (literal e) known t
 unfolding typed
-text_of (Node f.Str (At line ▹ Node f.Strings parts ▹ none)) known t h = (length (joined parts) + 1, string_text _ line (length (joined parts) + 1) known t h)
+text_of (Node f.Str (At line ▹ Node f.Strings parts ▹ none)) known t h = (length (joined parts) + 1, search (arith, never, ok_same) fits 100)
 text_of (Node f.Paren (At line ▹ e ▹ none)) known t h = text_of e known t h
 text_of e known t h = tt
 
@@ -255,9 +208,6 @@ SameTypes NoFunction xs ys = xs ≡ ys
 same_all : (function : Callee) (xs : List PlainTyped) → SameTypes function xs xs
 same_all function xs = search arith fits 100
 
-same_rest : (function : Callee) (x : PlainTyped) (xs ys : List PlainTyped) → xs ≡ ys → SameTypes function (x ∷ xs) (x ∷ ys)
-same_rest function x xs ys e = search arith fits 100
-
 call_same : (line : ℕ) (format : Option (List ℕ)) (function : Callee) (xs ys : List PlainTyped) → SameTypes function xs ys → call line format function xs ≡ call line format function ys
 call_same line format function xs ys h = search arith fits 100
 
@@ -271,7 +221,7 @@ record Argued (function : Callee) (x : types.Found) (c : Context) (d : Context �
   same : (xs ys : List PlainTyped) → xs ≡ ys → SameTypes function (d.1.typed ∷ xs) (type ∷ ys)
 
 argued_value : (function : Callee) (x : types.Found) (c : Context) (d : Context × Found) → Agreed x d → Argued function x c d
-argued_value function x c d h = record { type = d.1.typed; is = h; same = λ xs ys e. same_rest function d.1.typed xs ys e }
+argued_value function x c d h = record { type = d.1.typed; is = h; same = λ xs ys e. (search arith fits 100) }
 
 format_argued : (format : Option (List ℕ)) (e : Tree) (c : Context) (walked : With Found) (d : Context × Found) → format ≡ literal e → ((z : Context × Found) → walked ≡ Ok z → Agreed (wanted e (typed e (asked c))) z)
     → format_argument format c (typed e (asked c)) walked ≡ Ok d → Argued Prints (wanted e (typed e (asked c))) c d
@@ -300,7 +250,7 @@ record ArgumentsAgree (function : Callee) (x : Checked (names.Context × List Pl
 
 call_rule : (line : ℕ) (name : Option PlainNamed) (function : Callee) (wish : PlainType) (trees : Trees) (c : Context) (vs : List Argument) (z : Context × Found) → call_answer line name function wish trees c vs ≡ Ok z
     → Ruled (call line (first_literal trees) function (types_of vs)) (asked c) z
-call_rule line name function wish trees c vs z h = search (arith, ruled, quiet_call)
+call_rule line name function wish trees c vs z h = search (arith, ruled, quiet_result, quiet_of_built_in)
 
 calling_is : (line : ℕ) (trees : Trees) (x : Checked (names.Context × Callee)) (y : names.Context → Checked (names.Context × List PlainTyped)) (known later : names.Context) (function : Callee) (ts : List PlainTyped) (t : PlainTyped)
     → x ≡ Ok (known, function) → y known ≡ Ok (later, ts) → call line (first_literal trees) function ts ≡ Ok t → calling line trees x y ≡ Ok (later, t)
@@ -309,14 +259,14 @@ calling_is line trees x y known later function ts t e h k = search (arith, answe
 -- one operand and its rule, and two
 
 one_agrees : (x : types.Found) (rule : TagTable → PlainTyped → Checked PlainTyped) (d z : Context × Found) → Agreed x d → Ruled (rule (asked d.0).tags d.1.typed) (asked d.0) z → Agreed (one x rule) z
-one_agrees x rule d z e r = finish (one x rule) (asked d.0) z (one_is x rule (asked d.0) d.1.typed z.1.typed e r.typed) r.same
+one_agrees x rule d z e r = finish (one x rule) (asked d.0) z (ap (λ (y : types.Found). one y rule) e ∙ answered_is (asked d.0) (rule (asked d.0).tags d.1.typed) z.1.typed r.typed) r.same
 
 two_agrees : (x : types.Found) (y : names.Context → types.Found) (rule : TagTable → PlainTyped → PlainTyped → Checked PlainTyped) (d r z : Context × Found) → Agreed x d → Agreed (y (asked d.0)) r → Ruled (rule (asked r.0).tags d.1.typed r.1.typed) (asked r.0) z → Agreed (two x y rule) z
-two_agrees x y rule d r z e h k = finish (two x y rule) (asked r.0) z (two_is x y rule (asked d.0) (asked r.0) d.1.typed r.1.typed z.1.typed e h k.typed) k.same
+two_agrees x y rule d r z e h k = finish (two x y rule) (asked r.0) z (search (arith, answered_is)) k.same
 
 assigned_rule : (test : Bool) (line : ℕ) (before : Code) (g : Tree) (target : Found) (r z : Context × Found) → cond test (record_assigned line (line_of g) target r) (scalar_assigned line before g target r) ≡ Ok z
     → Ruled (assigned line (line_of g) r.0.tags target.typed r.1.typed) (asked r.0) z
-assigned_rule true line before g target r z h = record_rule line (line_of g) target r z h
+assigned_rule true line before g target r z h = ruled (assigned line (line_of g) r.0.tags target.typed r.1.typed) (λ t. (emit line (Copy (atom_in target) (atom_in r.1) (pos (size_or_zero r.0 t.type))) r.0, found_as t Empty Unknown)) (asked r.0) z (λ t. refl) (λ t. refl) h
 assigned_rule false line before g target r z h = scalar_rule line before g target r z h
 
 mutual

@@ -1,13 +1,9 @@
 -- Fixed addresses and pointers of statics are those of objects that are there.
-use Rattle.std.proofs.Common.{◌≡◌, ◌≤◌, ◌+◌, ◌*◌, ◌/◌, ◌%◌, ◌&&◌, ◌==◌, ℕ, ℤ, pos, negsuc, neg_ℤ, ◌+ℤ◌, Bool, true, false, cond, length, is_some, List, [], ◌∷◌, ◌++◌, slice_get, Option, Some, None, Ok, refl, sym, ap, ◌∙◌, subst, arith, not}
-use Rattle.std.proofs.lemmas.Bool.{and_parts, leb-true, eq-eqb}
-use Rattle.std.specs.Option.{option_or}
-use Rattle.std.specs.Ordering.{int_eq}
-use Rattle.std.specs.Prelude.{int_le, nat_le, unsigned_abs}
+use Rattle.core_soundness.proofs.Words.Std.{◌≡◌, ◌≤◌, ◌+◌, ◌&&◌, ℕ, ℤ, pos, negsuc, neg_ℤ, ◌+ℤ◌, Bool, true, false, cond, length, is_some, List, [], ◌∷◌, ◌++◌, slice_get, Option, Some, None, Ok, refl, sym, ap, ◌∙◌, subst, arith, not, and_parts, leb-true, eq-eqb, option_or, int_eq, int_le, nat_le, unsigned_abs}
 use Rattle.core_soundness.proofs.Words.Trees.{Tree, Trees, Leaf, At, Node, none, ◌▹◌, count, AssignOp, BinaryOp, UnaryOp}
-use Rattle.core_soundness.proofs.Words.Types.{PlainType, Void, Array, Layout, IntType, named, Callee, line_of, string, int_constant, char_constant, joined, typed, typename, PlainNamed, element, dot, arrow, choice, assigned, unconverted, Checked, refused, then, Table, named_in, found_from, found as declaration, binary, address, PlainTyped, Operand, Number, operand, read, is_null_constant, is_record, constant, StaticTooLarge, Assignment, Folded}
+use Rattle.core_soundness.proofs.Words.Types.{PlainType, Void, Array, Layout, named, Callee, line_of, string, int_constant, char_constant, joined, typed, typename, PlainNamed, element, dot, arrow, choice, assigned, unconverted, Checked, refused, then, Table, named_in, found_from, found as declaration, binary, address, PlainTyped, Operand, Number, operand, read, is_null_constant, is_record, constant, StaticTooLarge, Assignment, Folded}
 use Rattle.core_soundness.proofs.Words.Core.{block_size, Start, Atom}
-use Rattle.core_soundness.proofs.Words.Elaborating.{record_assigned, scalar_assigned, old_value, changed_answer, changed_by, one_found, stepped, Argument, Code, Context, Variable, With, file_variable, literal_object, asked, told, new_label, Found, Fixed, Unknown, Nowhere, Inside, atom_in, code_line, read_spot, read_fixed, valued_from, valued, convert, unused, name_answer, literal_answer, address_answer, unevaluated, changing, comma_answer, callee, callee_name, parameters, call_answer, found, arguments, cast_operand, Target, InRegister, InMemory, InStatic, static_integer, static_address, static_pointer, static_scalar, fill_scalar, scalar, fill_record, whole, fill_text, is_character, text, by_text, by_expression, parts_of, takes_braces, is_scalar_type, all_surplus, initialize, initialize_parts, static_size, moved_by, moved_times, fixed_sum_of, fixed_sum, combined, offset_of, member_address, opened, object_found, built_in_found, name_found, is_inner, with_static, with_literal, literal_found, indexed, dotted, target_of, pointed, before_number, apply, applied, tells_equal, is_pointer_ahead, ahead, left_operand, between, cast_to, constant_found, and_then, and_ended, or_else, or_ended, choose, type_ahead, choose_first, chosen}
+use Rattle.core_soundness.proofs.Words.Elaborating.{record_assigned, scalar_assigned, old_value, changed_by, one_found, stepped, Argument, Code, Context, Variable, With, file_variable, literal_object, asked, told, new_label, Found, Fixed, Unknown, Nowhere, Inside, atom_in, code_line, read_spot, read_fixed, valued_from, valued, convert, unused, name_answer, literal_answer, address_answer, unevaluated, changing, comma_answer, callee, callee_name, parameters, call_answer, found, arguments, cast_operand, Target, InRegister, InMemory, InStatic, static_address, static_scalar, fill_scalar, scalar, whole, fill_text, is_character, text, by_text, by_expression, parts_of, takes_braces, is_scalar_type, all_surplus, initialize, initialize_parts, static_size, moved_by, moved_times, fixed_sum_of, fixed_sum, combined, offset_of, member_address, opened, object_found, name_found, is_inner, with_static, with_literal, literal_found, indexed, dotted, target_of, pointed, before_number, apply, applied, tells_equal, is_pointer_ahead, ahead, left_operand, between, cast_to, constant_found, and_then, and_ended, or_else, or_ended, choose, type_ahead, choose_first, chosen}
 use Rattle.c_types.specs.Types as ct
 use Rattle.c_tree.specs.Forms as f
 use Rattle.c_tree.specs.Words as w
@@ -22,8 +18,9 @@ use Rattle.core_soundness.proofs.Scopes.{more_refl, get_last}
 use Rattle.core_soundness.proofs.Sorting.{passed}
 use Rattle.core_soundness.proofs.TagSorts.{typename_after}
 use Rattle.core_soundness.proofs.TypedWhole.{led_cond}
-use Rattle.core_soundness.proofs.Walks.{grows_read, grows_convert, grows_combined, grows_member, grows_left, found_grows, grown_unused}
+use Rattle.core_soundness.proofs.Walks.{grows_convert, found_grows, grown_unused, Made, grows_writes}
 use Rattle.core_soundness.proofs.Choices.{either_way}
+use Rattle.core_soundness.proofs.CodeWalk.{read_keeps, combined_keeps, member_keeps, left_keeps}
 
 -- fixed addresses are those of objects that are there, at offsets up to their ends (C99 6.6)
 
@@ -71,30 +68,12 @@ there_on c d s h name type i e = search arith
 
 -- moving
 
-even_test : (k : ℕ) → ((file_variable k) % 2 == 0) ≡ true
-even_test k = eq-eqb ((2 * k) % 2) 0 (omega arith)
-
-half_even : (k : ℕ) → file_variable k / 2 ≡ k
-half_even k = omega arith
-
-half_odd : (k : ℕ) → literal_object k / 2 ≡ k
-half_odd k = omega arith
-
-variable_room : (c : Context) (k : ℕ) (v : Variable) → slice_get c.variables k ≡ Some v → static_size c (file_variable k) ≡ v.layout.size
-variable_room c k v e = search (arith, even_test, half_even)
-
-odd_test : (k : ℕ) → (literal_object k % 2 == 0) ≡ false
-odd_test k = search arith fits 100
-
-literal_room : (c : Context) (k : ℕ) (bytes : List ℕ) → slice_get c.literals k ≡ Some bytes → static_size c (literal_object k) ≡ length bytes + 1
-literal_room c k bytes e = search (arith, odd_test, half_odd)
-
 -- another offset up to the end
 aims_at : (c : Context) (g i m : ℕ) → m ≤ static_size c g → Aims c.variables c.literals g i → Aims c.variables c.literals g m
 aims_at c g i m h (in_variable k v at there inside) =
-    let room : static_size c g ≡ v.layout.size = ap (static_size c) at ∙ variable_room c k v there in in_variable k v at there (omega (arith, h, room))
+    let room : static_size c g ≡ v.layout.size = ap (static_size c) at ∙ (search (arith, eq-eqb)) in in_variable k v at there (omega (arith, h, room))
 aims_at c g i m h (in_literal k bytes at there inside) =
-    let room : static_size c g ≡ length bytes + 1 = ap (static_size c) at ∙ literal_room c k bytes there in in_literal k bytes at there (omega (arith, h, room))
+    let room : static_size c g ≡ length bytes + 1 = ap (static_size c) at ∙ (search arith) in in_literal k bytes at there (omega (arith, h, room))
 
 moved_to : (c : Context) (g i : ℕ) (to : ℤ) → Aims c.variables c.literals g i → FixedAt c (cond (int_le (pos 0) to && int_le to (pos (static_size c g))) (Inside g to) Unknown)
 moved_to c g i (pos m) h = by (int_le (pos 0) (pos m) && int_le (pos m) (pos (static_size c g))) refl
@@ -140,16 +119,10 @@ object_in c typed name type i true q h e = tt
 object_in c typed name type i false q h e =
     let r = h name type i (found_outside c.scopes.file c.scopes.inner name (n.Object type i) q e) in (0, refl, in_variable i r.0 refl r.1 (omega arith))
 
-built_in_aimed : (c : Context) (typed : PlainTyped) (t : Bool) → FixedAt c (built_in_found typed t).fixed
-built_in_aimed c typed t = search arith fits 100
-
-name_in : (c : Context) (typed : PlainTyped) (name : List ℕ) (o : Option PlainNamed) → declaration c.scopes name ≡ o → There c → FixedAt c (name_found typed (is_inner c name) o).fixed
-name_in c typed name o e h = search (arith, object_in, built_in_aimed) fits 100
-
 pub name_aimed : (line : ℕ) (name : List ℕ) (c : Context) (z : Context × Found) → There c → name_answer line name (declaration c.scopes name) c ≡ Ok z → Aimed z
 name_aimed line name c z h q =
     let e = came (named line (declaration c.scopes name)) q in
-    subst Aimed (ok_same (c, name_found e.value (is_inner c name) (declaration c.scopes name)) z e.last) (name_in c e.value name (declaration c.scopes name) refl h)
+    subst Aimed (ok_same (c, name_found e.value (is_inner c name) (declaration c.scopes name)) z e.last) (search (arith, object_in) fits 100)
 
 literal_there : (line : ℕ) (bytes : List ℕ) (c : Context) (d : Context × ℕ) → with_literal line bytes c ≡ Ok d → Aims d.0.variables d.0.literals d.1 0
 literal_there line bytes c d h =
@@ -168,9 +141,6 @@ string_aimed line bytes c z h =
 
 -- values
 
-read_in : (vs : List Variable) (ls : List (List ℕ)) (type : PlainType) (fixed : Fixed) → FixedIn vs ls fixed → FixedIn vs ls (read_fixed type fixed)
-read_in vs ls type fixed h = search arith fits 100
-
 either_in : (vs : List Variable) (ls : List (List ℕ)) (t : Bool) (one other : Fixed) → FixedIn vs ls one → FixedIn vs ls other → FixedIn vs ls (cond t one other)
 either_in vs ls t one other h k = search arith fits 100
 
@@ -178,8 +148,8 @@ pub valued_from_aimed : (tree : Tree) (c : Context) (e : Found) (z : Context × 
 valued_from_aimed tree c e z h q =
     let t = came (read (line_of tree) c.tags e.typed) q in
     let d = (read_spot (code_line tree) e.typed.type e.spot c).0 in
-    let k = fixed_on c d e.fixed (grows_settled c d (grows_read (code_line tree) e.typed.type e.spot c)) h in
-    subst Aimed (ok_same _ z t.last) (either_in d.variables d.literals e.typed.is_place (read_fixed e.typed.type e.fixed) e.fixed (read_in d.variables d.literals e.typed.type e.fixed k) k)
+    let k = fixed_on c d e.fixed (grows_settled c d (read_keeps Made grows_writes (code_line tree) e.typed.type e.spot c)) h in
+    subst Aimed (ok_same _ z t.last) (either_in d.variables d.literals e.typed.is_place (read_fixed e.typed.type e.fixed) e.fixed (search arith fits 100) k)
 
 pub unused_aimed : (tree : Tree) (answer : With Found) (z : Context × Found) → ((d : Context × Found) → answer ≡ Ok d → Aimed d) → unused tree answer ≡ Ok z → Aimed z
 unused_aimed tree answer z h q = let d = came answer q in valued_from_aimed tree d.value.0 d.value.1 z (h d.value d.is) d.last
@@ -193,10 +163,10 @@ pub indexed_aimed : (line : ℕ) (c : Context) (x y : Found) (z : Context × Fou
 indexed_aimed line c x y z h k q =
     let t = came (element line c.tags x.typed y.typed) q in
     let d = (combined line b.Add c.code x y c).0 in
-    subst Aimed (ok_same _ z t.last) (fixed_on c d (fixed_sum c b.Add x y) (grows_settled c d (grows_combined line b.Add c x y c (grows_refl c))) (sum_in c b.Add x y h k))
+    subst Aimed (ok_same _ z t.last) (fixed_on c d (fixed_sum c b.Add x y) (grows_settled c d (combined_keeps Made grows_writes 0 line b.Add c x y c (grows_refl c))) (sum_in c b.Add x y h k))
 
 member_aimed : (line offset : ℕ) (c : Context) (e : Found) → FixedAt c e.fixed → FixedAt (member_address line offset (atom_in e) c).0 (moved_by c (pos offset) e.fixed)
-member_aimed line offset c e h = search (arith, fixed_on, pos, grows_settled, grows_member, moved_in)
+member_aimed line offset c e h = search (arith, fixed_on, pos, grows_settled, (member_keeps Made grows_writes), moved_in)
 
 pub dotted_aimed : (line : ℕ) (name : List ℕ) (c : Context) (e : Found) (z : Context × Found) → FixedAt c e.fixed → dotted line name c e ≡ Ok z → Aimed z
 dotted_aimed line name c e z h q =
@@ -223,7 +193,7 @@ settled_convert line b type e a c g =
 
 pub settled_combined : (line : ℕ) (op : BinaryOp) (b : Context) (x y : Found) (c : Context) → Grows b c → Settled c (combined line op b.code x y c).0
 settled_combined line op b x y c g =
-    let k = grows_settled (record c { code = b.code }) _ (grows_combined line op (record c { code = b.code }) x y c (recoded_grows b c g)) in record { variables = k.variables; literals = k.literals; objects = k.objects }
+    let k = grows_settled (record c { code = b.code }) _ (combined_keeps Made grows_writes 0 line op (record c { code = b.code }) x y c (recoded_grows b c g)) in record { variables = k.variables; literals = k.literals; objects = k.objects }
 
 -- operators
 
@@ -270,11 +240,8 @@ call_aimed line name function wanted trees c values z q = search (arith, came, o
 unevaluated_aimed : (c : Context) (answer : Checked (names.Context × PlainTyped)) (z : Context × Found) → unevaluated c answer ≡ Ok z → Aimed z
 unevaluated_aimed c answer z q = let t = came answer q in subst Aimed (ok_same _ z t.last) tt
 
-answer_aimed : (keeps : Bool) (typed : PlainTyped) (old : Atom) (v : Context × Atom) → Aimed (changed_answer keeps typed old v)
-answer_aimed keeps typed old v = search arith fits 100
-
 changed_aimed : (line : ℕ) (op : AssignOp) (keeps : Bool) (target : Found) (old : Atom) (d z : Context × Found) → changed_by line op keeps target old d ≡ Ok z → Aimed z
-changed_aimed line op keeps target old d z q = search (arith, came, ok_same, answer_aimed)
+changed_aimed line op keeps target old d z q = search (arith, came, ok_same)
 
 stepped_aimed : (line : ℕ) (op : AssignOp) (keeps : Bool) (d z : Context × Found) → stepped line op keeps d ≡ Ok z → Aimed z
 stepped_aimed line op keeps d z q = changed_aimed line op keeps d.1 (old_value line d).1 ((old_value line d).0, one_found) z q
@@ -353,7 +320,7 @@ found_aimed (Node (f.Binary op) (At line ▹ e ▹ e2 ▹ none)) wish c z h q =
     let begun = left_operand op c.code e2 d.value in
     let r = came (valued e2 (found e2 Void begun.0)) d.last in
     let one = left_aimed op c.code e2 d.value (valued_aimed e (found e Void c) d.value (λ x k. found_aimed e Void c x h k) d.is) in
-    let near = there_on c begun.0 (grows_settled c begun.0 (grows_left op c e2 d.value (value_grew e Void c d.value d.is))) h in
+    let near = there_on c begun.0 (grows_settled c begun.0 (left_keeps Made grows_writes 0 op c e2 d.value (value_grew e Void c d.value d.is))) h in
     let two = valued_aimed e2 (found e2 Void begun.0) r.value (λ x k. found_aimed e2 Void begun.0 x near k) r.is in
     let g = value_grew e2 Void begun.0 r.value r.is in
     between_aimed line op begun.0 r.value.0 begun.1 r.value.1 z (settled_combined line op begun.0 begun.1 r.value.1 r.value.0 g) (fixed_on begun.0 r.value.0 begun.1.fixed (grows_settled begun.0 r.value.0 g) one) two r.last
@@ -379,9 +346,6 @@ found_aimed (Node f.Comma (At line ▹ e ▹ e2 ▹ none)) wish c z h q =
     subst Aimed (ok_same (comma_answer r.value) z r.last) tt
 found_aimed tree wish c z h q = never (Aimed z) _ z q
 
-pub value_aimed : (e : Tree) (wish : PlainType) (c : Context) (z : Context × Found) → There c → valued e (found e wish c) ≡ Ok z → Aimed z
-value_aimed e wish c z h q = valued_aimed e (found e wish c) z (λ x k. found_aimed e wish c x h k) q
-
 -- the pointers that statics hold first are those of objects that are there (C99 6.7.8)
 
 -- each pointer is one to a static that is there
@@ -399,9 +363,6 @@ pointers_push vs ls (x ∷ ps) p h k = (h.0, pointers_push vs ls ps p h.1 k)
 
 abbrev pub StartIn : Context → Start → Type 0
 StartIn c start = PointersIn c.variables c.literals start.pointers
-
-pub start_on : (c d : Context) (start : Start) → Settled c d → StartIn c start → StartIn d start
-start_on c d start s h = pointers_stay c.variables d.variables c.literals d.literals start.pointers (same_variables c.variables d.variables s.variables) s.literals h
 
 -- what is initialized is a static, whose pointers are such
 abbrev pub TargetIn : Context → Target → Type 0
@@ -422,38 +383,26 @@ address_points line offset start c (Inside g at) h k =
     led_ok (StartIn c)
     (pointers_push c.variables c.literals start.pointers (offset, g, unsigned_abs at) h (subst (λ (x : ℤ). Aims c.variables c.literals g (unsigned_abs x)) (sym k.1) k.2))
 
-pointer_points : (line offset : ℕ) (start : Start) (c : Context) (e : Found) → StartIn c start → FixedAt c e.fixed → Led (StartIn c) (static_pointer line offset start e)
-pointer_points line offset start c e h k = led_cond (StartIn c) (is_null_constant e.typed) (Ok start) (static_address line offset start e.fixed) (led_ok (StartIn c) h) (address_points line offset start c e.fixed h k)
-
-integer_points : (line : ℕ) (ty : IntType) (offset : ℕ) (start : Start) (c : Context) (folded : Folded) → StartIn c start → Led (StartIn c) (static_integer line ty offset start folded)
-integer_points line ty offset start c folded h = search (arith, led_ok, led_refused) fits 100
-
 static_points : (line : ℕ) (type : PlainType) (offset : ℕ) (start : Start) (c : Context) (e : Found) → StartIn c start → FixedAt c e.fixed → Led (StartIn c) (static_scalar line type offset start e)
-static_points line (ct.Int ty) offset start c e h k = integer_points line ty offset start c e.typed.folded h
-static_points line type offset start c e h k = pointer_points line offset start c e h k
-
-pub opened_settled : (e : Tree) (c : Context) → Settled c (opened e c)
-opened_settled e c = search (arith, either_way)
+static_points line (ct.Int ty) offset start c e h k = search (arith, led_ok, led_refused) fits 100
+static_points line type offset start c e h k = led_cond (StartIn c) (is_null_constant e.typed) (Ok start) (static_address line offset start e.fixed) (led_ok (StartIn c) h) (address_points line offset start c e.fixed h k)
 
 fill_points : (e : Tree) (line : ℕ) (type : PlainType) (offset : ℕ) (before : Code) (target : Target) (c : Context) (d : Context × Found) → Settled c d.0 → Aimed d → TargetIn c target → Led (Points c) (fill_scalar e line type offset before d target)
 fill_points e line type offset before (InStatic start) c d s k h =
     led_after (Points c) (static_scalar line type offset start d.1)
-    (λ filled q. led_ok (Points c) (s, static_points line type offset start d.0 d.1 (start_on c d.0 start s h) k filled q))
+    (λ filled q. led_ok (Points c) (s, static_points line type offset start d.0 d.1 (pointers_stay c.variables d.0.variables c.literals d.0.literals start.pointers (same_variables c.variables d.0.variables s.variables) s.literals h) k filled q))
 fill_points e line type offset before other c d s k h = absurd h
 
 scalar_points : (e : Tree) (line : ℕ) (type : PlainType) (offset : ℕ) (target : Target) (c : Context) → There c → TargetIn c target → Led (Points c) (scalar e line type offset target c)
 scalar_points e line type offset target c n h =
     let begun = opened e c in
-    let o = opened_settled e c in
+    let o : Settled c (opened e c) = search (arith, either_way) in
     led_after (Points c) (valued e (found e type begun))
     (λ d q. led_barred (Points c) (unconverted type d.1.typed) line
-    (fill_points e line type offset begun.code target c d (settled_trans c begun d.0 o (grows_settled begun d.0 (value_grew e type begun d q))) (value_aimed e type begun d (there_on c begun o n) q) h))
-
-record_points : (e : Tree) (line : ℕ) (type : PlainType) (offset : ℕ) (c : Context) (d : Context × Found) (target : Target) → TargetIn c target → Led (Points c) (fill_record e line type offset d target)
-record_points e line type offset c d target h = search (arith, led_refused) fits 100
+    (fill_points e line type offset begun.code target c d (settled_trans c begun d.0 o (grows_settled begun d.0 (value_grew e type begun d q))) (valued_aimed e (found e type begun) d (λ x k. found_aimed e type begun x (there_on c begun o n) k) q) h))
 
 whole_points : (e : Tree) (line : ℕ) (type : PlainType) (offset : ℕ) (target : Target) (c : Context) → TargetIn c target → Led (Points c) (whole e line type offset target c)
-whole_points e line type offset target c h = search (arith, led_after, led_unless, not, record_points)
+whole_points e line type offset target c h = search (arith, led_after, led_unless, not, led_refused)
 
 text_points : (e : Tree) (line : ℕ) (bytes : List ℕ) (size offset : ℕ) (target : Target) (c : Context) → TargetIn c target → Led (Points c) (fill_text e line bytes size offset target c)
 text_points e line bytes size offset target c h = search (arith, led_ok, settled_refl, led_refused) fits 100

@@ -1,14 +1,10 @@
 -- The sorts of what assignments write and calls take, and what is asked of names.
-use Rattle.std.proofs.Common.{◌≡◌, ◌≤◌, ◌&&◌, ℕ, pos, Bool, true, false, not, cond, None, Ok, refl, sym, ap, ◌∙◌, subst, suc, nat_eq, ◌==◌, ◌++◌, drop, length, List, [], ◌∷◌, slice_get, unwrap_or, Option, Some, arith, eqb-true, ◌⊎◌, inl, inr, option_map, ⊎_elim}
-use Rattle.std.proofs.lemmas.List.Concat.{flat_map-cons}
-use Rattle.std.proofs.lemmas.Bool.{and_parts}
-use Rattle.std.specs.List.{flat_map}
-use Rattle.std.specs.Option.{option_or}
+use Rattle.core_soundness.proofs.Words.Std.{◌≡◌, ◌≤◌, ◌&&◌, ℕ, pos, Bool, true, false, not, cond, None, Ok, refl, sym, ap, ◌∙◌, subst, suc, nat_eq, ◌==◌, ◌++◌, drop, length, List, [], ◌∷◌, slice_get, unwrap_or, Option, Some, arith, eqb-true, ◌⊎◌, inl, inr, option_map, ⊎_elim, flat_map-cons, and_parts, flat_map, option_or}
 use Rattle.core_soundness.proofs.Words.Trees.{Form, Tree, Trees, Leaf, At, Node, none, ◌▹◌, AssignOp}
-use Rattle.core_soundness.proofs.Words.Types.{TagTable, PlainType, PlainTypes, Void, built_ins, Callee, Takes, Prints, NoFunction, built_in_callee, function_callee, no_function, built_in_called, callee_at, called, call, prints, is_format, suit, suits_type, line_of, first_literal, PlainNamed, Tag, unconverted, changed, assigned, all_convert, length_of, Checked, then, unless, named_in, ScopeList, Table, found_from, found as declaration, PlainTyped, Neither, operand, value, is_scalar, is_record, same, has_no_size, read, has_no_value, wanted_value, BuiltIn, NotLvalue, Incomplete, Operands, Assignment, ArgumentCount, Format}
+use Rattle.core_soundness.proofs.Words.Types.{TagTable, PlainType, PlainTypes, Void, built_ins, Callee, Takes, Prints, NoFunction, built_in_callee, function_callee, no_function, built_in_called, callee_at, called, call, prints, is_format, suit, suits_type, line_of, first_literal, PlainNamed, Tag, unconverted, assigned, all_convert, length_of, Checked, then, unless, named_in, ScopeList, Table, found_from, found as declaration, PlainTyped, Neither, operand, value, is_scalar, is_record, same, has_no_size, read, has_no_value, wanted_value, BuiltIn, NotLvalue, Incomplete, Operands, Assignment, ArgumentCount, Format}
 use Rattle.core_soundness.proofs.Words.Core.{width, pieces_of, Piece, Pointer, Sort, Integer, lib_takes, lib_gives, piece_takes, Atom, StmKind, Copy, Call, Malloc, Calloc, Realloc, Free, Lib, Printf, Enter, Leave}
-use Rattle.core_soundness.proofs.Words.Elaborating.{plain_name, record_assigned, set_to, scalar_assigned, old_value, change_place, changed_answer, changed_by, one_found, stepped, Argument, types_of, atoms_of, atom_at, rest_types, argument_from, lib_name, result_by, pointer_result, with_format, printing, call_built_in, call_of_built_in, call_named, element_layout, Context, emit, With, Found, Empty, Unknown, found_as, atom_in, code_line, convert, write, valued_from, size_or_zero, Spot, Local, valued, unused, call_answer, parameters as params_of, name_answer, changed_to, operator_of, name_found, object_found, built_in_found}
-use Rattle.core_soundness.proofs.Words.Facts.{is_register, NoRegister, TakesAddress, Spoken, AllSpoken, World, world, Holds, Held, StandsAs, Stands, HoldAll, Receives, IsPrinted, Fits, type_sort, param_sorts, result_sort, local_sort, InnerFits, FileFits, NamesFit, TableFits, TablesFit}
+use Rattle.core_soundness.proofs.Words.Elaborating.{plain_name, record_assigned, set_to, scalar_assigned, old_value, change_place, changed_answer, changed_by, one_found, stepped, Argument, types_of, atoms_of, atom_at, rest_types, argument_from, lib_name, result_by, pointer_result, with_format, printing, call_built_in, call_of_built_in, call_named, element_layout, Context, emit, With, Found, Empty, Unknown, found_as, atom_in, code_line, convert, write, valued_from, size_or_zero, Spot, Local, valued, unused, call_answer, parameters as params_of, changed_to, operator_of}
+use Rattle.core_soundness.proofs.Words.Facts.{is_register, NoRegister, TakesAddress, Spoken, AllSpoken, World, world, Holds, Held, StandsAs, Stands, HoldAll, Receives, IsPrinted, Fits, param_sorts, result_sort, local_sort, InnerFits, FileFits, NamesFit, TableFits, TablesFit}
 use Rattle.c_types.specs.Types as types
 use Rattle.c_types.specs.declared.types.IntType.TheVariants as i
 use Rattle.c_print.specs.declared.piece.Piece.TheVariants as p
@@ -36,43 +32,30 @@ stands_flag w e k q h = subst (λ (x : Bool). StandsAs w x e.typed.type e.spot) 
 
 -- structs and unions
 
-record_operand : (type : PlainType) → is_record type ≡ true → (operand type ≡ Neither) × (is_scalar type ≡ false)
-record_operand type e = search arith fits 100
-
 pub same_record : (s t : PlainType) → is_record s ≡ true → same s t ≡ true → is_scalar t ≡ false
 unfolding same
 same_record s t r e = search arith fits 100
 
-cond_true : {A : Type 0} (k : Bool) (x y : Checked A) (v : A) → k ≡ true → cond k x y ≡ Ok v → x ≡ Ok v
-cond_true k x y v e h = search arith fits 100
-
 cond_false : {A : Type 0} (k : Bool) (x y : Checked A) (v : A) → k ≡ false → cond k x y ≡ Ok v → y ≡ Ok v
 cond_false k x y v e h = search arith fits 100
 
-record_again : (s t : PlainType) → is_record s ≡ true → same s t ≡ true → is_record t ≡ true
-unfolding same
-record_again s t r e = search arith fits 100
-
--- a struct or a union that is no assignment is a place
-record_place : (type : PlainType) (e : PlainTyped) → is_record type ≡ true → same type e.type ≡ true → has_no_value e ≡ false → e.is_place ≡ true
-record_place type e r s h = grind (arith, record_again, true, not, false)
-
 pub record_lands : (line right : ℕ) (target : Found) (d z : Context × Found) → 1 ≤ line → is_record target.typed.type ≡ true → Stands (world d.0) target → Stands (world d.0) d.1 → record_assigned line right target d ≡ Ok z → Lands d.0 z
+unfolding same
 record_lands line right target d z l r h k q =
     let t = came (assigned line right d.0.tags target.typed d.1.typed) q in
     let r3 : Checked PlainTyped = good (value target.typed.type) in
     let r2 : Checked PlainTyped = unless (not (same target.typed.type d.1.typed.type)) Assignment line r3 in
     let r1 : Checked PlainTyped = unless (has_no_size d.0.tags target.typed.type) Incomplete line r2 in
     let r0 : Checked PlainTyped = unless (not target.typed.is_place) NotLvalue line r1 in
-    let all : unless (has_no_value d.1.typed) Operands line r0 ≡ Ok t.value = cond_true (is_record target.typed.type) _ _ t.value r t.is in
+    let all : unless (has_no_value d.1.typed) Operands line r0 ≡ Ok t.value = search arith fits 100 in
     let a = behind_test (has_no_value d.1.typed) Operands line r0 t.value all in
     let flag : target.typed.is_place ≡ true = not_false target.typed.is_place (kept_test (not target.typed.is_place) NotLvalue line r1 t.value a) in
     let a1 = behind_test (not target.typed.is_place) NotLvalue line r1 t.value a in
     let a2 = behind_test (has_no_size d.0.tags target.typed.type) Incomplete line r2 t.value a1 in
     let alike : same target.typed.type d.1.typed.type ≡ true = not_false (same target.typed.type d.1.typed.type) (kept_test (not (same target.typed.type d.1.typed.type)) Assignment line r3 t.value a2) in
-    let flag2 : d.1.typed.is_place ≡ true = record_place target.typed.type d.1.typed r alike (kept_test (has_no_value d.1.typed) Operands line r0 t.value all) in
+    let flag2 : d.1.typed.is_place ≡ true = grind (arith, true, not, false) in
     let made : value target.typed.type ≡ t.value = passed (not (same target.typed.type d.1.typed.type)) Assignment line (value target.typed.type) t.value a2 in
-    let o = record_operand target.typed.type r in
+    let o : (operand target.typed.type ≡ Neither) × (is_scalar target.typed.type ≡ false) = search arith fits 100 in
     let one : Holds (world d.0) Pointer (atom_in target) = in_memory (world d.0) target.typed.type target.spot target refl o.1 (stands_flag (world d.0) target true flag h) in
     let two : Holds (world d.0) Pointer (atom_in d.1) = in_memory (world d.0) d.1.typed.type d.1.spot d.1 refl (same_record target.typed.type d.1.typed.type r alike) (stands_flag (world d.0) d.1 true flag2 k) in
     subst (Lands d.0) (ap (λ (x : PlainTyped). (emit line (Copy (atom_in target) (atom_in d.1) (pos (size_or_zero d.0 x.type))) d.0, found_as x Empty Unknown)) made ∙ ok_same _ z t.last)
@@ -118,13 +101,10 @@ pub record Changed (target typed : PlainTyped) : Type 0 where
   pub scalar : is_scalar target.type ≡ true
   pub made : value target.type ≡ typed
 
-pub changed_typed : (line : ℕ) (op : AssignOp) (tags : TagTable) (target e typed : PlainTyped) → changed line op tags target e ≡ Ok typed → Changed target typed
-changed_typed line op tags target e typed h = grind (arith, behind_test, flag_first, kept_test, true, number_scalar, ok_same, pointer_scalar, moved_is)
-
 -- the rule of what is changed
 pub changing_rule : (line : ℕ) (op : AssignOp) (keeps_old : Bool) (target : Found) (old : Atom) (d z : Context × Found) → changed_by line op keeps_old target old d ≡ Ok z
     → (typed : PlainTyped) × Changed target.typed typed × (good (changed_answer keeps_old typed old (change_place line (operator_of op) typed target old d.1.typed (atom_in d.1) d.0)) ≡ Ok z)
-changing_rule line op keeps_old target old d z h = search (arith, came, changed_typed)
+changing_rule line op keeps_old target old d z h = grind (arith, came, behind_test, flag_first, kept_test, true, number_scalar, ok_same, pointer_scalar, moved_is)
 
 pub changed_comes : (line : ℕ) (op : AssignOp) (keeps_old : Bool) (target : Found) (old : Atom) (d z : Context × Found) → 1 ≤ line → Stands (world d.0) target → Held (world d.0) target.typed.type old → Held (world d.0) d.1.typed.type (atom_in d.1) → changed_by line op keeps_old target old d ≡ Ok z → Comes d.0 z
 changed_comes line op keeps_old target old d z l h ho k q =
@@ -164,12 +144,9 @@ abbrev pub ArgumentsHeld : World → PlainTypes → List Argument → Type 0
 ArgumentsHeld w params [] = Unit {0}
 ArgumentsHeld w params (v ∷ vs) = ArgumentHeld w params v × ArgumentsHeld w (rest_types params) vs
 
-argument_grew : (u v : World) (params : PlainTypes) (x : Argument) → Grew u v → ArgumentHeld u params x → ArgumentHeld v params x
-argument_grew u v params x g h = search (arith, held_grew) fits 100
-
 pub arguments_grew : (u v : World) (params : PlainTypes) (xs : List Argument) → Grew u v → ArgumentsHeld u params xs → ArgumentsHeld v params xs
 arguments_grew u v params [] g h = tt
-arguments_grew u v params (x ∷ xs) g h = (argument_grew u v params x g h.0, arguments_grew u v (rest_types params) xs g h.1)
+arguments_grew u v params (x ∷ xs) g h = (search (arith, held_grew) fits 100, arguments_grew u v (rest_types params) xs g h.1)
 
 -- the first argument of `printf` is a format, and no operand
 abbrev pub AllHeld : World → Callee → PlainTypes → List Argument → Type 0
@@ -187,10 +164,6 @@ pub argument_goes : (line : ℕ) (params : PlainTypes) (b c : Context) (e : Foun
 argument_goes line types.none b c e l g h = record { goes = g; held = h }
 argument_goes line (types.first type rest) b c e l g h = let k = converted line b type e.typed (atom_in e) c l g h in record { goes = k.goes; held = k.held }
 
--- an argument that converts has the sort of its parameter
-param_held : (w : World) (type : PlainType) (e : PlainTyped) (a : Atom) → unconverted type e ≡ None → Held w type a → Holds w (type_sort type) a
-param_held w type e a u h = search arith fits 100
-
 pub params_held : (w : World) (line : ℕ) (params : PlainTypes) (vs : List Argument) (r : Checked PlainTyped) (e : PlainTyped) → length (types_of vs) ≡ length_of params → all_convert line params (types_of vs) r ≡ Ok e → ArgumentsHeld w params vs → HoldAll w (param_sorts params) (atoms_of vs) × (r ≡ Ok e)
 params_held w line types.none [] r e same h k = (tt, h)
 params_held w line types.none (v ∷ vs) r e same h k = absurd (some_none (length (types_of vs)) same)
@@ -204,7 +177,7 @@ params_held w line (types.first type rest) [] r e same h k = absurd (none_some (
 params_held w line (types.first type rest) (v ∷ vs) r e same h k =
     let u = unbarred (unconverted type v.0) line (all_convert line rest (types_of vs) r) e h in
     let more = params_held w line rest vs r e (omega (arith, same)) u.1 k.1 in
-    ((param_held w type v.0 v.1 u.0 (k.0 (converting_of type v.0 u.0)), more.0), more.1)
+    ((search arith fits 100, more.0), more.1)
 
 -- results
 
@@ -256,17 +229,11 @@ lib_answered : (line : ℕ) (name : BuiltIn) (answer : PlainType) (vs : List Arg
 lib_answered line name answer vs c l e h =
     result_stands line answer (λ r. Lib (lib_name name) r (atoms_of vs)) c l (λ v r g k. (subst (λ (s : Option Sort). Receives v s r) e k, all_grew (world c) v (lib_takes (lib_name name)) (atoms_of vs) g h))
 
-takes_answer : (x y : PlainType) (s t : PlainTypes) → Takes x s ≡ Takes y t → x ≡ y
-takes_answer x y s t e = cc
-
-takes_params : (x y : PlainType) (s t : PlainTypes) → Takes x s ≡ Takes y t → s ≡ t
-takes_params x y s t e = cc
-
 held_as : (v : World) (vs : List Argument) (x answer : PlainType) (s params : PlainTypes) → Takes x s ≡ Takes answer params → HoldAll v (param_sorts params) (atoms_of vs) → HoldAll v (param_sorts s) (atoms_of vs)
-held_as v vs x answer s params e h = subst (λ (t : PlainTypes). HoldAll v (param_sorts t) (atoms_of vs)) (sym (takes_params x answer s params e)) h
+held_as v vs x answer s params e h = subst (λ (t : PlainTypes). HoldAll v (param_sorts t) (atoms_of vs)) (sym (cc)) h
 
 answered_by : (line : ℕ) (name : BuiltIn) (x answer wanted : PlainType) (s params : PlainTypes) (format : Option (List ℕ)) (vs : List Argument) (c : Context) → Takes x s ≡ Takes answer params → Answered c (value x) (call_built_in line name x wanted format vs c) → Answered c (value answer) (call_built_in line name answer wanted format vs c)
-answered_by line name x answer wanted s params format vs c e k = subst (λ (t : PlainType). Answered c (value t) (call_built_in line name t wanted format vs c)) (takes_answer x answer s params e) k
+answered_by line name x answer wanted s params format vs c e k = subst (λ (t : PlainType). Answered c (value t) (call_built_in line name t wanted format vs c)) (cc) k
 
 pub built_in_answered : (name : BuiltIn) (line : ℕ) (answer wanted : PlainType) (params : PlainTypes) (format : Option (List ℕ)) (vs : List Argument) (c : Context) → 1 ≤ line → built_in_callee name ≡ Takes answer params → HoldAll (world c) (param_sorts params) (atoms_of vs) → Answered c (value answer) (call_built_in line name answer wanted format vs c)
 unfolding call_built_in lib_name
@@ -310,9 +277,6 @@ built_in_answered other line answer wanted params format vs c l e h = cc
 
 -- `printf`
 
-suited : (w : World) (conv bytes : ℕ) (type : PlainType) (a : Atom) → suits_type conv bytes type ≡ true → Held w type a → Holds w (cond (conv == 115) Pointer Integer) a
-suited w conv bytes type a e h = search (arith, nat_eq) fits 100
-
 all_suited : (w : World) (pieces : List Piece) (vs : List Argument) → suit pieces (types_of vs) ≡ true → ArgumentsHeld w types.none vs → HoldAll w (flat_map piece_takes pieces) (atoms_of vs)
 all_suited w [] [] e h = tt
 all_suited w [] (v ∷ vs) e h = cc
@@ -320,7 +284,7 @@ all_suited w (p.Plain bytes ∷ pieces) vs e h = subst (λ (s : List Sort). Hold
 all_suited w (p.Item flush zeros width' conv kind ∷ pieces) [] e h = cc
 all_suited w (p.Item flush zeros width' conv kind ∷ pieces) (v ∷ vs) e h =
     subst (λ (s : List Sort). HoldAll w s (atoms_of (v ∷ vs))) (sym (flat_map-cons piece_takes (p.Item flush zeros width' conv kind) pieces))
-    (suited w conv (width kind) v.0.type v.1 (and_parts _ _ e).0 h.0, all_suited w pieces vs (and_parts (suits_type conv (width kind) v.0.type) _ e).1 h.1)
+    (search (arith, nat_eq) fits 100, all_suited w pieces vs (and_parts (suits_type conv (width kind) v.0.type) _ e).1 h.1)
 
 more_formats : (c : Context) (bytes : List ℕ) → Goes c (with_format bytes c)
 more_formats c bytes = search (arith, get_left, more_refl, pieces_grew)
@@ -428,9 +392,6 @@ sort_kept a b k sort g h = grind (arith, option_map)
 pub inner_kept : (a b : World) (v : PlainNamed) → Grew a b → InnerFits a v → InnerFits b v
 inner_kept a b v g h = search (arith, sort_kept) fits 100
 
-pub file_kept : (a b : World) (v : PlainNamed) → Grew a b → FileFits a v → FileFits b v
-file_kept a b v g h = search arith fits 100
-
 table_more : (P Q : PlainNamed → Type 0) (one other : Table) → ((v : PlainNamed) → P v → Q v) → ((type : PlainType) → Q (Tag type)) → MoreTags one other → TableFits P one → TableFits Q other
 table_more P Q one other up tags m h name v e = search (arith, some_same)
 
@@ -440,7 +401,7 @@ tables_more P Q one other up tags m h = search arith fits 100
 
 pub names_more : (a b : World) (s t : ScopeList) → Grew a b → More s t → NamesFit a s → NamesFit b t
 names_more a b s t g m h = record {
-  file = table_more (FileFits a) (FileFits b) s.file t.file (λ v x. file_kept a b v g x) (λ type. tt) m.file h.file;
+  file = table_more (FileFits a) (FileFits b) s.file t.file (λ v x. search arith fits 100) (λ type. tt) m.file h.file;
   inner = tables_more (InnerFits a) (InnerFits b) s.inner t.inner (λ v x. inner_kept a b v g x) (λ type. tt) m.inner h.inner;
 }
 
@@ -493,9 +454,6 @@ NamesRegister s (Some name) = is_register (declaration s name) ≡ true
 abbrev pub LocalNamed : Context → Tree → Spot → Type 0
 LocalNamed c tree spot = (r : ℕ) → spot ≡ Local r → NamesRegister c.scopes (plain_name tree)
 
-pub apart_named : (c : Context) (tree : Tree) (spot : Spot) → Apart spot → LocalNamed c tree spot
-apart_named c tree spot a k e = search arith fits 100
-
 -- what is known of an expression that was elaborated
 pub record Rests (c : Context) (tree : Tree) (z : Context × Found) : Type 0 where
   pub sits : Sits c z
@@ -503,21 +461,9 @@ pub record Rests (c : Context) (tree : Tree) (z : Context × Found) : Type 0 whe
   pub line : 1 ≤ code_line tree
 
 pub rests : (c : Context) (tree : Tree) (z : Context × Found) (line : ℕ) → code_line tree ≡ line → 1 ≤ line → Lands c z → Rests c tree z
-rests c tree z line e l h = record { sits = lands_sits c z h; local = apart_named c tree z.1.spot h.apart; line = subst (λ (k : ℕ). 1 ≤ k) (sym e) l }
+rests c tree z line e l h = record { sits = lands_sits c z h; local = (λ k e. search arith fits 100); line = subst (λ (k : ℕ). 1 ≤ k) (sym e) l }
 
 -- the name of a local
-
-plain_spot : (k : Bool) (typed : PlainTyped) (index r : ℕ) → (object_found typed k index).spot ≡ Local r → ⊥
-plain_spot k typed index r e = search arith fits 100
-
-built_in_spot : (k : Bool) (typed : PlainTyped) (r : ℕ) → (built_in_found typed k).spot ≡ Local r → ⊥
-built_in_spot k typed r e = search arith fits 100
-
-spot_named : (o : Option PlainNamed) (typed : PlainTyped) (inner : Bool) (r : ℕ) → (name_found typed inner o).spot ≡ Local r → is_register o ≡ true
-spot_named o typed inner r e = search (arith, plain_spot, built_in_spot) fits 100
-
-pub name_local : (line : ℕ) (name : List ℕ) (o : Option PlainNamed) (c : Context) (z : Context × Found) (r : ℕ) → name_answer line name o c ≡ Ok z → z.1.spot ≡ Local r → is_register o ≡ true
-name_local line name o c z r h e = search (arith, came, ok_same, spot_named)
 
 -- operands
 

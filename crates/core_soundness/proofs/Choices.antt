@@ -1,5 +1,5 @@
 -- What holds of a choice where it holds of both of its sides, and what options and lists are that are equal or long enough.
-use Rattle.std.proofs.Common.{◌≡◌, ◌<◌, ℕ, zero, suc, Bool, true, false, not, ◌&&◌, cond, List, [], ◌∷◌, length, Option, Some, None, is_some, slice_get, refl, arith}
+use Rattle.core_soundness.proofs.Words.Std.{◌≡◌, ◌<◌, ℕ, zero, suc, Bool, true, false, not, ◌&&◌, cond, List, [], ◌∷◌, length, Option, Some, None, is_some, slice_get, refl, arith}
 
 pub either_way : {A : Type 0} (P : A → Type 0) (test : Bool) {x y : A} → P x → P y → P (cond test x y)
 either_way P test g h = search arith fits 100

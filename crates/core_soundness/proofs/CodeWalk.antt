@@ -1,9 +1,9 @@
 -- One walk over what writes the code of expressions, and what it leaves as it was.
-use Rattle.std.proofs.Common.{◌≡◌, ◌≤◌, ◌+◌, refl, sym, subst, ℕ, pos, Bool, true, false, cond, List, [], ◌∷◌, ◌++◌, length, drop, Option, Some, None, unwrap_or, arith, Ok}
+use Rattle.core_soundness.proofs.Words.Std.{◌≡◌, ◌≤◌, ◌+◌, refl, sym, subst, ℕ, pos, Bool, true, false, cond, List, [], ◌∷◌, ◌++◌, length, drop, Option, Some, None, unwrap_or, arith, Ok}
 use Rattle.core_soundness.proofs.Words.Trees.{Tree, AssignOp, BinaryOp, UnaryOp}
 use Rattle.core_soundness.proofs.Words.Types.{PlainType, PlainTypes, Int, Pointer, kind_of, IntType, line_of, promoted, common_type, PlainNamed, choice, element, assigned, result_type, PlainTyped, Operand, Number, PointerTo, operand, BuiltIn}
 use Rattle.core_soundness.proofs.Words.Core.{IsShort, Atom, StmKind, Copy, Jump, Free, Enter, Leave, Set, Conv, Zero, Load, Loadp, Test, Un, Bin, Cmp, Add, Sub, Off, Diff, Pcmp, Call, Malloc, Calloc, Realloc, Lib, Printf}
-use Rattle.core_soundness.proofs.Words.Elaborating.{record_assigned, set_to, scalar_assigned, old_value, change_place, changed_answer, changed_by, one_found, stepped, Argument, argument_from, atom_at, atoms_of, element_layout, built_in_at, lib_name, result_by, printing, with_format, call_built_in, call_of_built_in, call_named, Context, With, emit, here, pointer_by, new_label, with_labels, integer_by, Code, asked, Found, Spot, Local, Memory, read_spot, code_line, valued_from, valued, atom_in, holds_all, convert_integer, convert_to, convert, tested, tested_value, write, size_or_zero, unused, working, Working, Calculates, Shifts, Compares, Branches, convert_both, work, on_integers, before_integer, move_pointer, between_pointers, pointer_beside, beside_integer, combine, combined, change, changed_to, member_address, set_again, compare_again, indexed, dotted, pointed, before_number, apply, applied, left_operand, between, cast_to, and_then, and_ends, and_ended, or_else, or_ends, or_ended, chosen_by, choose_first, choose_last, chosen, with_literal}
+use Rattle.core_soundness.proofs.Words.Elaborating.{record_assigned, set_to, scalar_assigned, old_value, change_place, changed_by, one_found, stepped, Argument, argument_from, atom_at, atoms_of, element_layout, built_in_at, lib_name, result_by, with_format, call_built_in, call_of_built_in, call_named, Context, With, emit, here, pointer_by, new_label, with_labels, integer_by, Code, asked, Found, Spot, Local, Memory, read_spot, code_line, valued_from, valued, atom_in, holds_all, convert_integer, convert_to, convert, tested, tested_value, write, size_or_zero, unused, working, Working, Calculates, Shifts, Compares, Branches, convert_both, work, on_integers, before_integer, move_pointer, between_pointers, pointer_beside, beside_integer, combine, combined, change, changed_to, member_address, set_again, compare_again, indexed, dotted, pointed, apply, applied, left_operand, between, cast_to, and_then, and_ends, and_ended, or_else, or_ends, or_ended, chosen_by, choose_first, choose_last, chosen, with_literal}
 use Rattle.core_tree.specs.declared.statements.Atom.TheVariants as atom
 use Rattle.core_tree.specs.declared.statements.CmpOp.TheVariants as cmp
 use Rattle.core_tree.specs.declared.statements.UnOp.TheVariants as un
@@ -36,11 +36,6 @@ pub record Writes (R : ℕ → Context → Context → Type 0) : Type 0 where
   pub formats : (bytes : List ℕ) (c : Context) → IsShort bytes → R 1 c (with_format bytes c)
   pub calls : (calls : List (ℕ × ℕ)) (c : Context) → R 0 c (record c { calls = calls })
   pub frees : (line : ℕ) (a : Atom) (c : Context) → R 0 c (emit line Leave (emit line (Free a) (emit line Enter c)))
-
--- a test makes no label
-tested_labels : (line : ℕ) (type : PlainType) (a : Atom) (c : Context) → (tested line type a c).0.code.labels ≡ c.code.labels
-unfolding tested
-tested_labels line type a c = search arith fits 100
 
 -- a format that is printed is short
 abbrev pub PrintsShort : Option BuiltIn → Option (List ℕ) → Type 0
@@ -197,15 +192,12 @@ module _ (R : ℕ → Context → Context → Type 0) (steps : Writes R) where
 
   -- operators
 
-  before_number_keeps : (line : ℕ) (op : UnaryOp) (typed : PlainTyped) (o : Operand) (c : Context) (e : Found) → R 2 c (before_number line op typed o c e).0
-  before_number_keeps line op typed o c e = search (arith, before_keeps) fits 100
-
   apply_keeps : (line : ℕ) (op : UnaryOp) (tree : Tree) (typed : PlainTyped) (c : Context) (e : Found) → R 2 c (apply line op tree typed c e).0
   apply_keeps line u.Deref tree typed c e = steps.stop 2 c
   apply_keeps line u.Not tree typed c e =
       let d = tested_value tree (c, e) in
       both 1 1 2 (omega arith) (tested_value_keeps tree (c, e)) (steps.integer line (λ r. Cmp cmp.Eq r d.1 (atom.Int (pos 0))) d.0 (λ r. tt))
-  apply_keeps line op tree typed c e = before_number_keeps line op typed (operand e.typed.type) c e
+  apply_keeps line op tree typed c e = search (arith, before_keeps) fits 100
 
   pub applied_keeps : (line : ℕ) (op : UnaryOp) (tree : Tree) (c : Context) (e : Found) → Reached (R 2 c) (applied line op tree c e)
   applied_keeps line op tree c e = search (arith, reached_after, reached_ok, apply_keeps) fits 100
@@ -226,7 +218,8 @@ module _ (R : ℕ → Context → Context → Type 0) (steps : Writes R) where
   fork_at m n k t r s line at label a h e g = search arith
 
   same_labels : (tree : Tree) (d : Context × Found) → new_label d.0 ≡ (tested_value tree d).0.code.labels
-  same_labels tree d = sym (tested_labels (code_line tree) d.1.typed.type (atom_in d.1) d.0)
+  unfolding tested
+  same_labels tree d = sym (search arith fits 100)
 
   and_ends_keeps : (n line : ℕ) (tree right : Tree) (d r : Context × Found) → R n (and_then line tree d) r.0 → R (n + 3) d.0 (and_ends line (new_label d.0) (tested_value right r)).0
   and_ends_keeps n line tree right d r g =
@@ -313,11 +306,8 @@ module _ (R : ℕ → Context → Context → Type 0) (steps : Writes R) where
       let v = changed_to line op typed.type old e y c in
       both 4 0 4 (omega arith) (change_keeps line op (operand typed.type) (operand e.type) old y c) (write_keeps line typed.type target.spot v.1 v.0)
 
-  answer_keeps : (n : ℕ) (keeps_old : Bool) (typed : PlainTyped) (old : Atom) (v : Context × Atom) (b : Context) → R n b v.0 → R n b (changed_answer keeps_old typed old v).0
-  answer_keeps n keeps_old typed old v b g = search arith fits 100
-
   pub changed_keeps : (line : ℕ) (op : AssignOp) (keeps_old : Bool) (target : Found) (old : Atom) (d : Context × Found) → Reached (R 4 d.0) (changed_by line op keeps_old target old d)
-  changed_keeps line op keeps_old target old d = search (arith, reached_after, reached_ok, answer_keeps, change_place_keeps) fits 100
+  changed_keeps line op keeps_old target old d = search (arith, reached_after, reached_ok, change_place_keeps) fits 100
 
   pub stepped_keeps : (line : ℕ) (op : AssignOp) (keeps_old : Bool) (d : Context × Found) → Reached (R 5 d.0) (stepped line op keeps_old d)
   stepped_keeps line op keeps_old d z q =
@@ -333,10 +323,6 @@ module _ (R : ℕ → Context → Context → Type 0) (steps : Writes R) where
   result_keeps line (Pointer target) kind c h = steps.pointer line (λ r. kind (Some r)) c (λ r. h (Some r))
   result_keeps line type kind c h = within 0 1 (omega arith) (steps.emits line (kind None) c (h None))
 
-  printing_keeps : (line : ℕ) (bytes : List ℕ) (arguments : List Atom) (c : Context) → IsShort bytes → R 2 c (printing line bytes arguments c).0
-  printing_keeps line bytes arguments c h =
-      both 1 1 2 (omega arith) (steps.formats bytes c h) (steps.integer line (λ r. Printf r (length c.running.formats) arguments) (with_format bytes c) (λ r. tt))
-
   built_in_keeps : (line : ℕ) (name : BuiltIn) (answer wanted : PlainType) (format : Option (List ℕ)) (arguments : List Argument) (c : Context) → PrintsShort (Some name) format → R 2 c (call_built_in line name answer wanted format arguments c).0
   unfolding call_built_in
   built_in_keeps line bi.Malloc answer wanted format arguments c h =
@@ -346,18 +332,15 @@ module _ (R : ℕ → Context → Context → Type 0) (steps : Writes R) where
   built_in_keeps line bi.Realloc answer wanted format arguments c h =
       within 1 2 (omega arith) (steps.pointer line (λ r. Realloc r (atom_at arguments 0) (atom_at arguments 1) (element_layout c.tags wanted)) c (λ r. tt))
   built_in_keeps line bi.Free answer wanted format arguments c h = within 0 2 (omega arith) (steps.frees line (atom_at arguments 0) c)
-  built_in_keeps line bi.Printf answer wanted format arguments c h = printing_keeps line (unwrap_or format []) (drop 1 (atoms_of arguments)) c h
+  built_in_keeps line bi.Printf answer wanted format arguments c h = both 1 1 2 (omega arith) (steps.formats (unwrap_or format []) c h) (steps.integer line (λ r. Printf r (length c.running.formats) (drop 1 (atoms_of arguments))) (with_format (unwrap_or format []) c) (λ r. tt))
   built_in_keeps line name answer wanted format arguments c h =
       within 1 2 (omega arith) (result_keeps line answer (λ r. Lib (lib_name name) r (atoms_of arguments)) c (λ r. tt))
-
-  of_built_in_keeps : (line : ℕ) (name : Option BuiltIn) (answer wanted : PlainType) (format : Option (List ℕ)) (arguments : List Argument) (c : Context) → PrintsShort name format → R 2 c (call_of_built_in line name answer wanted format arguments c).0
-  of_built_in_keeps line name answer wanted format arguments c h = search (arith, built_in_keeps) fits 100
 
   pub call_keeps : (line : ℕ) (name : Option PlainNamed) (answer wanted : PlainType) (format : Option (List ℕ)) (arguments : List Argument) (c : Context) → PrintsShort (built_in_at name) format → R 2 c (call_named line name answer wanted format arguments c).0
   call_keeps line (Some (n.Function type index)) answer wanted format arguments c h =
       let d : Context = record c { calls = c.calls ++ (index, line) ∷ [] } in
       both 0 1 2 (omega arith) (steps.calls (c.calls ++ (index, line) ∷ []) c) (result_keeps line answer (λ r. Call index r (atoms_of arguments)) d (λ r. tt))
-  call_keeps line other answer wanted format arguments c h = of_built_in_keeps line (built_in_at other) answer wanted format arguments c h
+  call_keeps line other answer wanted format arguments c h = search (arith, built_in_keeps) fits 100
 
 -- what writes code alone leaves the scopes and the tags as they were
 
@@ -409,18 +392,15 @@ quiet_choose_last line before type t d = choose_last_keeps Still quiet_writes 0 
 
 -- calls, also of formats that are long
 
-quiet_result : (line : ℕ) (type : PlainType) (kind : Option ℕ → StmKind) (c : Context) → Quiet c (result_by line type kind c).0
+pub quiet_result : (line : ℕ) (type : PlainType) (kind : Option ℕ → StmKind) (c : Context) → Quiet c (result_by line type kind c).0
 quiet_result line type kind c = search arith fits 100
 
 quiet_built_in : (line : ℕ) (name : BuiltIn) (answer wanted : PlainType) (format : Option (List ℕ)) (arguments : List Argument) (c : Context) → Quiet c (call_built_in line name answer wanted format arguments c).0
 unfolding call_built_in
 quiet_built_in line name answer wanted format arguments c = search (arith, quiet_result) fits 100
 
-quiet_of_built_in : (line : ℕ) (name : Option BuiltIn) (answer wanted : PlainType) (format : Option (List ℕ)) (arguments : List Argument) (c : Context) → Quiet c (call_of_built_in line name answer wanted format arguments c).0
+pub quiet_of_built_in : (line : ℕ) (name : Option BuiltIn) (answer wanted : PlainType) (format : Option (List ℕ)) (arguments : List Argument) (c : Context) → Quiet c (call_of_built_in line name answer wanted format arguments c).0
 quiet_of_built_in line name answer wanted format arguments c = search (arith, quiet_built_in) fits 100
-
-pub quiet_call : (line : ℕ) (name : Option PlainNamed) (answer wanted : PlainType) (format : Option (List ℕ)) (arguments : List Argument) (c : Context) → Quiet c (call_named line name answer wanted format arguments c).0
-quiet_call line name answer wanted format arguments c = search (arith, quiet_result, quiet_of_built_in) fits 100
 
 pub quiet_literal : (line : ℕ) (bytes : List ℕ) (c : Context) (d : Context × ℕ) → with_literal line bytes c ≡ Ok d → Quiet c d.0
 quiet_literal line bytes c d = grind (arith, true, false, ok_same)

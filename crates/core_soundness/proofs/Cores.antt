@@ -1,9 +1,5 @@
 -- What the walk over a text says of its core.
-use Rattle.std.proofs.Common.{◌≡◌, ◌≤◌, ◌<◌, ◌+◌, ℕ, zero, suc, List, [], ◌∷◌, ◌++◌, length, map, sum_by, Some, None, slice_get, Ok, All, refl, sym, ap, ◌∙◌, subst, arith, mul-one, Bool, true, false, cond, bytes_eq, codes, count_by, Option}
-use Rattle.std.proofs.lemmas.List.{length-map}
-use Rattle.std.proofs.lemmas.List.Sums.{sum_by-append, sum_by-cons}
-use Rattle.std.proofs.lemmas.Slice.Eq.{bytes_eq-Decides}
-use Rattle.std.proofs.lemmas.Bool.{and_parts}
+use Rattle.core_soundness.proofs.Words.Std.{◌≡◌, ◌≤◌, ◌<◌, ◌+◌, ℕ, zero, suc, List, [], ◌∷◌, ◌++◌, length, map, sum_by, Some, None, slice_get, Ok, All, refl, sym, ap, ◌∙◌, subst, arith, mul-one, Bool, true, false, cond, bytes_eq, codes, count_by, Option, length-map, sum_by-append, sum_by-cons, bytes_eq-Decides, and_parts}
 use Rattle.core_soundness.proofs.Words.Trees.{Trees}
 use Rattle.core_soundness.proofs.Words.Types.{TagTable, PlainType, PlainNamed, named_in}
 use Rattle.core_soundness.proofs.Words.Core.{block_size, EachFunc, EachStatement, LeadsOn, HasScopes, code_size, is_main, operands, edges, Core, Func, Static, Stm, StmKind, Call, Return}
@@ -98,14 +94,10 @@ body_size num (Here l ∷ pieces) = body_size num pieces ∙ sym (sum_by-cons pi
 code_sum : (c : Context) → sum_by code_size (core_of c).funcs ≡ sum_by walked_length c.walked
 code_sum c = search (arith, sum_by_map, sum_by_same, walked_length, body_size)
 
--- each function has a statement
-some_code : (front : List Piece) (stm : Stm) → 1 ≤ sum_by piece_length (front ++ (Does stm ∷ []))
-some_code front stm = omega (arith, sum_by-append piece_length front (Does stm ∷ []), sum_by-cons piece_length (Does stm) [])
-
 walked_sum : (ws : List Walked) → AreComplete ws → length ws ≤ sum_by walked_length ws
 walked_sum [] h = omega arith
 walked_sum (w ∷ ws) h =
-    let one : 1 ≤ walked_length w = subst (λ (x : List Piece). 1 ≤ sum_by piece_length x) (sym h.0.is) (some_code h.0.front (stm_at h.0.line (Return h.0.answer))) in
+    let one : 1 ≤ walked_length w = subst (λ (x : List Piece). 1 ≤ sum_by piece_length x) (sym h.0.is) (omega (arith, sum_by-append piece_length h.0.front (Does (stm_at h.0.line (Return h.0.answer)) ∷ []), sum_by-cons piece_length (Does (stm_at h.0.line (Return h.0.answer))) [])) in
     omega (arith, one, walked_sum ws h.1, sum_by-cons walked_length w ws)
 
 -- a body is no longer than the code of all
@@ -147,14 +139,11 @@ counted_none p (x ∷ xs) h =
     by true e = absurd (h 0 x refl e)
     by false e = omega arith
 
-one_if : (t : Bool) → t ≡ true → cond {A = ℕ} t 1 0 ≡ 1
-one_if t e = ap (λ k. cond {A = ℕ} k 1 0) e
-
 counted_one : {X : Type 0} (p : X → Bool) (xs : List X) (k : ℕ) (x : X) → slice_get xs k ≡ Some x → p x ≡ true → ((j : ℕ) (y : X) → slice_get xs j ≡ Some y → p y ≡ true → j ≡ k) → count_by p xs ≡ 1
 counted_one p [] k x e h u = cc
 counted_one p (y ∷ xs) zero x e h u =
     let same_one : y ≡ x = cc in
-    let here = one_if (p y) (ap p same_one ∙ h) in
+    let here = ap (λ k. cond {A = ℕ} k 1 0) (ap p same_one ∙ h) in
     let rest : count_by p xs ≡ 0 = counted_none p xs (λ j z q w. let far : suc j ≡ 0 = u (suc j) z q w in omega arith) in
     sum_by-cons (λ z. cond (p z) 1 0) y xs ∙ omega (arith, here, rest)
 counted_one p (y ∷ xs) (suc k) x e h u =
@@ -232,15 +221,11 @@ resolved num (Does s ∷ pieces) zero stm e = search arith
 resolved num (Does s ∷ pieces) (suc i) stm e = resolved num pieces i stm e
 resolved num (Here l ∷ pieces) i stm e = resolved num pieces i stm e
 
--- each number that a function may have is that of a body
-number_inside : (c : Context) → Sane c → 0 < length c.walked → (g : ℕ) → function_by c.functions g < length c.walked
-number_inside c s some g = grind arith
-
 function_calls : (c : Context) (w : Walked) → Sane c → 0 < length c.walked → CallsInside (core_of c) (function_of c w)
 function_calls c w s some point stm f r args e is =
     let x = resolved (numbers_of c w) w.code.pieces point stm e in
     let y = called_number (numbers_of c w) x.0 f (ap called (sym x.1 ∙ is)) in
-    let inside = number_inside c s some y.0 in
+    let inside : function_by c.functions y.0 < length c.walked = grind arith in
     omega (arith, inside, y.1, length-map c.walked (function_of c))
 
 each_calls : (c : Context) (ws : List Walked) (i : ℕ) (func : Func) → Sane c → 0 < length c.walked → slice_get (map (function_of c) ws) i ≡ Some func → CallsInside (core_of c) func

@@ -1,8 +1,7 @@
 -- Declarators and declarations go in step with the walk over addresses.
-use Rattle.std.proofs.Common.{◌≡◌, ◌||◌, ℕ, suc, ℤ, pos, ◌+ℤ◌, false, is_some, length, reverse, List, [], ◌∷◌, ◌++◌, Option, Some, None, Ok, refl, sym, ap, ◌∙◌, subst, Bool, true, cond, IsSome, ◌≤◌, ◌+◌, arith}
-use Rattle.std.specs.Option.{option_or}
-use Rattle.core_soundness.proofs.Words.Trees.{Form, shape, name_of, places, name_among, has_typedef, is_scope, leads_to_name, suffix_params, params_of, params_among, Tree, Trees, Leaf, At, Node, none, ◌▹◌, count, RecordSort}
-use Rattle.core_soundness.proofs.Words.Types.{PlainType, PlainTypes, first, line_of, typed, wanted, PlainNamed, Checked, unless, named_in, innermost, tag_name, Table, found_from, first_or, Layer, ArrayOf, FunctionOf, word_type, special_type, array_length, with_layers, with_param_layers, adjusted, tag_named, is_void, is_record, is_function, has_no_size, DeclaredTwice, Incomplete, LeftOut}
+use Rattle.core_soundness.proofs.Words.Std.{◌≡◌, ◌||◌, ℕ, suc, ℤ, pos, ◌+ℤ◌, false, is_some, length, reverse, List, [], ◌∷◌, ◌++◌, Option, Some, None, Ok, refl, sym, ap, ◌∙◌, subst, Bool, true, IsSome, ◌≤◌, ◌+◌, arith, option_or}
+use Rattle.core_soundness.proofs.Words.Trees.{shape, name_of, places, name_among, has_typedef, is_scope, leads_to_name, suffix_params, params_of, params_among, Tree, Trees, Leaf, At, Node, none, ◌▹◌, count, RecordSort}
+use Rattle.core_soundness.proofs.Words.Types.{PlainType, PlainTypes, first, line_of, typed, wanted, PlainNamed, Checked, unless, named_in, innermost, tag_name, Table, found_from, Layer, ArrayOf, FunctionOf, word_type, special_type, array_length, with_layers, with_param_layers, adjusted, tag_named, is_void, is_record, is_function, has_no_size, DeclaredTwice, Incomplete, LeftOut}
 use Rattle.core_soundness.proofs.Words.Core.{wrapped, I32}
 use Rattle.core_soundness.proofs.Words.Elaborating.{Taken, left_scope, taken, all_taken, with_known, declare, nothing_taken, params_taken, Context, asked, told, entered, Spot, Storage, Typedef, Outside, storage_of, specs_alone, specs_before, fill_local, local_object, local_name, name_in, entry, entries, declaration, declared_function, constant, with_type, maybe_name, member, enumerator, is_declared, param, left_params, specs, words_type, tag_type, members, member_names, enumerators, layers, suffix_layers, suffix_layer, params, body_begun, with_init_layers, declared_as, with_param, is_twice, with_local}
 use Rattle.core_soundness.proofs.Words.Facts.{AllSpoken, is_register, World, world, FileFits, Written, AllWritten, TableFits}
@@ -28,10 +27,10 @@ use Rattle.core_soundness.proofs.LocalsRun.{LocalSpoken, EntrySpoken, EntriesSpo
 use Rattle.core_soundness.proofs.Walks.{constant_keeps, with_type_keeps, begun_keeps, ended_keeps, enum_named_keeps}
 use Rattle.core_soundness.proofs.Parameters.{functions, functions_joined, functions_one, functions_reversed, counts, declared_counts, suffixes_counts}
 use Rattle.core_soundness.proofs.Scopes.{file_register, HasScope, scope_more}
-use Rattle.core_soundness.proofs.Sorting.{passed, kept_test}
-use Rattle.core_soundness.proofs.Steps.{with_one, IsNew, plain_stepped, param_stepped, no_nodes_each, specs_taken, pointer_taken, direct_taken, specs_unnamed, param_taken, not_twice, local_stepped, commas_each, local_went, inits_spoken, member_names_taken, members_taken, enumerators_taken, params_taken_each}
+use Rattle.core_soundness.proofs.Sorting.{passed}
+use Rattle.core_soundness.proofs.Steps.{with_one, IsNew, plain_stepped, param_stepped, no_nodes_each, specs_taken, pointer_taken, direct_taken, specs_unnamed, param_taken, local_stepped, commas_each, local_went, inits_spoken, member_names_taken, members_taken, enumerators_taken, params_taken_each}
 use Rattle.core_soundness.proofs.TagSorts.{typed_after, wanted_after, special_after, tag_after}
-use Rattle.core_soundness.proofs.Taking.{among, Keeps, Follows, Stepped, each, SameNames, Calm, still_names, all_still_names, left_names, no_nodes_still, Has, Inside, taken_adds, InStep, as_before, Numbered, file_none}
+use Rattle.core_soundness.proofs.Taking.{among, Keeps, Follows, Stepped, each, Calm, still_names, all_still_names, left_names, no_nodes_still, Has, Inside, taken_adds, InStep, as_before, Numbered, file_none}
 use Rattle.core_soundness.proofs.Choices.{either_way, some_same}
 
 -- specs, tags with braces and declarators go in step (C99 6.7.2, 6.7.5)
@@ -60,17 +59,11 @@ special_stepped line tree t c z h q =
     keeps_stepped t (taken tree t) c z.0 (still_names tree t (special_still line tree (asked c) x.value x.is))
     (with_type_keeps Keeps keeps_tags (special_type line tree (asked c)) c (special_after line tree (asked c)) z q) h
 
-maybe_names : (name : Trees) (t : Taken) → NoNodes name → SameNames t (taken (Node f.MaybeName name) t)
-unfolding taken
-maybe_names name t h = left_names f.MaybeName name t (all_taken name (places (shape f.MaybeName (count name))) t) refl (all_still_names name (places (shape f.MaybeName (count name))) t (no_nodes_still name h))
-
 named_stepped : (name : Trees) (t : Taken) (c d : Context) → NoNodes name → Keeps c d → Follows t c → Stepped t c (taken (Node f.MaybeName name) t) d
-named_stepped name t c d o k h = keeps_stepped t (taken (Node f.MaybeName name) t) c d (maybe_names name t o) k h
+unfolding taken
+named_stepped name t c d o k h = keeps_stepped t (taken (Node f.MaybeName name) t) c d (left_names f.MaybeName name t (all_taken name (places (shape f.MaybeName (count name))) t) refl (all_still_names name (places (shape f.MaybeName (count name))) t (no_nodes_still name o))) k h
 
 -- members and enumerators
-
-member_same : (line : ℕ) (name : Option (List ℕ)) (type : PlainType) (list : d.Members) (c : Context) (z : Context × d.Members) → member line name type list c ≡ Ok z → c ≡ z.0
-member_same line name type list c z q = search (arith, behind_test, came, ok_same)
 
 enumerator_stepped : (line : ℕ) (name : List ℕ) (v : ℤ) (t : Taken) (c : Context) (z : Context × ℤ) → Follows t c → enumerator line name v c ≡ Ok z → Stepped t c (with_one name None t) z.0
 enumerator_stepped line name v t c z h q =
@@ -80,16 +73,13 @@ enumerator_stepped line name v t c z h q =
 
 -- parameters
 
-new_name : (name : Option (List ℕ)) (c : Context) → is_declared name c ≡ false → IsNew name c
-new_name name c e = search (arith, is_some) fits 100
-
 param_stepped_in : (line : ℕ) (name : Option (List ℕ)) (type : PlainType) (t : Taken) (c : Context) (z : Context × PlainType) → HasScope c.scopes.inner → Follows t c → param line name type c ≡ Ok z → Stepped t c (walk.with_local name t) z.0
 param_stepped_in line name type t c z deep h q =
     let r2 : Checked (Context × PlainType) = unless (is_declared name c) DeclaredTwice line (good (with_param name type c, type)) in
     let r1 : Checked (Context × PlainType) = unless (is_record type || is_function type) LeftOut line r2 in
     let a = behind_test (is_void type) Incomplete line r1 z q in
     let b = behind_test (is_record type || is_function type) LeftOut line r2 z a in
-    let fresh = new_name name c (kept_test (is_declared name c) DeclaredTwice line (good (with_param name type c, type)) z b) in
+    let fresh : IsNew name c = search (arith, is_some) fits 100 in
     subst (λ (y : Context × PlainType). Stepped t c (walk.with_local name t) y.0) (passed (is_declared name c) DeclaredTwice line (with_param name type c, type) z b) (param_stepped name type t c deep fresh h)
 
 mutual
@@ -149,7 +139,7 @@ mutual
       let m = came (member line (name_of declarator) y.value list l.value.0) y.last in
       let t1 = taken declarator t in
       let a = layers_stepped declarator t c l.value g.0 o.0 h l.is in
-      let one = subst (Stepped t c t1) (member_same line (name_of declarator) y.value list l.value.0 m.value m.is) a in
+      let one = subst (Stepped t c t1) (search (arith, behind_test, came, ok_same)) a in
       stepped_trans t t1 (each rest t1) c m.value.0 z.0 one (member_names_stepped rest line base m.value.1 t1 m.value.0 z o.1 g.1 one.follows m.last)
 
   enumerators_stepped : (parts : Trees) (next : ℤ) (t : Taken) (c z : Context) → AllFormed parts → Follows t c → enumerators parts next c ≡ Ok z → Stepped t c (each parts t) z
@@ -251,17 +241,9 @@ record Stayed (c : Context) (u : Taken) (d : Context) : Type 0 where
   addressed : d.running.addressed ≡ c.running.addressed
   scope : HasScope d.scopes.inner
 
-stayed_after : (c d : Context) (u v : Taken) (z : Context) → Stayed c u d → Stayed d v z → Stayed c v z
-stayed_after c d u v z x y = record { follows = y.follows; addressed = y.addressed ∙ x.addressed; scope = y.scope }
-
 abbrev is_typedef : Storage → Bool
 is_typedef Typedef = true
 is_typedef storage = false
-
--- an initializer behind its name
-inits_after : (inits : Trees) (u : Taken) → inits ≡ none → SameNames u (taken (Node f.MaybeInit inits) u)
-unfolding taken all_taken left
-inits_after inits u e = search arith fits 100
 
 -- a local name of a type, and what is asked of its initializer
 record Locals (line : ℕ) (name : List ℕ) (type : PlainType) (inits : Trees) (u : Taken) (c z : Context) : Type 0 where
@@ -269,13 +251,13 @@ record Locals (line : ℕ) (name : List ℕ) (type : PlainType) (inits : Trees) 
   spoken : Inside (taken (Node f.MaybeInit inits) u).addressed c.running.addressed → Written (Node f.MaybeInit inits) → LocalSpoken line name type inits c z
 
 typedef_step : (line : ℕ) (name : List ℕ) (type : PlainType) (inits : Trees) (t : Taken) (c z : Context) → inits ≡ none → HasScope c.scopes.inner → Follows t c → declared_as line name (n.Typedef type) c ≡ Ok z → Locals line name type inits (with_known (Some name) None t) c z
-unfolding AllSpoken
+unfolding AllSpoken taken all_taken left
 typedef_step line name type inits t c z bare s h q =
     let u : Taken = with_known (Some name) None t in
     let one = plain_stepped line name (n.Typedef type) t c z refl h q in
     record {
       stayed = record {
-        follows = keeps_follows u (taken (Node f.MaybeInit inits) u) z z (inits_after inits u bare) (keeps_refl z) one.follows;
+        follows = keeps_follows u (taken (Node f.MaybeInit inits) u) z z (search arith fits 100) (keeps_refl z) one.follows;
         addressed = one.addressed;
         scope = stepped_scope t u c z one s;
       };
@@ -290,7 +272,7 @@ object_step line name type inits t c z g s h q =
     let r1 : Checked Context = unless (has_no_size c.tags type) Incomplete line r2 in
     let a = behind_test (is_function type) LeftOut line r1 z q in
     let b = behind_test (has_no_size c.tags type) Incomplete line r2 z a in
-    let fresh = not_twice c name (n.Object type 0) s (kept_test (is_twice c.scopes name (n.Object type 0)) DeclaredTwice line (fill_local line type inits x) z b) in
+    let fresh : named_in name (innermost c.scopes) ≡ None = search arith fits 100 in
     let e = behind_test (is_twice c.scopes name (n.Object type 0)) DeclaredTwice line (fill_local line type inits x) z b in
     let one = local_stepped name type t c s fresh h in
     let went = local_went line name type inits c z g e in
@@ -313,10 +295,6 @@ local_step line storages.Plain name type inits t c z e bare g s h q =
 
 -- a declarator with its initializer
 
-entry_taken : (declarator : Tree) (inits : Trees) (name : List ℕ) (t : Taken) → name_of declarator ≡ Some name → as_before t (taken (Node f.MaybeInit inits) (declare t.typedef (Some name) (as_before t (taken declarator t)))) ≡ taken (Node f.Entry (Node f.Declared (declarator ▹ none) ▹ Node f.MaybeInit inits ▹ none)) t
-unfolding taken all_taken left shape is_scope name_among
-entry_taken declarator inits name t e = search (arith, as_before)
-
 -- an entry, and what is asked of its initializer
 record Entered (line : ℕ) (base : PlainType) (declarator : Tree) (inits : Trees) (t : Taken) (c z : Context) : Type 0 where
   stayed : Stayed c (taken (Node f.Entry (Node f.Declared (declarator ▹ none) ▹ Node f.MaybeInit inits ▹ none)) t) z
@@ -328,6 +306,7 @@ some_of None e = cc
 
 entry_step : (line : ℕ) (storage : Storage) (base : PlainType) (declarator : Tree) (inits : Trees) (t : Taken) (c z : Context) → t.typedef ≡ is_typedef storage → (t.typedef ≡ true → inits ≡ none) → Formed declarator → IsLayer declarator → IsSome (name_of declarator) → Formed (Node f.MaybeInit inits) → HasScope c.scopes.inner → Follows t c → entry false line storage base declarator inits c ≡ Ok z
     → Entered line base declarator inits t c z
+unfolding taken all_taken left shape is_scope name_among
 entry_step line storage base declarator inits t c z e bare gd layer named g s h q =
     let o = some_of (name_of declarator) named in
     let name = o.0 in
@@ -338,7 +317,7 @@ entry_step line storage base declarator inits t c z e bare gd layer named g s h 
     let td : Taken = as_before t (taken declarator t) in
     let one = local_step line storage name y.value inits td x.value.0 z e bare g (stepped_scope t (taken declarator t) c x.value.0 l s) l.follows k in
     let u : Taken = taken (Node f.MaybeInit inits) (declare t.typedef (Some name) td) in
-    let same = entry_taken declarator inits name t o.1 in
+    let same : as_before t (taken (Node f.MaybeInit inits) (declare t.typedef (Some name) (as_before t (taken declarator t)))) ≡ taken (Node f.Entry (Node f.Declared (declarator ▹ none) ▹ Node f.MaybeInit inits ▹ none)) t = search (arith, as_before) in
     record {
       stayed = subst (λ (v : Taken). Stayed c v z) same (record { follows = one.stayed.follows; addressed = one.stayed.addressed ∙ l.addressed; scope = one.stayed.scope });
       spoken = λ i written l2 type2 name2 at made called.
@@ -375,7 +354,7 @@ entries_step (Node f.Entry (Node f.Declared (declarator ▹ none) ▹ Node f.May
     let one = entry_step line storage base declarator inits t c d.value e (λ k. (no_inits (Node f.Declared (declarator ▹ none)) inits rest (bare k)).0) gd.1.0 gd.0.0 gd.0.1 g.0.1.1.0 s h d.is in
     let typed = entry_typed (Node f.Declared (declarator ▹ none)) inits t in
     let more = entries_step rest line storage base (taken tree t) d.value z (typed ∙ e) (λ k. (no_inits (Node f.Declared (declarator ▹ none)) inits rest (bare (sym typed ∙ k))).1) g.1 one.stayed.scope one.stayed.follows d.last in
-    stayed_after c d.value (taken tree t) (each rest (taken tree t)) z one.stayed more
+    (record { follows = more.follows; addressed = more.addressed ∙ one.stayed.addressed; scope = more.scope })
 entries_step (tree ▹ rest) line storage base t c z e bare g s h q = never _ _ z q
 
 entries_spoken : (names : Trees) (line : ℕ) (storage : Storage) (base : PlainType) (t : Taken) (c : Context) → t.typedef ≡ is_typedef storage → (t.typedef ≡ true → NoInits names) → AllFormed names → AllWritten names → HasScope c.scopes.inner → Follows t c → Inside (each names t).addressed c.running.addressed → EntriesSpoken line storage base names c
@@ -399,15 +378,9 @@ record Specified (words : Tree) (t : Taken) (c : Context) (z : Context) : Type 0
   storage : (taken words t).typedef ≡ is_typedef (storage_of words)
   none : (taken words t).typedef ≡ true → of_typedefs words ≡ true
 
-typed_storage : (typedef outside before : Bool) → before ≡ false → typedef || before ≡ is_typedef (cond typedef Typedef (cond outside Outside storages.Plain))
-typed_storage typedef outside before e = search arith fits 100
-
-typed_words : (typedef before : Bool) → before ≡ false → typedef || before ≡ true → typedef ≡ true
-typed_words typedef before e h = search arith fits 100
-
 specified : (line : ℕ) (words : Trees) (t : Taken) (c z : Context) → t.typedef ≡ false → Stayed c (taken (Node f.Specs (At line ▹ words)) t) z → Specified (Node f.Specs (At line ▹ words)) t c z
 unfolding taken left has_typedef
-specified line words t c z e s = search (typed_storage, typed_words)
+specified line words t c z e s = search arith
 
 specs_stay : (words : Tree) (t : Taken) (c : Context) (z : Context × PlainType) → t.typedef ≡ false → Formed words → HasScope c.scopes.inner → Follows t c → specs words c ≡ Ok z → Specified words t c z.0
 unfolding specs
@@ -482,13 +455,6 @@ begun_same o c d e h = subst (BegunAt o) (sym e) h
 entered_none : (w : World) (file : Table) (inner : List Table) (name : List ℕ) → length inner ≡ 0 → TableFits (FileFits w) file → is_register (found_from file name inner) ≡ true → ⊥
 entered_none w file inner name flat h e = let clash : false ≡ true = sym (file_register w file inner name flat h) ∙ e in cc
 
-follows_none : (c : Context) → c.running.declared ≡ 0 → length c.scopes.inner ≡ 0 → TableFits (FileFits (world c)) c.scopes.file → Follows nothing_taken (entered c)
-follows_none c zero_yet flat h = (sym zero_yet, λ name e. absurd (entered_none (world c) c.scopes.file c.scopes.inner name flat h e))
-
--- a register of the innermost scope is what is found under its name
-first_found : (file : Table) (inner : List Table) (name : List ℕ) → is_register (named_in name (first_or [] inner)) ≡ true → is_register (found_from file name inner) ≡ true
-first_found file inner name e = search arith fits 100
-
 -- suffixes
 
 pub record Starts (o : Option Trees) (z : Context × List Layer) : Type 0 where
@@ -505,22 +471,18 @@ no_params e = cc
 list_begun : (line : ℕ) (parts : Trees) (c : Context) (z : Context × PlainTypes) → AllFormed parts → c.running.declared ≡ 0 → length c.scopes.inner ≡ 0 → TableFits (FileFits (world c)) c.scopes.file → params parts (entered c) ≡ Ok z → Begun (Some (Node f.Params parts ▹ none)) (left_params z.0)
 unfolding taken all_taken left shape is_scope
 list_begun line parts c z g zero_yet flat h q =
-    let s = params_stepped parts nothing_taken (entered c) z g tt (follows_none c zero_yet flat h) q in
+    let s = params_stepped parts nothing_taken (entered c) z g tt ((sym zero_yet, λ name e. absurd (entered_none (world c) c.scopes.file c.scopes.inner name flat h e))) q in
     let same = commas_each p.Param refl parts nothing_taken in
     record {
       typed = refl;
       declared = ap (λ (t : Taken). t.declared) same ∙ s.follows.0;
-      names = λ name e. let k = s.follows.1 name (first_found z.0.scopes.file z.0.scopes.inner name e) in
+      names = λ name e. let k = s.follows.1 name (search arith fits 100) in
           subst (λ (t : Taken). Numbered t z.0.running.addressed name) (sym same) k;
     }
 
-void_begun : (c : Context) → c.running.declared ≡ 0 → Begun (Some none) (record c { params = [] })
-unfolding all_taken
-void_begun c zero_yet = record { typed = refl; declared = sym zero_yet; names = λ name e. cc }
-
 suffix_begun : (tree : Tree) (rest : Trees) (c : Context) (z : Context × Layer) → IsSuffix tree → Formed tree → IsSome (suffix_params (Node f.Suffixes (tree ▹ rest) ▹ none)) → c.running.declared ≡ 0 → length c.scopes.inner ≡ 0 → TableFits (FileFits (world c)) c.scopes.file → suffix_layer tree c ≡ Ok z
     → Suffixed (suffix_params (Node f.Suffixes (tree ▹ rest) ▹ none)) z
-unfolding suffix_layer suffix_params Formed AllFormed
+unfolding suffix_layer suffix_params Formed AllFormed all_taken
 suffix_begun (Node f.ArraySuffix parts) rest c z i g s zero_yet flat h q = no_params s
 suffix_begun (Node f.FunctionSuffix (At line ▹ Node f.Params parts ▹ none)) rest c z i g s zero_yet flat h q =
     let x = came (params parts (entered c)) q in
@@ -528,16 +490,12 @@ suffix_begun (Node f.FunctionSuffix (At line ▹ Node f.Params parts ▹ none)) 
     (record { one = refl; begun = list_begun line parts c x.value g.1.1.0.1 zero_yet flat h x.is })
 suffix_begun (Node f.VoidSuffix parts) rest c z i g s zero_yet flat h q =
     subst (Suffixed (Some none)) (ok_same (record c { params = [] }, FunctionOf (line_of (Node f.VoidSuffix parts)) types.none) z q)
-    (record { one = refl; begun = void_begun c zero_yet })
+    (record { one = refl; begun = (record { typed = refl; declared = sym zero_yet; names = λ name e. cc }) })
 suffix_begun tree rest c z i g s zero_yet flat h q = absurd i
 
-no_suffix : {G : Type 0} → IsSome (suffix_params (Node f.Suffixes none ▹ none)) → G
-unfolding suffix_params
-no_suffix e = no_params e
-
 suffixes_start : (parts : Trees) (c : Context) (z : Context × List Layer) → AreSuffixes parts → AllFormed parts → IsSome (suffix_params (Node f.Suffixes parts ▹ none)) → c.running.declared ≡ 0 → length c.scopes.inner ≡ 0 → TableFits (FileFits (world c)) c.scopes.file → suffix_layers parts c ≡ Ok z → Starts (suffix_params (Node f.Suffixes parts ▹ none)) z
-unfolding suffix_layers AllFormed
-suffixes_start none c z i g s zero_yet flat h q = no_suffix s
+unfolding suffix_layers AllFormed suffix_params
+suffixes_start none c z i g s zero_yet flat h q = no_params s
 suffixes_start (suffix ▹ rest) c z i g s zero_yet flat h q =
     let o : Option Trees = suffix_params (Node f.Suffixes (suffix ▹ rest) ▹ none) in
     let l = came (suffix_layer suffix c) q in
@@ -555,11 +513,6 @@ suffixes_start (suffix ▹ rest) c z i g s zero_yet flat h q =
 alone_is : (tree : Tree) → IsSome (params_among (tree ▹ none)) → params_of tree ≡ params_among (tree ▹ none)
 unfolding params_of params_among suffix_params
 alone_is tree h = search (arith, no_params) fits 100
-
--- those of a base are those of the declarator, where the base is no name
-base_is : (form : Form) (parts suffixes : Trees) → IsSome (params_among (Node form parts ▹ Node f.Suffixes suffixes ▹ none)) → params_of (Node form parts) ≡ params_among (Node form parts ▹ Node f.Suffixes suffixes ▹ none)
-unfolding params_of params_among leads_to_name
-base_is form parts suffixes h = grind arith
 
 is_some_of : (o q : Option Trees) → o ≡ q → IsSome q → IsSome o
 is_some_of o q e h = subst (λ (x : Option Trees). IsSome x) (sym e) h
@@ -588,7 +541,7 @@ layers_start (Node f.Direct (Leaf word ▹ Node f.Suffixes suffixes ▹ none)) c
 layers_start (Node f.Direct (Node form parts ▹ Node f.Suffixes suffixes ▹ none)) c z i g s zero_yet flat h q =
     let l = came (layers (Node form parts) c) q in
     let v = came (suffix_layers suffixes l.value.0) l.last in
-    let e = base_is form parts suffixes s in
+    let e : params_of (Node form parts) ≡ params_among (Node form parts ▹ Node f.Suffixes suffixes ▹ none) = grind arith in
     let a = layers_start (Node form parts) c l.value g.0.0 g.1.0 (is_some_of (params_of (Node form parts)) (params_among (Node form parts ▹ Node f.Suffixes suffixes ▹ none)) e s) zero_yet flat h l.is in
     let sum = joined_functions v.value.1 l.value.1 in
     subst (λ (o : Option Trees). Starts o z) e (subst (Starts (params_of (Node form parts))) (ok_same (v.value.0, reverse v.value.1 ++ l.value.1) z v.last)
@@ -602,9 +555,6 @@ layers_start (Node form parts) c z i g s zero_yet flat h q = absurd i
 
 -- a body
 
-function_counts : (line : ℕ) (name : List ℕ) (type : PlainType) (c z : Context) → declared_function line name type c ≡ Ok z → counts z ≡ counts c
-function_counts line name type c z q = grind (arith, came, counts, ok_same, declared_counts, either_way, functions)
-
 behind_file : (w : World) (file : Table) (name : List ℕ) (o : Option PlainNamed) → TableFits (FileFits w) file → is_register (option_or o (named_in name file)) ≡ true → is_register o ≡ true
 behind_file w file name (Some v) h e = e
 behind_file w file name None h e = absurd (file_none w file name h e)
@@ -612,5 +562,5 @@ behind_file w file name None h e = absurd (file_none w file name h e)
 -- the body of a function whose parameters ended last
 pub body_step : (o : Option Trees) (line index : ℕ) (name : List ℕ) (type : PlainType) (c d : Context) → Begun o c → TableFits (FileFits (world d)) d.scopes.file → declared_function line name type c ≡ Ok d → InStep (params_taken o nothing_taken) (body_begun index type d)
 body_step o line index name type c d h fits q =
-    let b = begun_same o c d (function_counts line name type c d q) h in
+    let b = begun_same o c d (grind (arith, came, counts, ok_same, declared_counts, either_way, functions)) h in
     (b.typed, tt, (b.declared, λ key e. b.names key (behind_file (world d) d.scopes.file key (named_in key d.params) fits e)))

@@ -1,11 +1,9 @@
 -- What declarations do to what is known.
-use Rattle.std.proofs.Common.{◌≡◌, ℕ, suc, Bool, true, false, cond, is_some, List, [], ◌∷◌, length, unwrap_or, Option, Some, None, ◌≤◌, refl, arith, slice_get, sym, ◌∙◌, subst, ◌+◌, pos, not, min, ◌++◌, Ok, ap, ltb-false, ltb-true, option_map, slice_set, true≢false}
-use Rattle.std.proofs.lemmas.List.Sums.{sum_by-append, sum_by-cons}
-use Rattle.std.specs.Prelude.{nat_lt}
+use Rattle.core_soundness.proofs.Words.Std.{◌≡◌, ℕ, suc, Bool, true, false, cond, is_some, List, [], ◌∷◌, length, unwrap_or, Option, Some, None, ◌≤◌, refl, arith, slice_get, sym, ◌∙◌, subst, ◌+◌, pos, not, min, ◌++◌, Ok, ap, ltb-false, ltb-true, slice_set, true≢false, sum_by-append, sum_by-cons, nat_lt}
 use Rattle.core_soundness.proofs.Words.Trees.{name_of, Tree, Trees, At, Node, none, ◌▹◌, count, Leaf}
-use Rattle.core_soundness.proofs.Words.Types.{no_layout, TagTable, PlainType, Int, Array, Layout, line_of, PlainNamed, unconverted, Checked, refused, then, unless, ScopeList, Table, named_in, innermost, with_name, tag_name, after_declaration, tag_named, is_function, has_no_size, TypeKind, DeclaredTwice, Assignment, Incomplete, LeftOut, is_built_in}
+use Rattle.core_soundness.proofs.Words.Types.{TagTable, PlainType, Int, Array, line_of, PlainNamed, unconverted, Checked, refused, then, unless, ScopeList, Table, named_in, innermost, with_name, tag_name, after_declaration, tag_named, is_function, has_no_size, DeclaredTwice, Assignment, Incomplete, LeftOut, is_built_in}
 use Rattle.core_soundness.proofs.Words.Core.{block_size, Start, Atom, Off, Copy, Enter, Set, Clear}
-use Rattle.core_soundness.proofs.Words.Elaborating.{Context, Running, asked, told, entered, local_register, emit, anew, Declared, Walked, Variable, Memory, Found, Local, code_line, atom_in, valued, convert, write, size_or_zero, Spot, function_number, function_number_of, with_function, declared_function, Storage, Typedef, Outside, Plain, storage_of, specs_alone, specs_before, zero_of, cleared, fill_memory, fill_register, fill_at, local_object, local_name, no_initializer, variable_number_of, with_new_variable, with_variable, start_of, started_variable, started, fill_variable, file_object, file_function, file_value, file_name, name_in, entry, entries, declaration, constant, with_type, left_params, specs, layers, param, suffix_layer, found, Target, InRegister, InMemory, InStatic, static_scalar, member_place, store_at, fill_scalar, scalar, copy_to, fill_record, whole, fill_text, is_character, text, by_text, by_expression, parts_of, takes_braces, is_scalar_type, all_surplus, initialize, initialize_parts, surplus, no_start, with_init_layers, is_twice, declared_as, next_is_memory, with_register, with_memory, counted, with_named, memory_param, register_param, function_param, prototype_param, is_prototype, with_param, local_in, with_local, is_twice_in, reallocates, opened, closed, with_literal}
+use Rattle.core_soundness.proofs.Words.Elaborating.{Context, Running, asked, told, local_register, emit, anew, Declared, Walked, Variable, Memory, Found, Local, code_line, atom_in, valued, convert, write, size_or_zero, Spot, function_number, function_number_of, with_function, declared_function, Storage, Typedef, Outside, Plain, storage_of, specs_alone, specs_before, zero_of, cleared, fill_memory, fill_register, fill_at, local_object, local_name, no_initializer, variable_number_of, with_variable, start_of, fill_variable, file_object, file_function, file_value, file_name, name_in, entry, entries, declaration, constant, with_type, specs, layers, param, suffix_layer, found, Target, InRegister, InMemory, InStatic, static_scalar, member_place, store_at, fill_scalar, scalar, copy_to, fill_record, whole, fill_text, is_character, text, by_text, by_expression, parts_of, takes_braces, is_scalar_type, all_surplus, initialize, initialize_parts, surplus, no_start, with_init_layers, is_twice, declared_as, next_is_memory, with_register, with_memory, counted, with_named, memory_param, register_param, function_param, prototype_param, is_prototype, with_param, local_in, with_local, is_twice_in, reallocates, opened, closed, with_literal}
 use Rattle.c_types.specs.declared.types.IntType.TheVariants as i
 use Rattle.core_tree.specs.declared.statements.Atom.TheVariants as atom
 use Rattle.c_tree.specs.Forms as f
@@ -13,8 +11,8 @@ use Rattle.c_tree.specs.Words as w
 use Rattle.c_decls.specs.Named as n
 use Rattle.c_decls.specs.ScopeList as scopes
 use Rattle.c_decls.specs.TypeNames as names
-use Rattle.core_soundness.proofs.Growth.{grows_told, grows_refl, Reached, reached_ok, reached_after, Led, led_ok, led_unless, ObjectsStay, inner_objects, declared_objects, Passes, passes_trans, grows_passes, passes_beside, stays_beside, Grows, Settled, settled_refl, settled_trans, grows_settled, IsNoObject, with_name_objects, grows_trans, grows_emit, grows_pointer, grows_code, led_refused, led_after, led_barred, grown_literal, Stays, stays_trans, grows_stays, grows_closed, opened_stays, behind_string, good, ok_same, never, variable_bytes}
-use Rattle.core_soundness.proofs.Scopes.{Safe, first_safe, More, frees, with_name_safe, entered_safe, left_safe, FileKeeps, IsNoFunction, tied_refl, tied_file, keeps_refl, with_name_keeps, with_name_depth, Any, any_names, more_depth, any_name, Tied, get_left, get_push, get_below, tied_function, here, no_scope}
+use Rattle.core_soundness.proofs.Growth.{grows_told, grows_refl, Reached, reached_ok, reached_after, Led, led_ok, led_unless, ObjectsStay, inner_objects, declared_objects, Passes, passes_trans, grows_passes, passes_beside, stays_beside, Grows, Settled, settled_refl, settled_trans, grows_settled, IsNoObject, with_name_objects, grows_trans, grows_emit, grows_pointer, grows_code, led_refused, led_after, led_barred, grown_literal, Stays, stays_trans, grows_stays, grows_closed, opened_stays, behind_string, ok_same, never, variable_bytes}
+use Rattle.core_soundness.proofs.Scopes.{Safe, More, frees, with_name_safe, left_safe, FileKeeps, IsNoFunction, tied_refl, tied_file, keeps_refl, with_name_keeps, with_name_depth, Any, any_names, more_depth, Tied, get_left, get_push, get_below, tied_function, here, no_scope}
 use Rattle.core_soundness.proofs.TagSorts.{After, tag_after}
 use Rattle.core_soundness.proofs.Walks.{Steps, constant_keeps, specs_keep, layers_keep, grows_write, param_keeps, suffix_keeps, tagging, found_grows, grown_valued, grows_convert}
 use Rattle.core_soundness.proofs.Choices.{either_way}
@@ -38,17 +36,11 @@ told_passes told_of c m s = grows_passes c (told told_of c) s (grows_told told_o
 
 -- names
 
-pub after_safe : (s : ScopeList) (name : List ℕ) (named : PlainNamed) → frees (Some named) ≡ false → Safe s → Safe (after_declaration s name named)
-after_safe s name named e h = either_way Safe (is_some (named_in name (innermost s))) h (with_name_safe s name named e h)
-
-after_keeps : (s : ScopeList) (name : List ℕ) (named : PlainNamed) → IsNoFunction named → FileKeeps s.file (after_declaration s name named).file
-after_keeps s name named h = either_way (λ (x : ScopeList). FileKeeps s.file x.file) (is_some (named_in name (innermost s))) (keeps_refl s.file) (with_name_keeps s name named h)
-
 pub after_depth : (s : ScopeList) (name : List ℕ) (named : PlainNamed) → length (after_declaration s name named).inner ≡ length s.inner
 after_depth s name named = either_way (λ (x : ScopeList). length x.inner ≡ length s.inner) (is_some (named_in name (innermost s))) refl (with_name_depth s name named)
 
 after_passes : (name : List ℕ) (named : PlainNamed) (c : Context) → frees (Some named) ≡ false → IsNoFunction named → Safe c.scopes → Passes c (record c { scopes = after_declaration c.scopes name named })
-after_passes name named c e no_function s = search (arith, scopes_changed, after_safe, after_keeps, after_depth, declared_objects, inner_objects)
+after_passes name named c e no_function s = search (arith, scopes_changed, either_way, with_name_safe, keeps_refl, with_name_keeps, after_depth, declared_objects, inner_objects)
 
 pub declared_passes : (line : ℕ) (name : List ℕ) (named : PlainNamed) (b c : Context) → frees (Some named) ≡ false → IsNoFunction named → Passes b c → Led (Passes b) (declared_as line name named c)
 declared_passes line name named b c e no_function p = search (arith, led_unless, led_ok, passes_trans, after_passes)
@@ -82,12 +74,6 @@ register_param_passes name type c s =
     let x = with_register name type c in
     passes_trans c x _ (register_passes name type c s) (named_passes name (n.Register type (length c.running.locals)) x refl tt s)
 
-function_param_passes : (name : Option (List ℕ)) (type : PlainType) (c : Context) → Safe c.scopes → Passes c (function_param name type c)
-function_param_passes name type c s = either_way (Passes c) (next_is_memory type c) (memory_param_passes name type c s) (register_param_passes name type c s)
-
-pub with_param_passes : (name : Option (List ℕ)) (type : PlainType) (c : Context) → Safe c.scopes → Passes c (with_param name type c)
-with_param_passes name type c s = counted_passes c _ (either_way (Passes c) (is_prototype c.scopes) (named_passes name (n.Object type 0) c refl tt s) (function_param_passes name type c s))
-
 local_in_passes : (t : Bool) (name : List ℕ) (type : PlainType) (c : Context) → Safe c.scopes → Passes c (local_in t name type c).0
 local_in_passes true name type c s =
     let x = with_memory name type c in
@@ -96,9 +82,6 @@ local_in_passes false name type c s =
     let x = with_register (Some name) type c in
     passes_trans c x _ (register_passes (Some name) type c s) (named_passes (Some name) (n.Register type (length c.running.locals)) x refl tt s)
 
-pub with_local_passes : (name : List ℕ) (type : PlainType) (c : Context) → Safe c.scopes → Passes c (with_local name type c).0
-with_local_passes name type c s = counted_passes c _ (local_in_passes (next_is_memory type c) name type c s)
-
 -- constants, specs and declarators
 
 pub with_type_passes : (answer : Checked (names.Context × PlainType)) (b c : Context) → Reached (After (asked c)) answer → Passes b c → Reached (Passes b) (with_type answer c)
@@ -106,10 +89,6 @@ with_type_passes answer b c g p = search (arith, reached_after, reached_ok, pass
 
 pub tail_depth : (inner : List Table) (k : ℕ) → length inner ≡ suc k → length (scopes.tail inner) ≡ k
 tail_depth inner k e = search arith fits 100
-
--- a list of parameters in a scope of its own
-left_params_passes : (c x : Context) → Passes (entered c) x → Passes c (left_params x)
-left_params_passes c x p = search (arith, left_safe, tail_depth, first_safe)
 
 abbrev Kept : Bool → ℕ → Context → Context → Type 0
 Kept deep n c d = Safe c.scopes → Passes c d
@@ -122,8 +101,8 @@ passes_step = record {
   retags = λ deep tags c s. tags_changed c tags s;
   enumerates = λ deep name value c s. after_passes name (n.Constant i.Int value) c refl tt s;
   names = λ deep name c s. named_passes (Some (tag_name name)) (n.Tag (Int i.Int)) c refl tt s;
-  takes = λ name type c h s. with_param_passes name type c s;
-  lists = λ deep n parts c x q h s. left_params_passes c x.0 (h (entered_safe c.scopes s));
+  takes = λ name type c h s. counted_passes c _ (either_way (Passes c) (is_prototype c.scopes) (named_passes name (n.Object type 0) c refl tt s) (either_way (Passes c) (next_is_memory type c) (memory_param_passes name type c s) (register_param_passes name type c s)));
+  lists = λ deep n parts c x q h s. search (arith, left_safe, tail_depth);
   unlists = λ deep c s. passes_beside c _ refl refl refl (stays_beside c _ s refl refl refl refl refl (λ h x. refl) refl (tied_refl c.functions c.scopes.file c.walked) (λ h name type i e. e));
 }
 
@@ -190,13 +169,6 @@ with_param_levels name type c deep = let r = by (is_prototype c.scopes) in recor
 
 -- constants, specs and declarators
 
-pub with_type_levels : (answer : Checked (names.Context × PlainType)) (b c : Context) → Reached (After (asked c)) answer → Levels b c → Reached (Levels b) (with_type answer c)
-with_type_levels answer b c g p = reached_after (Levels b) answer (λ x h. reached_ok (Levels b) (levels_trans b c _ p (told_levels x.0 c (g x h))))
-
--- a list of parameters in a scope of its own
-left_levels : (c x : Context) → Levels (entered c) x → Levels c (left_params x)
-left_levels c x p = record { settled = record { variables = p.settled.variables; literals = p.settled.literals; objects = p.settled.objects }; depth = tail_depth x.scopes.inner (length c.scopes.inner) p.depth }
-
 -- a parameter list stands in a scope
 abbrev least : Bool → ℕ
 least true = 1
@@ -214,12 +186,12 @@ levels_step = record {
   enumerates = λ deep name value c h. beside_levels c _ refl refl (declared_objects c.scopes name _ (with_name_objects c.scopes name (n.Constant i.Int value) tt)) (after_depth c.scopes name _);
   names = λ deep name c h. beside_levels c _ refl refl (with_name_objects c.scopes (tag_name name) (n.Tag (Int i.Int)) tt) (with_name_depth c.scopes (tag_name name) _);
   takes = λ name type c named h. with_param_levels name type c h;
-  lists = λ deep n parts c x q p h. left_levels c x.0 (p (omega arith));
+  lists = λ deep n parts c x q p h. record { settled = record { variables = (p (omega arith)).settled.variables; literals = (p (omega arith)).settled.literals; objects = (p (omega arith)).settled.objects }; depth = tail_depth x.0.scopes.inner (length c.scopes.inner) (p (omega arith)).depth };
   unlists = λ deep c h. beside_levels c _ refl refl (λ name type i e. e) refl;
 }
 
 pub param_levels : (line : ℕ) (name : Option (List ℕ)) (type : PlainType) (b c : Context) → 1 ≤ length c.scopes.inner → Levels b c → Reached (Levels b) (param line name type c)
-param_levels line name type b c deep p z q = levels_trans b c z.0 p (param_keeps Any KeptObjects levels_step line name type c (any_name name) z q deep)
+param_levels line name type b c deep p z q = levels_trans b c z.0 p (param_keeps Any KeptObjects levels_step line name type c (search arith fits 100) z q deep)
 
 pub specs_level : (tree : Tree) (b c : Context) → Levels b c → Reached (Levels b) (specs tree c)
 specs_level tree b c p z q = levels_trans b c z.0 p (specs_keep Any KeptObjects levels_step false tree c (any_names tree) z q (omega arith))
@@ -243,9 +215,6 @@ pub record Fills (t : Target) (b : Context) (x : Context × Target) : Type 0 whe
   pub passes : IsLocal t → Passes b x.0
   pub same : IsLocal t → IsLocal x.1
 
-pub fills_refl : (t : Target) (c : Context) → Safe c.scopes → Fills t c (c, t)
-fills_refl t c s = record { stays = (passes_refl c s).stays; passes = λ h. passes_refl c s; same = λ h. h }
-
 fills_trans : (t u v : Target) (b c d : Context) → Fills t b (c, u) → Fills u c (d, v) → Fills t b (d, v)
 fills_trans t u v b c d x y = record {
   stays = stays_trans b c d x.stays y.stays;
@@ -262,9 +231,6 @@ static_fills start filled b c s = record { stays = s; passes = λ h. absurd h; s
 
 grows_place : (line mem offset : ℕ) (c : Context) → Grows c (member_place line mem offset c).0
 grows_place line mem offset c = grows_pointer line (λ p. Off p (atom.Mem mem) (pos offset)) c (λ p. tt)
-
-grows_copy : (line : ℕ) (type : PlainType) (a : Atom) (place : Context × Atom) → Grows place.0 (copy_to line type a place)
-grows_copy line type a place = grows_emit line (Copy place.1 a (pos (size_or_zero place.0 type))) place.0 tt
 
 -- leaves
 
@@ -304,7 +270,7 @@ fill_record_fills e line type offset b d (InMemory at mem) s g =
     led_ok (Fills (InMemory at mem) b)
     (local_fills (InMemory at mem) b (closed e (copy_to at type (atom_in d.1) place)) s
     (grows_closed e b (copy_to at type (atom_in d.1) place) s
-    (grows_trans (opened e b) d.0 _ g (grows_trans d.0 place.0 _ (grows_place at mem offset d.0) (grows_copy at type (atom_in d.1) place)))))
+    (grows_trans (opened e b) d.0 _ g (grows_trans d.0 place.0 _ (grows_place at mem offset d.0) (grows_emit at (Copy place.1 (atom_in d.1) (pos (size_or_zero place.0 type))) place.0 tt)))))
 fill_record_fills e line type offset b d t s g = led_refused (Fills t b)
 
 whole_fills : (e : Tree) (line : ℕ) (type : PlainType) (offset : ℕ) (t : Target) (b : Context) → Safe b.scopes → Led (Fills t b) (whole e line type offset t b)
@@ -357,7 +323,7 @@ mutual
   initialize_fills tree in_scalar type offset t b s = led_refused (Fills t b)
 
   parts_fill : (inits : Trees) (line : ℕ) (in_scalar : Bool) (parts : List (PlainType × ℕ)) (t : Target) (b : Context) → Safe b.scopes → Led (Fills t b) (initialize_parts line inits in_scalar parts t b)
-  parts_fill none line in_scalar parts t b s = led_ok (Fills t b) (fills_refl t b s)
+  parts_fill none line in_scalar parts t b s = led_ok (Fills t b) (record { stays = (passes_refl b s).stays; passes = λ h. passes_refl b s; same = λ h. h })
   parts_fill (init ▹ rest) line in_scalar [] t b s = led_after (Fills t b) (all_surplus (init ▹ rest) b) (λ d h. led_refused (Fills t b))
   parts_fill (init ▹ rest) line in_scalar (part ∷ parts) t b s =
       led_after (Fills t b) (initialize init in_scalar part.0 part.1 t b)
@@ -370,9 +336,6 @@ pub record Introduced (name : List ℕ) (index : ℕ) (c d : Context) : Type 0 w
   pub passes : Passes c d
   pub type : PlainType
   pub there : named_in name d.scopes.file ≡ Some (n.Function type index)
-
-unless_ok : {A : Type 0} (test : Bool) (kind : TypeKind) (line : ℕ) (x d : A) → unless test kind line (good x) ≡ Ok d → x ≡ d
-unless_ok test kind line x d h = search (arith, never, ok_same) fits 100
 
 refused_first : (R : Context → Type 0) (line : ℕ) (x : Checked Context) (next : Context → Checked Context) → Led R (then (unless true DeclaredTwice line x) next)
 refused_first R line x next d h = never (R d) _ d h
@@ -418,7 +381,7 @@ module _ (line : ℕ) (name : List ℕ) (type : PlainType) (c : Context) (file :
       (led_ok (Introduced name (number None) flat) (first_one e (nat_lt (length c.functions) (length c.functions)) refl)))
   introduced_by (Some (n.Function t j)) e =
       led_after (Introduced name j flat) (unless (is_twice_in true (n.Function type j) (Some (n.Function t j))) DeclaredTwice line (Ok (scopes_for (Some (n.Function t j)))))
-      (λ d h. subst (λ (x : Context). Led (Introduced name j flat) (Ok (with_function j name x))) (unless_ok (is_twice_in true (n.Function type j) (Some (n.Function t j))) DeclaredTwice line flat d h)
+      (λ d h. subst (λ (x : Context). Led (Introduced name j flat) (Ok (with_function j name x))) (search (arith, never, ok_same) fits 100)
       (led_ok (Introduced name j flat) (again t j e (nat_lt j (length c.functions)) refl)))
   introduced_by (Some other) e = refused_first (Introduced name (number (Some other)) flat) line (Ok (scopes_for (Some other))) (λ d. Ok (with_function (number (Some other)) name d))
 
@@ -457,17 +420,14 @@ fill_at_passes line type inits (Local register) c s = fill_register_passes line 
 fill_at_passes line type inits (Memory mem) c s = fill_memory_passes line type inits mem c s
 fill_at_passes line type inits other c s = led_ok (Passes c) (passes_refl c s)
 
-led_on : (b c : Context) (r : Checked Context) → Passes b c → Led (Passes c) r → Led (Passes b) r
-led_on b c r p h d e = passes_trans b c d p (h d e)
-
 local_object_passes : (line : ℕ) (name : List ℕ) (type : PlainType) (inits : Trees) (b c : Context) → Passes b c → Led (Passes b) (local_object line name type inits c)
 local_object_passes line name type inits b c p =
     let x = with_local name type c in
-    let q : Passes c x.0 = with_local_passes name type c p.stays.safe in
+    let q : Passes c x.0 = counted_passes c _ (local_in_passes (next_is_memory type c) name type c p.stays.safe) in
     led_unless (Passes b) (is_function type) LeftOut line (λ e1.
     led_unless (Passes b) (has_no_size c.tags type) Incomplete line (λ e2.
     led_unless (Passes b) (is_twice c.scopes name (n.Object type 0)) DeclaredTwice line (λ e3.
-    led_on b x.0 _ (passes_trans b c x.0 p q) (fill_at_passes line type inits x.1 x.0 q.stays.safe))))
+    (λ d e. passes_trans b x.0 d (passes_trans b c x.0 p q) ((fill_at_passes line type inits x.1 x.0 q.stays.safe) d e)))))
 
 local_name_passes : (line : ℕ) (storage : Storage) (name : List ℕ) (type : PlainType) (inits : Trees) (b c : Context) → Passes b c → Led (Passes b) (local_name line storage name type inits c)
 local_name_passes line Typedef name type inits b c p = declared_passes line name (n.Typedef type) b c refl tt p
@@ -480,30 +440,11 @@ no_initializer_stays : (inits : Trees) (c : Context) → Safe c.scopes → Led (
 no_initializer_stays none c s = led_ok (Stays c) (passes_refl c s).stays
 no_initializer_stays (init ▹ rest) c s = led_after (Stays c) (surplus init c) (λ d h. led_refused (Stays c))
 
--- the layout of a variable is that of its type
-same_size : (layout : Option Layout) → (unwrap_or layout no_layout).size ≡ unwrap_or (option_map (λ (l : Layout). l.size) layout) 0
-same_size layout = search arith fits 100
-
-more_variable_bytes : (variables : List Variable) (v : Variable) → variable_bytes (variables ++ v ∷ []) ≡ variable_bytes variables + block_size v.layout.size
-more_variable_bytes variables v = grind (arith, sum_by-append, variable_bytes)
-
-new_variable_stays : (line : ℕ) (name : List ℕ) (type : PlainType) (c : Context) → Safe c.scopes → length c.scopes.inner ≡ 0 → Led (Stays c) (with_new_variable line name type c)
-new_variable_stays line name type c s flat = grind (arith, true, false, ok_same, tied_refl, more_variable_bytes, same_size, ltb-false)
-
-variable_stays : (line index : ℕ) (name : List ℕ) (type : PlainType) (c : Context) → Safe c.scopes → length c.scopes.inner ≡ 0 → Led (Stays c) (with_variable line index name type c)
-variable_stays line index name type c s flat = either_way (Led (Stays c)) (nat_lt index (length c.variables)) (led_ok (Stays c) (passes_refl c s).stays) (new_variable_stays line name type c s flat)
-
 set_bytes : (variables : List Variable) (index : ℕ) (v : Variable) (start : Option Start) → slice_get variables index ≡ Some v → variable_bytes (slice_set variables index (record v { start = start })) ≡ variable_bytes variables
 set_bytes (x ∷ xs) (suc i) v start e =
     let size : Variable → ℕ = λ (y : Variable). block_size y.layout.size in
     sum_by-cons size x (slice_set xs i (record v { start = start })) ∙ ap (λ k. size x + k) (set_bytes xs i v start e) ∙ sym (sum_by-cons size x xs)
 set_bytes variables index v start e = search (arith, sum_by-cons) fits 100
-
-started_bytes : (variables : List Variable) (index : ℕ) (start : Start) (v : Option Variable) → slice_get variables index ≡ v → variable_bytes (started_variable index start v variables) ≡ variable_bytes variables
-started_bytes variables index start v e = search (arith, set_bytes) fits 100
-
-started_stays : (index : ℕ) (d : Context × Target) → Safe d.0.scopes → length d.0.scopes.inner ≡ 0 → Stays d.0 (started index d)
-started_stays index d s flat = search (arith, tied_refl, started_bytes)
 
 fill_variable_stays : (line index : ℕ) (type : PlainType) (inits : Trees) (c : Context) → Safe c.scopes → length c.scopes.inner ≡ 0 → Led (Stays c) (fill_variable line index type inits c)
 fill_variable_stays line index type none c s flat = led_ok (Stays c) (passes_refl c s).stays
@@ -511,7 +452,7 @@ fill_variable_stays line index type (init ▹ rest) c s flat =
     led_unless (Stays c) (is_some (start_of (slice_get c.variables index))) DeclaredTwice line (λ q.
     led_after (Stays c) (initialize init false type 0 (InStatic no_start) c)
     (λ d h. let one = (initialize_fills init false type 0 (InStatic no_start) c s d h).stays in
-    led_ok (Stays c) (stays_trans c d.0 _ one (started_stays index d one.safe (one.depth ∙ flat)))))
+    led_ok (Stays c) (stays_trans c d.0 _ one (search (arith, tied_refl, set_bytes)))))
 
 file_object_stays : (line : ℕ) (name : List ℕ) (type : PlainType) (inits : Trees) (c : Context) → Safe c.scopes → length c.scopes.inner ≡ 0 → Led (Stays c) (file_object line name type inits c)
 file_object_stays line name type inits c s flat =
@@ -520,7 +461,7 @@ file_object_stays line name type inits c s flat =
     led_after (Stays c) (declared_as line name (n.Object type index) c)
     (λ d h. let one = (declared_passes line name (n.Object type index) c c refl tt (passes_refl c s) d h).stays in
     led_after (Stays c) (with_variable line index name type d)
-    (λ v k x e. let two = variable_stays line index name type d one.safe (one.depth ∙ flat) v k in
+    (λ v k x e. let two = (either_way (Led (Stays d)) (nat_lt index (length d.variables)) (led_ok (Stays d) (passes_refl d one.safe).stays) (grind (arith, true, false, ok_same, tied_refl, sum_by-append, variable_bytes, ltb-false))) v k in
     stays_trans c v x (stays_trans c d v one two) (fill_variable_stays line index type inits v two.safe (two.depth ∙ one.depth ∙ flat) x e))))
 
 file_function_stays : (line : ℕ) (name : List ℕ) (type : PlainType) (inits : Trees) (c : Context) → Safe c.scopes → length c.scopes.inner ≡ 0 → Led (Stays c) (file_function line name type inits c)

@@ -1,7 +1,5 @@
 -- The first bytes and pointers of statics fill their layouts.
-use Rattle.std.proofs.Common.{◌≡◌, ◌≤◌, ◌+◌, ◌*◌, not, ℕ, Bool, true, false, cond, take, List, [], ◌∷◌, Option, Some, None, Ok, refl, sym, ap, ◌∙◌, subst, arith, length-take, ◌<◌, ◌++◌, ◌==◌, ◌&&◌, is_some, nat_lt, All, length, slice_get, slice_set, unwrap_or, ⊎_elim, bytes_eq}
-use Rattle.std.proofs.lemmas.Bool.{ltb-true, ltb-false, eqb-true}
-use Rattle.std.specs.List.{find}
+use Rattle.core_soundness.proofs.Words.Std.{◌≡◌, ◌≤◌, ◌+◌, ◌*◌, not, ℕ, Bool, true, false, cond, take, List, [], ◌∷◌, Option, Some, None, Ok, refl, sym, ap, ◌∙◌, subst, arith, length-take, ◌<◌, ◌++◌, ◌==◌, ◌&&◌, is_some, nat_lt, All, length, slice_get, slice_set, unwrap_or, ⊎_elim, bytes_eq, ltb-true, ltb-false, eqb-true, find, reverse-reverse}
 use Rattle.core_soundness.proofs.Words.Trees.{name_of, Tree, Trees, At, Node, none, ◌▹◌, count}
 use Rattle.core_soundness.proofs.Words.Types.{layout_of, number_layout, pointer_layout, array_layout, Known, no_layout, CompletedTag, known, TagTable, layout_in, PlainType, Void, Int, Pointer, Array, Struct, Union, Function, width_of, Layout, TagInfo, IntType, built_ins, numbered_from, line_of, typed, string, PlainNamed, unconverted, refused, then, unless, Table, named_in, is_null_constant, is_function, has_no_size, same, BuiltIn, Assignment, DeclaredTwice, Incomplete, StaticTooLarge, Folded, Is, is_built_in}
 use Rattle.core_soundness.proofs.Words.Core.{low_bits, block_size, IsStatic, Core, Start}
@@ -21,7 +19,7 @@ use Rattle.core_soundness.proofs.PointedTexts.{set_stay, before_level, function_
 use Rattle.core_soundness.proofs.Ranged.{fit_of, value_gone, opened_widens, K}
 use Rattle.core_soundness.proofs.RangedFound.{rises_refl}
 use Rattle.core_soundness.proofs.Scopes.{none_fits, Safe, get_left, get_last, get_push, get_below, set_get, Pushed, push_get, no_scope}
-use Rattle.core_soundness.proofs.Seats.{LayoutsAreSound, Has, Seat, has_row, Filled, filled_more, filled_bytes, filled_pointer, bytes_of_length, Proper, AllProper, PartsSeated, parts_end, parts_seated, seat_whole, filled_trimmed, MembersProper}
+use Rattle.core_soundness.proofs.Seats.{LayoutsAreSound, Has, Seat, has_row, Filled, filled_more, filled_bytes, filled_pointer, bytes_of_length, Proper, AllProper, PartsSeated, parts_end, parts_seated, MembersProper, trimmed_length, cut_same}
 use Rattle.core_soundness.proofs.SolidFills.{declared_function_rises, variable_rises, init_layers_whole, entry_rises, before_rises}
 use Rattle.core_soundness.proofs.SolidLayers.{has_size, declared_rises, typedef_rises, layers_rise}
 use Rattle.core_soundness.proofs.SolidTexts.{external_rises, begun_rises, first_solid, core_layouts}
@@ -45,9 +43,6 @@ kept_refl c h = record { solid = h; completed = refl }
 
 kept_trans : (a b c : Context) → Kept a b → Kept b c → Kept a c
 kept_trans a b c x y = record { solid = y.solid; completed = y.completed ∙ x.completed }
-
-opened_kept : (e : Tree) (c : Context) → Solid c → Kept c (opened e c)
-opened_kept e c h = record { solid = (opened_widens e c h).solid; completed = either_way (λ (x : Context). x.tags.completed ≡ c.tags.completed) (reallocates c.scopes e) refl refl }
 
 value_kept : (e : Tree) (wish : PlainType) (c : Context) (z : Context × Found) → Solid c → valued e (found e wish c) ≡ Ok z → Kept c z.0
 value_kept e wish c z h q =
@@ -120,7 +115,7 @@ module _ (ts : List CompletedTag) (room : ℕ) (slots : List ℕ) where
   scalar_fills : (e : Tree) (line : ℕ) (type : PlainType) (offset low : ℕ) (l : Layout) (target : Target) (c : Context) → NoAggregate type → Solid c → layout_of (known ts) type ≡ Some l → low ≤ offset → Seat room slots offset l → TargetFilled slots low target → Led (Fills slots (offset + l.size) c) (scalar e line type offset target c)
   scalar_fills e line type offset low l target c a solid q k seat h =
       let begun = opened e c in
-      let o = opened_kept e c solid in
+      let o : Kept c (opened e c) = record { solid = (opened_widens e c solid).solid; completed = either_way (λ (x : Context). x.tags.completed ≡ c.tags.completed) (reallocates c.scopes e) refl refl } in
       led_after (Fills slots (offset + l.size) c) (valued e (found e type begun))
       (λ d r. led_barred (Fills slots (offset + l.size) c) (unconverted type d.1.typed) line
       (fill_filled e line type offset low l begun.code target c d a q k seat (kept_trans c begun d.0 o (value_kept e type begun d o.solid r)) h))
@@ -204,13 +199,10 @@ found_body made (t ∷ ts) tag done h e = by (t.tag == tag) refl (λ k. found_bo
         subst (λ (x : CompletedTag). (x.tag ≡ tag) × BodySorted made x) same (eqb-true t.tag tag q, h.0)
     by false q again k = again k
 
-info_same : (a b : TagInfo) → Some a ≡ Some b → a ≡ b
-info_same a b e = cc
-
 proper_type : (made : List TagInfo) (ts : List CompletedTag) (type : PlainType) → BodiesSorted made ts → SortedType made type → Proper ts type
 proper_type made ts (Struct tag) h s = λ done e.
     let b = found_body made ts tag done h e in
-    let same : b.1.0.0 ≡ s.0 = info_same b.1.0.0 s.0 (sym b.1.0.1 ∙ (ap (slice_get made) b.0 ∙ s.1)) in
+    let same : b.1.0.0 ≡ s.0 = cc in
     b.1.0.2 ∙ (ap (λ (x : TagInfo). x.is_union) same ∙ s.2)
 proper_type made ts (Array element m) h s = proper_type made ts element h s
 proper_type made ts other h s = tt
@@ -241,13 +233,10 @@ fitted_on c d s x h = record {
 there_of : (c : Context) → Fitted c → There c
 there_of c h name type i e = let r = h.objects name type i e in (r.0, r.1)
 
-same_known : (c d : Context) → d.tags.completed ≡ c.tags.completed → Extends (K c) (K d)
-same_known c d e tag l q = ap (λ (ts : List CompletedTag). known ts tag) e ∙ q
-
 -- an initializer of a variable
 
 target_filled : (slots : List ℕ) (high : ℕ) (t : Target) → TargetFilled slots high t → Filled slots high (start_in t)
-target_filled slots high (InStatic start) h = filled_trimmed slots high start h
+target_filled slots high (InStatic start) h = search (arith, trimmed_length, cut_same, reverse-reverse)
 target_filled slots high other h = absurd h
 
 objects_set : (k : Known) (vs ws : List Variable) (file : Table) → VariablesStay vs ws → LaidObjects k vs file → LaidObjects k ws file
@@ -276,8 +265,8 @@ fill_fitted line index type (init ▹ rest) c v solid ks st h at laid =
     led_unless Fitted (is_some (start_of (slice_get c.variables index))) DeclaredTwice line
     (λ t. led_after Fitted (initialize init false type 0 (InStatic no_start) c)
     (λ d q. let points = initialize_points init false type 0 (InStatic no_start) c (there_of c h) tt d q in
-    let fills = initialize_fills h.sound ts (all_proper c.tags.made ts ks.bodies) l.size l.slots init false type 0 0 l (InStatic no_start) c solid refl (proper_type c.tags.made ts type ks.bodies st) laid (omega arith) (seat_whole l) (nothing_filled l.slots 0) d q in
-    let near = fitted_on c d.0 points.0 (same_known c d.0 fills.0.completed) h in
+    let fills = initialize_fills h.sound ts (all_proper c.tags.made ts ks.bodies) l.size l.slots init false type 0 0 l (InStatic no_start) c solid refl (proper_type c.tags.made ts type ks.bodies st) laid (omega arith) (search arith) (nothing_filled l.slots 0) d q in
+    let near = fitted_on c d.0 points.0 (λ tag l q. ap (λ (ts : List CompletedTag). known ts tag) fills.0.completed ∙ q) h in
     let here : slice_get d.0.variables index ≡ Some v = subst (λ (vs : List Variable). slice_get vs index ≡ Some v) (sym points.0.variables) at in
     led_ok Fitted (start_fitted index d.0 (start_in d.1) v here near (filled_more l.slots (0 + l.size) l.size (start_in d.1) (omega arith) (target_filled l.slots (0 + l.size) d.1 fills.1)))))
 
@@ -355,13 +344,10 @@ module _ (name : List ℕ) (type : PlainType) (c : Context) (file : Table) where
       below true w less = refl
       below false w less = absurd (omega (arith, less, ltb-false i (length c.variables) w))
 
-  first_placed : (line : ℕ) (d x : Context) → is_some (layout_in c.tags type) ≡ true → Fitted outer → unless false DeclaredTwice line (good (pushed (length c.variables))) ≡ Ok d → with_variable line (length c.variables) name type d ≡ Ok x → Placed (length c.variables) type x
-  first_placed line d x s h q k = search (arith, ok_same, nat_lt, new_placed, ltb-true) fits 100
-
   placed_by : (line : ℕ) (o : Option PlainNamed) (d x : Context) → named_in name file ≡ o → is_some (layout_in c.tags type) ≡ true → Fitted outer
       → unless (is_twice_in true (n.Object type (index_of o)) o) DeclaredTwice line (good (record outer { scopes = cond (is_some o) outer.scopes (record { file = file ++ (name, n.Object type (index_of o)) ∷ []; inner = [] }) })) ≡ Ok d
       → with_variable line (index_of o) name type d ≡ Ok x → Placed (index_of o) type x
-  placed_by line None d x e s h q k = first_placed line d x s h q k
+  placed_by line None d x e s h q k = search (arith, ok_same, nat_lt, new_placed, ltb-true) fits 100
   placed_by line (Some (n.Object t i)) d x e s h q k = again_placed line i t d x e h q k
   placed_by line (Some (n.Register t i)) d x e s h q k = never (Placed (index_of (Some (n.Register t i))) type x) _ d q
   placed_by line (Some (n.Function t i)) d x e s h q k = never (Placed (index_of (Some (n.Function t i))) type x) _ d q

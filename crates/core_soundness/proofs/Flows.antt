@@ -1,7 +1,5 @@
 -- How control flows through code: marks of labels, bodies, and fragments that are put one behind another.
-use Rattle.std.proofs.Common.{◌≡◌, ◌⊎◌, ◌≤◌, ◌<◌, ◌+◌, ℕ, false, cond, nat_eq, List, [], ◌∷◌, ◌++◌, refl, sym, ap, ◌∙◌, subst, arith, inl, inr, eq-eqb, ne_eqb, zero, suc, Bool, true, length, Option, Some, option_map, slice_get, slice_index_or, All, Contains, ⊎_elim, eqb-true, true≢false}
-use Rattle.std.proofs.lemmas.Bool.{eqb-false}
-use Rattle.std.proofs.lemmas.List.Elements.{All-nil, All-cons}
+use Rattle.core_soundness.proofs.Words.Std.{◌≡◌, ◌⊎◌, ◌≤◌, ◌<◌, ◌+◌, ℕ, false, cond, nat_eq, List, [], ◌∷◌, ◌++◌, refl, sym, ap, ◌∙◌, subst, arith, inl, inr, eq-eqb, ne_eqb, zero, suc, Bool, true, length, Option, Some, option_map, slice_get, slice_index_or, All, Contains, ⊎_elim, eqb-true, true≢false, eqb-false, All-nil, All-cons}
 use Rattle.core_soundness.proofs.Words.Core.{EachStatement, LeadsOn, HasScopes, Opens, start, goes, scopes_after, edges, edges_of_lib, Atom, LibName, Stm, StmKind, Jump, Zero, Case, Loop, Enter, Leave, Return}
 use Rattle.core_soundness.proofs.Words.Elaborating.{Piece, Does, Here, Numbers, numbered, atom_by, point_in, body_of}
 
@@ -83,12 +81,9 @@ targets_append Q [] b x y = y
 targets_append Q (Does stm ∷ a) b x y = (x.0, targets_append Q a b x.1 y)
 targets_append Q (Here l ∷ a) b x y = targets_append Q a b x y
 
-target_map : (Q R : ℕ → Type 0) (kind : StmKind) → ((l : ℕ) → Q l → R l) → Target Q kind → Target R kind
-target_map Q R kind f h = search arith fits 100
-
 pub targets_map : (Q R : ℕ → Type 0) (a : List Piece) → ((l : ℕ) → Q l → R l) → Targets Q a → Targets R a
 targets_map Q R [] f h = tt
-targets_map Q R (Does stm ∷ a) f h = (target_map Q R stm.kind f h.0, targets_map Q R a f h.1)
+targets_map Q R (Does stm ∷ a) f h = (search arith fits 100, targets_map Q R a f h.1)
 targets_map Q R (Here l ∷ a) f h = targets_map Q R a f h
 
 pub places_append : (Q : ℕ → Type 0) (a b : List Piece) → Places Q a → Places Q b → Places Q (a ++ b)
@@ -123,13 +118,10 @@ flows_append m (Does stm ∷ a) b p n j k x y =
     (x.0, x.1, flows_append m a b (p + 1) x.0 j k x.2 (flows_at m b (p + (steps a + 1)) (p + 1 + steps a) j k (omega arith) y))
 flows_append m (Here l ∷ a) b p n j k x y = (x.0, x.1, flows_append m a b p n j k x.2 y)
 
-goes_agree : (l : ℕ) (m other : Marks) (kind : StmKind) (p n k : ℕ) → Agree l m other → Target (λ t. t < l) kind → Goes m kind p n k → Goes other kind p n k
-goes_agree l m other kind p n k same below h = search arith fits 100
-
 pub flows_agree : (l : ℕ) (m other : Marks) (a : List Piece) (p n k : ℕ) → Agree l m other → Targets (λ t. t < l) a → Places (λ t. t < l) a → Flows m a p n k → Flows other a p n k
 flows_agree l m other [] p n k same targets places h = h
 flows_agree l m other (Does stm ∷ a) p n k same targets places h =
-    (h.0, goes_agree l m other stm.kind p n h.0 same targets.0 h.1, flows_agree l m other a (p + 1) h.0 k same targets.1 places h.2)
+    (h.0, search arith fits 100, flows_agree l m other a (p + 1) h.0 k same targets.1 places h.2)
 flows_agree l m other (Here t ∷ a) p n k same targets places h =
     (same.points t places.0 ∙ h.0, same.depths t places.0 ∙ h.1, flows_agree l m other a p n k same targets places.1 h.2)
 
@@ -172,11 +164,8 @@ placed_below Q l (Here k ∷ a) h (inr p) = placed_below Q l a h.1 p
 none_of : (x : ℕ) → Contains [] x → ⊥
 none_of x h = omega (arith, h.1)
 
-one_at : (a x k : ℕ) → k < 1 → slice_index_or (a ∷ []) k x ≡ x → x ≡ a
-one_at a x k h e = search arith fits 100
-
 one_of : (a x : ℕ) → Contains (a ∷ []) x → x ≡ a
-one_of a x h = one_at a x h.0 h.1 h.2
+one_of a x h = search arith fits 100
 
 two_at : (a b x k : ℕ) → k < 2 → slice_index_or (a ∷ b ∷ []) k x ≡ x → (x ≡ a) ⊎ (x ≡ b)
 two_at a b x k h e = search arith fits 100
@@ -198,22 +187,16 @@ module _ (num : Numbers) where
 
   -- edges
 
-  lib_inside : (name : LibName) (point long : ℕ) → point + 1 < long → All (λ next. next < long) (edges_of_lib name point)
-  lib_inside name point long h = search (arith, one_all) fits 100
-
   kind_inside : (kind : StmKind) (point long : ℕ) → Target (λ l. num.point l < long) kind → point + 1 < long → All (λ next. next < long) (edges (numbered num kind) point)
   unfolding numbered
   kind_inside (Jump l) point long t h = one_all (λ next. next < long) (num.point l) t
-  kind_inside kind point long t h = search (arith, two_all, one_all, lib_inside) fits 100
-
-  lib_ahead : (name : LibName) (point : ℕ) → All (λ next. point < next) (edges_of_lib name point)
-  lib_ahead name point = search (arith, one_all) fits 100
+  kind_inside kind point long t h = search (arith, two_all, one_all) fits 100
 
   module _ (m : Marks) where
     kind_ahead : (kind : StmKind) (point n k : ℕ) → Goes m kind point n k → Target (λ l. num.point l ≡ m.point l) kind → LeadsOn point (numbered num kind)
     unfolding numbered
     kind_ahead (Jump l) point n k h t = one_all (λ next. point < next) (num.point l) (omega (arith, h.1, t))
-    kind_ahead kind point n k h t = search (arith, two_all, lib_ahead, one_all) fits 100
+    kind_ahead kind point n k h t = search (arith, two_all, one_all) fits 100
 
     lib_goes : (depth : ℕ → ℕ) (name : LibName) (point n next : ℕ) → n ≡ depth (point + 1) → Contains (edges_of_lib name point) next → n ≡ depth next
     lib_goes depth name point n next e h = search (arith, none_of, one_of) fits 100
@@ -494,9 +477,6 @@ nothing ws n low high = record {
 }
 
 module _ (ws : List Way) (n low middle high : ℕ) (a b : List Piece) (s t : List ℕ) where
-  goes_both : Targets (λ l. Placed l a ⊎ IsWay ws l) a → Targets (λ l. Placed l b ⊎ IsWay ws l) b → Targets (λ l. Placed l (a ++ b) ⊎ IsWay ws l) (a ++ b)
-  goes_both one other = search (arith, targets_append, targets_map, placed_left, placed_right)
-
   flows_both : AreEarlier low ws → low ≤ middle → Fragment ws n low middle a s → Fragment ws n middle high b t
       → (m : Marks) (p : ℕ) → Leads m (p + steps (a ++ b)) ws → Made low n p m (a ++ b) (s ++ t)
   flows_both early le f g m p lead =
@@ -516,7 +496,7 @@ module _ (ws : List Way) (n low middle high : ℕ) (a b : List Piece) (s t : Lis
   -- one fragment behind another
   pub joined : AreEarlier low ws → low ≤ middle → middle ≤ high → Fragment ws n low middle a s → Fragment ws n middle high b t → Fragment ws n low high (a ++ b) (s ++ t)
   joined early le le2 f g = record {
-    goes = goes_both f.goes g.goes;
+    goes = search (arith, targets_append, targets_map, placed_left, placed_right);
     targets = targets_append _ a b (targets_map _ _ a (λ l h. omega (arith, h)) f.targets) g.targets;
     places = places_append _ a b (places_map _ _ a (λ l h. omega (arith, h)) f.places) g.places;
     placed = placed_append s t a b f.placed g.placed;
@@ -594,27 +574,14 @@ IsPlain kind = Unit {0}
 plain_target : (Q : ℕ → Type 0) (kind : StmKind) → IsPlain kind → Target Q kind
 plain_target Q kind h = search arith fits 100
 
-plain_goes : (m : Marks) (kind : StmKind) (p n : ℕ) → IsPlain kind → Goes m kind p n n
-plain_goes m kind p n h = search arith fits 100
-
 pub plain : (n low high : ℕ) (stm : Stm) → IsPlain stm.kind → Fragment [] n low high (Does stm ∷ []) []
 plain n low high stm h = record {
   goes = (plain_target _ stm.kind h, tt);
   targets = (plain_target _ stm.kind h, tt);
   places = tt;
   placed = tt;
-  flows = λ m p lead. record { marks = m; same = agree_refl low m; flow = (n, plain_goes m stm.kind p n h, refl); entered = tt };
+  flows = λ m p lead. record { marks = m; same = agree_refl low m; flow = (n, search arith fits 100, refl); entered = tt };
 }
-
--- a way out is taken where a number is zero
-pub zero_leaves : (ws : List Way) (n low high line l : ℕ) (a : Atom) → l < high → Fragment (way_on l n ∷ ws) n low high (Does (stm_at line (Zero a l)) ∷ []) []
-zero_leaves ws n low high line l a le = search (arith, agree_refl)
-
-pub jump_leaves : (ws : List Way) (n low high line l : ℕ) → l < high → Fragment (way_on l n ∷ ws) n low high (Does (stm_at line (Jump l)) ∷ []) []
-jump_leaves ws n low high line l le = search (arith, agree_refl)
-
-pub loop_leaves : (ws : List Way) (n low high line l : ℕ) → l < high → Fragment (way_back l n ∷ ws) n low high (Does (stm_at line (Loop l)) ∷ []) []
-loop_leaves ws n low high line l le = grind (arith, agree_refl)
 
 -- a scope of its own round a fragment
 pub in_scope : (ws : List Way) (n low high line at : ℕ) (a : List Piece) → Fragment ws (n + 1) low high a [] → Fragment ws n low high (Does (stm_at line Enter) ∷ (a ++ (Does (stm_at at Leave) ∷ []))) []

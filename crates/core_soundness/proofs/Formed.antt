@@ -1,9 +1,6 @@
 -- What the grammar says of trees.
-use Rattle.std.proofs.Common.{◌≡◌, Bool, true, false, IsSome, ◌⊎◌, replicate, ◌≤◌, ℕ, zero, suc, List, [], ◌∷◌, ◌++◌, All, refl, sym, ap, ◌∙◌, subst, arith, ◌||◌, nat_le, not}
-use Rattle.std.proofs.lemmas.Bool.{eqb-true, and_parts}
-use Rattle.std.proofs.lemmas.List.Elements.{All-tail}
-use Rattle.std.proofs.lemmas.Bool.{false≢true}
-use Rattle.core_soundness.proofs.Words.Trees.{IsToken, IsLexed, Token, TokenKind, Takes, IsBase, IsDeclarator, Allowed, AllAllowed, IsExternal, AreExternals, Tally, with_keyword, with_word, tally, is_one_type, are_specs, obeys, is_none, Form, Item, Says, Here, Part, key, shape, form_home, keyword_home, home, rows, some, commas, behind_commas, some_commas, expr, HasTree, Place, name_of, has_typedef, params_of, Scope, leads_to_name, places, params_among, suffix_params, first_scope, is_scope, after, left, Piece, Said, Line, filled, spell, spell_all, IsWord, Spells, Tree, Trees, Leaf, At, Node, none, ◌▹◌, count, Word, Keyword}
+use Rattle.core_soundness.proofs.Words.Std.{◌≡◌, Bool, true, false, IsSome, ◌⊎◌, replicate, ◌≤◌, ℕ, zero, suc, List, [], ◌∷◌, ◌++◌, All, refl, sym, ap, ◌∙◌, subst, arith, eqb-true, and_parts, All-tail, false≢true}
+use Rattle.core_soundness.proofs.Words.Trees.{IsToken, IsLexed, Token, TokenKind, Takes, IsBase, IsDeclarator, Allowed, AllAllowed, IsExternal, AreExternals, Tally, with_keyword, with_word, tally, are_specs, obeys, Form, Item, Says, Here, Part, key, shape, form_home, keyword_home, home, rows, some, commas, behind_commas, some_commas, expr, HasTree, Place, name_of, has_typedef, params_of, Scope, leads_to_name, places, params_among, suffix_params, first_scope, is_scope, after, left, Piece, Said, Line, filled, spell, spell_all, IsWord, Spells, Tree, Trees, Leaf, At, Node, none, ◌▹◌, count, Word}
 use Rattle.core_soundness.proofs.Words.Facts.{HasLists, HasParameters, IsDefinition, WordNames, Names, AllNames, IsHeld, HasParts, Written, AllWritten, Each, AreWritten}
 use Rattle.c_lexer.specs.Cutting.{ConstantsFit}
 use Rattle.c_lexer.specs.declared.token.TokenKind.TheVariants as kind
@@ -131,12 +128,9 @@ takes_word p.MaybeInit = false
 takes_word p.Entry = false
 takes_word place = true
 
-word_taken : (word : Word) → takes_word (home (Leaf word)) ≡ true
-unfolding keyword_home
-word_taken word = search arith fits 100
-
 no_word : (word : Word) (place : Place) → takes_word place ≡ false → home (Leaf word) ≡ place → ⊥
-no_word word place e h = false≢true (sym e ∙ ap takes_word (sym h) ∙ word_taken word)
+unfolding keyword_home
+no_word word place e h = false≢true (sym e ∙ ap takes_word (sym h) ∙ (search arith fits 100))
 
 abbrev takes_node : Place → Bool
 takes_node p.Line = false
@@ -144,18 +138,11 @@ takes_node p.Str = false
 takes_node p.Name = false
 takes_node place = true
 
-node_taken : (form : Form) → takes_node (form_home form) ≡ true
-unfolding form_home
-node_taken form = search arith fits 100
-
 no_node : (form : Form) (place : Place) → takes_node place ≡ false → form_home form ≡ place → ⊥
-no_node form place e h = false≢true (sym e ∙ ap takes_node (sym h) ∙ node_taken form)
+unfolding form_home
+no_node form place e h = false≢true (sym e ∙ ap takes_node (sym h) ∙ (search arith fits 100))
 
 -- parameter lists
-
-suffixes_alone : (form : Form) → form_home form ≡ p.Suffixes → form ≡ f.Suffixes
-unfolding form_home
-suffixes_alone form e = search arith fits 100
 
 no_list : {G : Type 0} → false ≡ true → G
 no_list e = cc
@@ -186,13 +173,13 @@ line_parts (At line ▹ tree ▹ none) place scope a = (line, tree, refl)
 
 -- a base with suffixes behind it
 pub base_parts : (parts : Trees) (scope : Scope) → AllAllowed parts (p.Base ∷ p.Suffixes ∷ []) scope → (base : Tree) × (suffixes : Trees) × (parts ≡ (base ▹ Node f.Suffixes suffixes ▹ none))
-unfolding AllAllowed Takes
+unfolding AllAllowed Takes form_home
 base_parts none scope a = absurd a
 base_parts (base ▹ none) scope a = absurd a.2
 base_parts (base ▹ Leaf word ▹ rest) scope a = absurd (no_word word p.Suffixes refl a.2.0)
 base_parts (base ▹ At line ▹ rest) scope a = let e : p.Line ≡ p.Suffixes = a.2.0 in cc
 base_parts (base ▹ Node form parts ▹ (more ▹ rest)) scope a = absurd a.2.2
-base_parts (base ▹ Node form parts ▹ none) scope a = (base, parts, ap (λ (x : Form). base ▹ Node x parts ▹ none) (suffixes_alone form a.2.0))
+base_parts (base ▹ Node form parts ▹ none) scope a = (base, parts, ap (λ (x : Form). base ▹ Node x parts ▹ none) (search arith fits 100))
 
 -- the parameters of a part alone
 pub alone : (tree : Tree) → IsSome (params_among (tree ▹ none)) → IsSome (params_of tree)
@@ -271,12 +258,9 @@ at_most parts place scope a = search arith fits 100
 
 -- specs
 
-keyword_whole : (keyword : Keyword) (t : Tally) → (with_keyword keyword t).whole ≡ t.whole
-unfolding with_keyword
-keyword_whole keyword t = search arith fits 100
-
 word_whole : (word : Word) (t : Tally) → (with_word word t).whole ≡ t.whole
-word_whole word t = search (arith, keyword_whole) fits 100
+unfolding with_keyword
+word_whole word t = search arith fits 100
 
 no_nodes : (parts : Trees) → (tally parts).whole ≡ 0 → NoNodes parts
 unfolding tally
@@ -292,13 +276,6 @@ one_node (Leaf word ▹ rest) h = one_node rest (subst (λ (n : ℕ). n ≤ 1) (
 one_node (At line ▹ rest) h = one_node rest h
 one_node (Node form parts ▹ rest) h = no_nodes rest (omega (arith, h))
 
-one_type : (t : Tally) → is_one_type t ≡ true → t.whole ≤ 1
-one_type t h = grind (arith, true, eqb-true, and_parts, false)
-
-specs_whole : (t : Tally) → are_specs t ≡ true → t.whole ≤ 1
-unfolding are_specs
-specs_whole t h = one_type t (and_parts (is_one_type t) (nat_le t.storage 1) h).0
-
 -- declarators
 
 -- where a layer of a declarator may stand
@@ -311,9 +288,6 @@ Layering place = ⊥
 
 declarator_layering : (place : Place) → IsDeclarator place → Layering place
 declarator_layering place h = search arith fits 100
-
-base_layering : (place : Place) → IsBase place → Layering place
-base_layering place h = search arith fits 100
 
 layer_formed : (tree : Tree) (scope : Scope) → Layering (home tree) → Allowed tree scope → IsLayer tree
 unfolding Allowed AllAllowed shape form_home
@@ -331,31 +305,21 @@ members_formed (tree ▹ rest) scope a = (layer_formed tree scope (declarator_la
 
 -- suffixes
 
-length_form : (form : Form) → form_home form ≡ p.MaybeLength → form ≡ f.MaybeLength
-unfolding form_home
-length_form form e = search arith fits 100
-
-params_form : (form : Form) → form_home form ≡ p.Params → form ≡ f.Params
-unfolding form_home
-params_form form e = search arith fits 100
-
 length_formed : (tree : Tree) (scope : Scope) → home tree ≡ p.MaybeLength → Allowed tree scope → (parts : Trees) × (tree ≡ Node f.MaybeLength parts) × AtMostOne parts
-unfolding Allowed AllAllowed shape
+unfolding Allowed AllAllowed shape form_home
 length_formed (Leaf word) scope h a = absurd (no_word word p.MaybeLength refl h)
-length_formed tree scope h a = search (arith, at_most, length_form) fits 100
+length_formed tree scope h a = search (arith, at_most) fits 100
 
 params_formed : (tree : Tree) → home tree ≡ p.Params → (parts : Trees) × (tree ≡ Node f.Params parts)
+unfolding form_home
 params_formed (Leaf word) h = absurd (no_word word p.Params refl h)
 params_formed (At line) h = let e : p.Line ≡ p.Params = h in cc
-params_formed (Node form parts) h = (parts, ap (λ (x : Form). Node x parts) (params_form form h))
-
-array_formed : (line : ℕ) (parts : Trees) → AtMostOne parts → IsSuffix (Node f.ArraySuffix (At line ▹ Node f.MaybeLength parts ▹ none))
-array_formed line parts h = search arith fits 100
+params_formed (Node form parts) h = (parts, ap (λ (x : Form). Node x parts) (search arith fits 100))
 
 suffix_formed : (tree : Tree) (scope : Scope) → home tree ≡ p.Suffix → Allowed tree scope → IsSuffix tree
 unfolding Allowed AllAllowed Takes shape form_home
 suffix_formed (Leaf word) scope h a = absurd (no_word word p.Suffix refl h)
-suffix_formed tree scope h a = search (arith, line_parts, length_formed, array_formed, params_formed, line_alone) fits 100
+suffix_formed tree scope h a = search (arith, line_parts, length_formed, params_formed, line_alone) fits 100
 
 suffixes_formed : (trees : Trees) (scope : Scope) → AllAllowed trees (places (rows p.Suffix (count trees))) scope → AreSuffixes trees
 unfolding AllAllowed Takes
@@ -373,26 +337,19 @@ typedef_begun : (words : Tree) (scope : Scope) → of_typedefs words ≡ true �
 unfolding after left
 typedef_begun words scope h = search arith fits 100
 
-init_form : (form : Form) → form_home form ≡ p.MaybeInit → form ≡ f.MaybeInit
-unfolding form_home
-init_form form e = search arith fits 100
-
 entry_parts : (parts : Trees) (scope : Scope) → AllAllowed parts (p.Declared ∷ p.MaybeInit ∷ []) scope → (declared : Tree) × (inits : Trees) × (parts ≡ (declared ▹ Node f.MaybeInit inits ▹ none))
-unfolding AllAllowed Takes
+unfolding AllAllowed Takes form_home
 entry_parts none scope a = absurd a
 entry_parts (declared ▹ none) scope a = absurd a.2
 entry_parts (declared ▹ Leaf word ▹ rest) scope a = absurd (no_word word p.MaybeInit refl a.2.0)
 entry_parts (declared ▹ At line ▹ rest) scope a = let e : p.Line ≡ p.MaybeInit = a.2.0 in cc
 entry_parts (declared ▹ Node form parts ▹ (more ▹ rest)) scope a = absurd a.2.2
-entry_parts (declared ▹ Node form parts ▹ none) scope a = (declared, parts, ap (λ (x : Form). declared ▹ Node x parts ▹ none) (init_form form a.2.0))
-
-no_init : (inits : Trees) (typedef : Bool) → not typedef || is_none inits ≡ true → typedef ≡ true → inits ≡ none
-no_init inits typedef h e = search arith fits 100
+entry_parts (declared ▹ Node form parts ▹ none) scope a = (declared, parts, ap (λ (x : Form). declared ▹ Node x parts ▹ none) (search arith fits 100))
 
 entry_alone : (tree : Tree) (rest : Trees) (scope : Scope) → home tree ≡ p.Entry → Allowed tree scope → scope.typedef ≡ true → NoInits rest → NoInits (tree ▹ rest)
 unfolding Allowed AllAllowed Takes shape form_home is_scope obeys
 entry_alone (Leaf word) rest scope h a e n = absurd (no_word word p.Entry refl h)
-entry_alone tree rest scope h a e n = search (arith, entry_parts, typedef_kept, no_init) fits 100
+entry_alone tree rest scope h a e n = search (arith, entry_parts, typedef_kept) fits 100
 
 entries_behind : (entries : Trees) (scope : Scope) → AllAllowed entries (places (behind_commas p.Entry (count entries))) scope → scope.typedef ≡ true → NoInits entries
 unfolding AllAllowed Takes is_scope
@@ -403,33 +360,25 @@ entries_alone : (entries : Trees) (scope : Scope) → AllAllowed entries (places
 entries_alone none scope a e = tt
 entries_alone (tree ▹ rest) scope a e = entries_behind (tree ▹ rest) scope a e
 
-local_formed : (line words : Tree) (entries : Trees) (scope : Scope) → AllAllowed (line ▹ words ▹ Node f.Names entries ▹ none) (p.Line ∷ p.Specs ∷ p.Names ∷ []) scope → of_typedefs words ≡ true → NoInits entries
-unfolding Allowed AllAllowed shape is_scope
-local_formed line words entries scope a h = entries_alone entries _ a.2.2.1.1 (typedef_begun words (after line scope) h)
-
-for_formed : (words : Tree) (entries : Trees) (scope : Scope) → AllAllowed (words ▹ Node f.Names entries ▹ none) (p.Specs ∷ p.SomeNames ∷ []) scope → of_typedefs words ≡ true → NoInits entries
-unfolding Allowed AllAllowed shape is_scope
-for_formed words entries scope a h = entries_alone entries _ a.2.1.1 (typedef_begun words scope h)
-
 -- nodes
 
 shaped : (form : Form) (parts : Trees) (scope : Scope) → obeys form parts scope ≡ true → AllAllowed parts (places (shape form (count parts))) scope → Shaped form parts
-unfolding shape obeys Allowed AllAllowed Takes Shaped
+unfolding shape obeys Allowed AllAllowed Takes Shaped are_specs is_scope
 shaped f.Strings parts scope o a = strings_formed parts scope a
 shaped f.Empty parts scope o a = line_alone parts scope a
 shaped f.MaybeName (tree ▹ rest) scope o a = name_alone (tree ▹ rest) scope a
-shaped f.Specs parts scope o a = one_node parts (specs_whole (tally parts) o)
+shaped f.Specs parts scope o a = one_node parts (grind (arith, true, eqb-true, and_parts, false))
 shaped f.MaybeExpr (tree ▹ rest) scope o a = at_most (tree ▹ rest) expr scope a
 shaped f.MaybeInit (tree ▹ rest) scope o a = at_most (tree ▹ rest) p.Init scope a
 shaped (f.Pointer consts) (line ▹ declarator ▹ none) scope o a = search (arith, behind_stars, layer_formed, declarator_layering)
-shaped f.Direct (base ▹ Node f.Suffixes suffixes ▹ none) scope o a = (layer_formed base scope (base_layering (home base) a.0) a.1, suffixes_formed suffixes _ a.2.1.1)
+shaped f.Direct (base ▹ Node f.Suffixes suffixes ▹ none) scope o a = (layer_formed base scope (search arith fits 100) a.1, suffixes_formed suffixes _ a.2.1.1)
 shaped f.Parens (line ▹ declarator ▹ none) scope o a = layer_formed declarator _ (subst Layering (sym a.2.0) tt) a.2.1
 shaped f.Typename (line ▹ words ▹ declarator ▹ none) scope o a = layer_formed declarator _ (declarator_layering (home declarator) a.2.2.0.0) a.2.2.1
 shaped f.Param (line ▹ words ▹ declarator ▹ none) scope o a = layer_formed declarator _ (declarator_layering (home declarator) a.2.2.0) a.2.2.1
 shaped f.MemberNames declarators scope o a = members_formed declarators scope a
 shaped f.Declared (declarator ▹ none) scope o a = (layer_formed declarator scope (declarator_layering (home declarator) a.0.0) a.1, a.0.1)
-shaped f.Local (line ▹ words ▹ Node f.Names entries ▹ none) scope o a = local_formed line words entries scope a
-shaped f.ForNames (words ▹ Node f.Names entries ▹ none) scope o a = for_formed words entries scope a
+shaped f.Local (line ▹ words ▹ Node f.Names entries ▹ none) scope o a = λ h. entries_alone entries _ a.2.2.1.1 (typedef_begun words (after line scope) h)
+shaped f.ForNames (words ▹ Node f.Names entries ▹ none) scope o a = λ h. entries_alone entries _ a.2.1.1 (typedef_begun words scope h)
 shaped form parts scope o a = tt
 
 external_params : (tree : Tree) (scope : Scope) → IsExternal tree scope → HasParams tree

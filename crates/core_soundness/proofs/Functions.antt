@@ -1,5 +1,5 @@
 -- Each function of a core is sound, and so is the core.
-use Rattle.std.proofs.Common.{◌≡◌, Ok}
+use Rattle.core_soundness.proofs.Words.Std.{◌≡◌, Ok}
 use Rattle.c_lexer.specs.Cutting.{ConstantsFit}
 use Rattle.core_soundness.proofs.Words.Trees.{Trees}
 use Rattle.core_soundness.proofs.Words.Types.{TagTable}

@@ -1,16 +1,15 @@
 -- How the context grows while a text is walked, and what answers lead to.
-use Rattle.std.proofs.Common.{◌≡◌, ◌≤◌, ◌+◌, ℕ, List, [], ◌∷◌, ◌++◌, length, slice_get, Some, sum_by, refl, sym, ap, ◌∙◌, arith, append_assoc, append-nil, Bool, true, false, cond, is_some, subst, ⊎_elim, Ok, Err, Option, ltb-false, ◌⊎◌, ◌<◌, inl, inr, ◌||◌}
-use Rattle.std.proofs.lemmas.List.Sums.{sum_by-append}
+use Rattle.core_soundness.proofs.Words.Std.{◌≡◌, ◌≤◌, ◌+◌, ℕ, List, [], ◌∷◌, ◌++◌, length, slice_get, Some, sum_by, refl, sym, ap, ◌∙◌, arith, append_assoc, append-nil, Bool, true, false, cond, is_some, subst, ⊎_elim, Ok, Err, Option, ltb-false, ◌⊎◌, ◌<◌, inl, inr, ◌||◌, sum_by-append}
 use Rattle.core_soundness.proofs.Words.Trees.{Tree, Trees, Leaf, At, Node, none, ◌▹◌}
 use Rattle.core_soundness.proofs.Words.Types.{PlainType, wanted, string, PlainNamed, Checked, Refusal, refused, then, unless, ScopeList, Table, named_in, innermost, with_name, after_declaration, barred, PlainTyped, is_void, TypeKind}
 use Rattle.core_soundness.proofs.Words.Core.{block_size, Atom, Stm, StmKind, Free, Enter, Leave, Jump, Zero}
-use Rattle.core_soundness.proofs.Words.Elaborating.{with_format, asked, Piece, Does, Code, Context, Variable, told, emit, integer_by, pointer_by, With, Here, here, with_labels, anew, Found, unused, valued, cast_operand, calls_realloc, reallocates, any_reallocates, opened, closed, with_literal}
+use Rattle.core_soundness.proofs.Words.Elaborating.{with_format, asked, Piece, Does, Code, Context, Variable, told, emit, integer_by, pointer_by, With, Here, here, with_labels, anew, Found, unused, valued, cast_operand, reallocates, any_reallocates, opened, closed, with_literal}
 use Rattle.c_tree.specs.Forms as f
 use Rattle.c_decls.specs.Expressions as types
 use Rattle.c_decls.specs.Named as n
 use Rattle.c_decls.specs.TypeNames as names
 use Rattle.core_soundness.proofs.Flows.{Fragment, IsPlain, nothing, joined, plain, agree_refl, Marks, Targets, Places, Placed, steps, Agree, agree_trans, steps_append, targets_append, targets_map, places_append, places_map, placed_left, placed_right, flows_append, flows_agree, marked, Way, IsWay, Leads, AreEarlier, leads_less, leads_agree, earlier_less, Made, stm_at, in_scope}
-use Rattle.core_soundness.proofs.Scopes.{More, more_refl, more_trans, MoreTags, push_get, get_left, Safe, SafeTable, same_frees, more_safe, Tied, tied_trans, tied_same, more_keeps, more_depth}
+use Rattle.core_soundness.proofs.Scopes.{More, more_refl, more_trans, push_get, get_left, Safe, SafeTable, more_safe, Tied, tied_trans, tied_same, more_keeps, more_depth, found_same}
 use Rattle.core_soundness.proofs.Choices.{either_way, some_same}
 
 -- what elaborating an expression does to what is known: its code is a fragment with no way out but its end
@@ -147,30 +146,17 @@ settled_refl c = record { variables = refl; literals = λ i w e. e; objects = λ
 pub settled_trans : (a b c : Context) → Settled a b → Settled b c → Settled a c
 settled_trans a b c x y = grind arith
 
--- expressions declare tags alone
-no_tag : (tag type : PlainType) (i : ℕ) → n.Tag tag ≡ n.Object type i → ⊥
-no_tag tag type i e = cc
-
-pub more_objects : (f g : Table) → MoreTags f g → ObjectsStay f g
-more_objects f g m name type i e = search (arith, no_tag, some_same)
-
 pub grows_settled : (c d : Context) → Grows c d → Settled c d
-grows_settled c d g = record { variables = g.kept.variables; literals = g.kept.literals; objects = more_objects c.scopes.file d.scopes.file g.names.file }
+grows_settled c d g = record { variables = g.kept.variables; literals = g.kept.literals; objects = (λ name type i e. search (arith, some_same)) }
 
 -- names that are declared
 abbrev pub IsNoObject : PlainNamed → Type 0
 IsNoObject (n.Object type i) = ⊥
 IsNoObject other = Unit {0}
 
-no_object_is : (v : PlainNamed) (type : PlainType) (i : ℕ) → IsNoObject v → v ≡ n.Object type i → ⊥
-no_object_is v type i h e = subst IsNoObject e h
-
-pub push_objects : (key : List ℕ) (v : PlainNamed) (t : Table) → IsNoObject v → ObjectsStay t (t ++ (key, v) ∷ [])
-push_objects key v t h name type i e = search (arith, no_object_is, push_get)
-
 -- no object, or inside a scope of its own
 pub with_name_objects : (s : ScopeList) (key : List ℕ) (v : PlainNamed) → IsNoObject v → ObjectsStay s.file (with_name s key v).file
-with_name_objects s key v h = grind (arith, push_objects)
+with_name_objects s key v h = grind (arith, push_get)
 
 pub inner_objects : (s : ScopeList) (key : List ℕ) (v : PlainNamed) → 1 ≤ length s.inner → ObjectsStay s.file (with_name s key v).file
 inner_objects s key v h = grind arith
@@ -293,15 +279,8 @@ grows_free line a c = record {
 
 -- literals
 
-more_bytes : (literals : List (List ℕ)) (bytes : List ℕ) → literal_bytes (literals ++ bytes ∷ []) ≡ literal_bytes literals + block_size (length bytes + 1)
-more_bytes literals bytes = grind (arith, sum_by-append)
-
-with_one_literal : (c : Context) (bytes : List ℕ) → c.static_bytes + block_size (length bytes + 1) ≤ 67108864
-    → Grows c (record c { static_bytes = c.static_bytes + block_size (length bytes + 1); literals = c.literals ++ bytes ∷ [] })
-with_one_literal c bytes small = search (arith, grows_by, more_refl, get_left, more_bytes)
-
 pub grown_literal : (line : ℕ) (bytes : List ℕ) (b c : Context) → Grows b c → Grown b (with_literal line bytes c)
-grown_literal line bytes b c g = grind (arith, true, false, ok_same, grows_trans, with_one_literal, ltb-false)
+grown_literal line bytes b c g = grind (arith, true, false, ok_same, grows_trans, grows_by, more_refl, get_left, sum_by-append, ltb-false)
 
 -- code that goes one of two ways
 
@@ -374,12 +353,9 @@ module _ (ws : List Way) (n low middle high : ℕ) (a : Atom) (line at one other
       let small2 : other < high = omega arith in
       places_append _ first rest (places_map _ _ first (λ l h. omega (arith, h)) f.places) (small, places_append _ second (Here other ∷ []) g.places (small2, tt))
 
-  fork_long : steps code ≡ steps first + steps second + 2
-  fork_long = omega (arith, steps_append first rest, steps_append second (Here other ∷ []))
-
   fork_made : (m : Marks) (p : ℕ) → Leads m (p + steps code) ws → Made low n p m code []
   fork_made m p lead =
-      let long = fork_long in
+      let long : steps code ≡ steps first + steps second + 2 = omega (arith, steps_append first rest, steps_append second (Here other ∷ [])) in
       let p1 : ℕ = p + 1 in
       let p2 : ℕ = p + 1 + steps first + 1 in
       let p3 : ℕ = p2 + steps second in
@@ -418,11 +394,6 @@ module _ (ws : List Way) (n low middle high : ℕ) (a : Atom) (line at one other
   pub fork_fragment : Fragment ws n low high code []
   fork_fragment = record { goes = fork_goes; targets = fork_targets; places = fork_places; placed = tt; flows = fork_made }
 
--- pieces that are put behind others one after another
-pub forked_behind : (start first second : List Piece) (line : ℕ) (a : Atom) (one at other : ℕ)
-    → ((((((start ++ (Does (stm_at line (Zero a one)) ∷ [])) ++ first) ++ (Does (stm_at at (Jump other)) ∷ [])) ++ (Here one ∷ [])) ++ second) ++ (Here other ∷ [])) ≡ start ++ forked line a one first at other second
-forked_behind start first second line a one at other = simp append_assoc
-
 pub grows_fork : (t r s : Context) (line at : ℕ) (a : Atom)
     → Grows (emit line (Zero a t.code.labels) (with_labels 2 t)) r
     → Grows (here t.code.labels (emit at (Jump (t.code.labels + 1)) r)) s
@@ -430,7 +401,7 @@ pub grows_fork : (t r s : Context) (line at : ℕ) (a : Atom)
 grows_fork t r s line at a g h = record {
   pieces = forked line a t.code.labels g.pieces at (t.code.labels + 1) h.pieces;
   code = ap (λ (l : List Piece). l ++ (Here (t.code.labels + 1) ∷ [])) (h.code ∙ ap (λ (l : List Piece). ((l ++ (Does (stm_at at (Jump (t.code.labels + 1))) ∷ [])) ++ (Here t.code.labels ∷ [])) ++ h.pieces) g.code)
-      ∙ forked_behind t.code.pieces g.pieces h.pieces line a t.code.labels at (t.code.labels + 1);
+      ∙ (simp append_assoc);
   more = omega (arith, g.more, h.more);
   fragment = λ n. fork_fragment [] n t.code.labels r.code.labels s.code.labels a line at t.code.labels (t.code.labels + 1) g.pieces h.pieces
       (λ p q m. in_order t.code.labels p q n m) (omega arith) (omega arith) tt g.more h.more (g.fragment n) (h.fragment n);
@@ -507,9 +478,6 @@ both2 a b c d x y = cc
 both3 : (a b c d e g : Bool) → a ≡ b → c ≡ d → e ≡ g → (a || c || e) ≡ (b || d || g)
 both3 a b c d e g x y z = cc
 
-calls_same : (e : Tree) (s t : ScopeList) → More s t → Safe s → calls_realloc t e ≡ calls_realloc s e
-calls_same e s t m h = search (arith, same_frees) fits 100
-
 mutual
   unfolding reallocates any_reallocates
 
@@ -519,7 +487,7 @@ mutual
   reallocates_same (Node f.SizeofExpr parts) s t m h = refl
   reallocates_same (Node f.Str parts) s t m h = refl
   reallocates_same (Node f.Call (At line ▹ e ▹ arguments)) s t m h =
-      both3 _ _ _ _ _ _ (calls_same e s t m h) (reallocates_same e s t m h) (any_same arguments s t m h)
+      both3 _ _ _ _ _ _ (search (arith, found_same) fits 100) (reallocates_same e s t m h) (any_same arguments s t m h)
   reallocates_same (Node other parts) s t m h = any_same parts s t m h
 
   any_same : (es : Trees) (s t : ScopeList) → More s t → Safe s → any_reallocates t es ≡ any_reallocates s es
@@ -541,11 +509,8 @@ closed_in b c line true s g = record {
   kept = recoded b c (emit line Enter (anew b)).code _ g.kept;
 }
 
-more_cond : (b c : Context) (line : ℕ) (r : Bool) → Grows (cond r (emit line Enter (anew b)) (anew b)) c → More b.scopes c.scopes
-more_cond b c line r g = search arith fits 100
-
 pub grows_closed : (e : Tree) (b c : Context) → Safe b.scopes → Grows (opened e b) c → Grows b (closed e c)
-grows_closed e b c s g = search (arith, reallocates_same, more_cond, closed_in) fits 100
+grows_closed e b c s g = search (arith, reallocates_same, closed_in) fits 100
 
 -- one that is not closed
 pub opened_stays : (e : Tree) (c d : Context) → Safe c.scopes → Grows (opened e c) d → Stays c d

@@ -1,7 +1,5 @@
 -- What expressions declare and leave as it was.
-use Rattle.std.proofs.Common.{◌≡◌, ◌+◌, ℕ, true, false, List, [], ◌∷◌, ◌++◌, reverse, Some, Ok, refl, sym, ap, ◌∙◌, subst, arith, ◌||◌, Bool, Option, None, zero, suc, not, length, ⊎_elim}
-use Rattle.std.proofs.lemmas.Bool.{eq-eqb}
-use Rattle.std.specs.Option.{option_or}
+use Rattle.core_soundness.proofs.Words.Std.{◌≡◌, ◌+◌, ℕ, true, false, List, [], ◌∷◌, ◌++◌, reverse, Some, Ok, refl, sym, ap, ◌∙◌, subst, arith, ◌||◌, Bool, Option, None, zero, suc, not, ⊎_elim, eq-eqb, option_or}
 use Rattle.core_soundness.proofs.Words.Trees.{Form, shape, assign_level, Place, Expression, places, is_scope, Tree, Trees, Leaf, At, Node, none, ◌▹◌, count}
 use Rattle.core_soundness.proofs.Words.Types.{TagTable, PlainType, Void, IntType, call, no_function, Found, line_of, answered, wanted, changing, one, two, callee, first_literal, typed, values, typename, layers, suffix_layers, suffix_layer, param_types, in_new_scope, out_of_scope, unused, cast_operand, promoted, PlainNamed, element, choice, assigned, changed, behind_comma, size, cast, converts, unconverted, Checked, then, ScopeList, found, Table, named_in, found_from, Context, Layer, ArrayOf, FunctionOf, special_type, specs_type, array_length, with_layers, binary, PlainTyped, is_function, Operand, Number, operand, is_scalar, is_void, Constant, LeftOut, Operands, Assignment}
 use Rattle.core_soundness.proofs.Words.Core.{Atom, StmKind, Zero, Leave, Return}
@@ -26,7 +24,7 @@ use Rattle.core_soundness.proofs.Growth.{good, ok_same, never, type_cast_unused,
 use Rattle.core_soundness.proofs.Parameters.{functions, functions_joined, functions_one, functions_reversed, not_function}
 use Rattle.core_soundness.proofs.Scopes.{with_tag_more, More, MoreTags, MoreAll, IsNewTag, more_refl, more_trans, more_depth, left_more, HasScope, scope_more}
 use Rattle.core_soundness.proofs.Sorting.{kept_test, passed, unbarred}
-use Rattle.core_soundness.proofs.Taking.{declares, restores, Held, Still, AllStill, Calm, rows_held, commas_held, here_held, some_held, no_nodes_still, calm_node, calm_address, Has, Inside, left_adds, part_adds, all_taken_adds, among, Numbered, Follows, SameNames, still_names, all_still_names, part_names, drops, Keeps, Same, Fewer, InStep, Stepped, calm_same}
+use Rattle.core_soundness.proofs.Taking.{declares, restores, Held, Still, AllStill, Calm, rows_held, commas_held, some_held, no_nodes_still, calm_node, calm_address, Has, Inside, left_adds, part_adds, all_taken_adds, among, Numbered, Follows, SameNames, still_names, all_still_names, part_names, drops, Keeps, Same, Fewer, InStep, Stepped, calm_same}
 use Rattle.core_soundness.proofs.Walks.{Tagging, constant_keeps, found_grows, grown_unused, grows_convert_integer, grows_tested, grown_valued, grows_convert}
 use Rattle.core_soundness.proofs.Choices.{either_way}
 
@@ -43,9 +41,6 @@ pub shows_both : {A B : Type 0} (P Q : Type 0) (r : Checked A) (next : A → Che
 shows_both P Q r next g h d e = search (arith, never) fits 100
 
 -- operands
-
-cast_shows : (P : Type 0) (type : PlainType) (tree : Tree) (x : Found) → Shows P x → Shows P (cast_operand type tree x)
-cast_shows P type tree x h d q = shows_first P x _ h d (type_cast_unused type tree x d q)
 
 two_shows : (P Q : Type 0) (x : Found) (y : Context → Found) (rule : TagTable → PlainTyped → PlainTyped → Checked PlainTyped) → Shows P x → ((c : Context) → Shows Q (y c)) → Shows (P × Q) (two x y rule)
 two_shows P Q x y rule g h = search (arith, shows_both, shows_first)
@@ -110,7 +105,7 @@ words_still (Node other parts ▹ rest) words line c h d q = (special_still line
 
 specs_still : (at line : ℕ) (words : Trees) (c : Context) → OneNode (At at ▹ words) → Shows (Still (Node f.Specs (At at ▹ words))) (specs_type line words words c)
 unfolding Still AllStill shape
-specs_still at line words c h d q = (refl, here_held p.SpecWord (At at) words, (tt, words_still words words line c h d q))
+specs_still at line words c h d q = (refl, rows_held p.SpecWord words, (tt, words_still words words line c h d q))
 
 -- a declarator without function layers
 
@@ -158,7 +153,7 @@ mutual
   typed_calm (Node f.Cast (At line ▹ name ▹ e ▹ none)) c g d q =
       cast_calm line name e
       (shows_both (Still name) (Calm e) (typename name c) (λ t. one (cast_operand t.1 e (typed e t.0)) (λ tags x. cast line t.1 x)) (typename_still name c g.1.1.0)
-      (λ t h. shows_first (Calm e) (cast_operand t.1 e (typed e t.0)) _ (cast_shows (Calm e) t.1 e (typed e t.0) (typed_calm e t.0 g.1.1.1.0))) d q)
+      (λ t h. shows_first (Calm e) (cast_operand t.1 e (typed e t.0)) _ (λ d q. shows_first (Calm e) (typed e t.0) _ (typed_calm e t.0 g.1.1.1.0) d (type_cast_unused t.1 e (typed e t.0) d q))) d q)
   typed_calm (Node (f.Binary op) (At line ▹ e ▹ x ▹ none)) c g d q =
       binary_calm (f.Binary op) line e x refl refl tt
       (two_shows (Calm e) (Calm x) (wanted e (typed e c)) (λ k. wanted x (typed x k)) (binary line op)
@@ -298,11 +293,8 @@ valued_calm e wish c d g q = unused_calm e wish c d g (valued_unused e (expressi
 pub evaluated_calm : (e : Tree) (c z : TextContext) → Formed e → evaluated e c ≡ Ok z → Calm e
 evaluated_calm e c z g q = search (arith, came, unused_calm)
 
-pub condition_calm : (e : Tree) (c : TextContext) (z : TextContext × Atom) → Formed e → condition e c ≡ Ok z → Calm e
-condition_calm e c z g q = search (arith, came, valued_calm)
-
 pub leaves_calm : (line label : ℕ) (e : Tree) (c z : TextContext) → Formed e → leaves_if_zero line label e c ≡ Ok z → Calm e
-leaves_calm line label e c z g q = search (arith, came, condition_calm)
+leaves_calm line label e c z g q = search (arith, came, valued_calm)
 
 pub operand_calm : (line : ℕ) (e : Tree) (c : TextContext) (z : TextContext × (IntType × Atom)) → Formed e → switch_operand line e c ≡ Ok z → Calm e
 operand_calm line e c z g q = search (arith, came, valued_calm)
@@ -315,9 +307,6 @@ evaluated_spoken e t c z h i w g q = calm_spoken e t c h i w (evaluated_calm e c
 
 pub leaves_spoken : (line label : ℕ) (e : Tree) (t : Taken) (c z : TextContext) → Follows t c → Inside (taken e t).addressed c.running.addressed → Written e → Formed e → leaves_if_zero line label e c ≡ Ok z → Spoken c.scopes e
 leaves_spoken line label e t c z h i w g q = calm_spoken e t c h i w (leaves_calm line label e c z g q)
-
-pub operand_spoken : (line : ℕ) (e : Tree) (t : Taken) (c : TextContext) (z : TextContext × (IntType × Atom)) → Follows t c → Inside (taken e t).addressed c.running.addressed → Written e → Formed e → switch_operand line e c ≡ Ok z → Spoken c.scopes e
-operand_spoken line e t c z h i w g q = calm_spoken e t c h i w (operand_calm line e c z g q)
 
 -- at most one expression
 
@@ -368,9 +357,6 @@ pub closed_keeps : (e : Tree) (c : TextContext) → Keeps c (closed e c)
 closed_keeps e c = either_way (Keeps c) (reallocates c.scopes e) (record { more = more_refl c.scopes; declared = refl; addressed = refl }) (keeps_refl c)
 
 -- expressions, and full expressions
-
-pub found_keeps : (e : Tree) (wish : PlainType) (c : TextContext) (d : TextContext × FoundCode) → expressions.found e wish c ≡ Ok d → Keeps c d.0
-found_keeps e wish c d q = grows_keeps c d.0 (found_grows e wish c c (grows_refl c) d q)
 
 pub unused_keeps : (e : Tree) (wish : PlainType) (c : TextContext) (d : TextContext × FoundCode) → unused_value e (expressions.found e wish c) ≡ Ok d → Keeps c d.0
 unused_keeps e wish c d q = grows_keeps c d.0 (grown_unused e c (expressions.found e wish c) (found_grows e wish c c (grows_refl c)) d q)
@@ -454,11 +440,8 @@ stepped_refl t c h = record { follows = h; addressed = refl; depth = refl; outsi
 pub stepped_trans : (t u v : Taken) (a b c : TextContext) → Stepped t a u b → Stepped u b v c → Stepped t a v c
 stepped_trans t u v a b c x y = record { follows = y.follows; addressed = y.addressed ∙ x.addressed; depth = y.depth ∙ x.depth; outside = λ j name e. x.outside j name (y.outside j name e) }
 
-scope_of : (a b : List Table) → length b ≡ length a → HasScope a → HasScope b
-scope_of a b e h = search arith fits 100
-
 pub stepped_scope : (t u : Taken) (c d : TextContext) → Stepped t c u d → HasScope c.scopes.inner → HasScope d.scopes.inner
-stepped_scope t u c d s h = scope_of c.scopes.inner d.scopes.inner s.depth h
+stepped_scope t u c d s h = search arith fits 100
 
 pub stepped_names : (t u v : Taken) (c d : TextContext) → SameNames u v → Stepped t c u d → Stepped t c v d
 stepped_names t u v c d s x = grind (arith, numbered_kept)
@@ -473,9 +456,6 @@ evaluated_in_step e t c z g h q = calm_step e t c z (evaluated_calm e c z g q) (
 
 pub leaves_in_step : (line label : ℕ) (e : Tree) (t : Taken) (c z : TextContext) → Formed e → InStep t c → leaves_if_zero line label e c ≡ Ok z → InStep (taken e t) z
 leaves_in_step line label e t c z g h q = calm_step e t c z (leaves_calm line label e c z g q) (leaves_keeps line label e c z q) h
-
-pub operand_in_step : (line : ℕ) (e : Tree) (t : Taken) (c : TextContext) (z : TextContext × (IntType × Atom)) → Formed e → InStep t c → switch_operand line e c ≡ Ok z → InStep (taken e t) z.0
-operand_in_step line e t c z g h q = calm_step e t c z.0 (operand_calm line e c z g q) (operand_keeps line e c z q) h
 
 -- a constant
 

@@ -1,6 +1,5 @@
 -- Where expressions are, and of which sort: names, places, operators and choices.
-use Rattle.std.proofs.Common.{◌≡◌, ◌⊎◌, ◌≤◌, ◌+◌, ◌&&◌, ℕ, pos, Bool, true, false, not, cond, is_some, List, [], ◌∷◌, ◌++◌, length, slice_get, Option, Some, None, Ok, refl, sym, ap, ◌∙◌, subst, inl, inr, ⊎_elim, arith, length-append, ◌||◌}
-use Rattle.std.specs.Option.{option_or}
+use Rattle.core_soundness.proofs.Words.Std.{◌≡◌, ◌⊎◌, ◌≤◌, ◌+◌, ◌&&◌, ℕ, pos, Bool, true, false, cond, is_some, List, [], ◌∷◌, ◌++◌, length, slice_get, Option, Some, None, Ok, refl, sym, ap, ◌∙◌, subst, inl, inr, ⊎_elim, arith, length-append, ◌||◌, option_or, and_parts}
 use Rattle.c_types.specs.Types as types
 use Rattle.c_types.specs.declared.types.IntType.TheVariants as i
 use Rattle.core_tree.specs.declared.statements.Atom.TheVariants as atom
@@ -13,11 +12,10 @@ use Rattle.core_soundness.proofs.Agreeing.{came}
 use Rattle.core_soundness.proofs.Growth.{good, ok_same, never, behind_test}
 use Rattle.core_soundness.proofs.Scopes.{more_refl}
 use Rattle.core_soundness.proofs.Sorting.{holds_grew, pieces_grew, Goes, goes_refl, goes_forgotten, Gives, gives_on, gives_integer, Sits, Lands, Comes, comes_lands, HasValue, Converting, converted, tested_value_gives, passed, kept_test, moved_is, beside_is, Makes, before_gives, member_gives, move_gives, IsPointed, IsBetween, LeftOf, binary_makes, goes_trans, goes_emit, goes_here, goes_labels, gives_pointer, Apart, held_as_grew}
-use Rattle.std.proofs.lemmas.Bool.{and_parts}
 use Rattle.core_soundness.proofs.Words.Trees.{Tree, BinaryOp, UnaryOp}
-use Rattle.core_soundness.proofs.Words.Types.{TagTable, PlainMember, PlainType, IntType, built_ins, named, built_in_named, built_in_value, string, PlainNamed, cast, cast_types, element, element_types, dot, arrow, arrow_of, member_among, choice, choice_types, chosen_pointer, refused, Table, named_in, found_from, found as declaration, unary, unary_of, unary_on_integer, unary_type, binary, logical, PlainTyped, Operand, Number, PointerTo, Neither, operand, place, value, constant, is_scalar, is_null_constant, is_void, same, BuiltIn, Constant, TypeTooLarge, StaticTooLarge, Operands}
+use Rattle.core_soundness.proofs.Words.Types.{TagTable, PlainType, IntType, built_ins, named, built_in_named, built_in_value, string, PlainNamed, cast, element, element_types, dot, arrow, arrow_of, choice, choice_types, chosen_pointer, refused, Table, named_in, found_from, found as declaration, unary, unary_of, unary_type, binary, logical, PlainTyped, Operand, Number, PointerTo, Neither, operand, place, value, constant, is_scalar, is_null_constant, is_void, same, BuiltIn, Constant, TypeTooLarge, StaticTooLarge, Operands}
 use Rattle.core_soundness.proofs.Words.Core.{block_size, Integer, Pointer, Sort, Atom, Cmp, Set, Zero, Jump}
-use Rattle.core_soundness.proofs.Words.Elaborating.{Context, literal_object, local_register, Code, emit, here, with_labels, new_label, integer_by, Found, Spot, Local, Memory, Value, Fixed, Unknown, Nowhere, found_as, atom_in, code_line, convert, forget, tested_value, name_answer, literal_answer, address_answer, working, move_pointer, combine, combined, fixed_sum, moved_by, offset_of, constant_found, object_found, built_in_found, name_found, is_inner, with_static, with_literal, literal_found, at_address, with_value, indexed, dotted, target_of, pointed, negated, before_number, apply, applied, tells_equal, is_pointer_ahead, is_pointer_operand, ahead, left_operand, between, cast_fixed, cast_to, set_again, compare_again, and_then, and_ends, and_ended, or_else, or_ends, or_ended, choice_spot, choice_found, chosen_by, choose_first, choose_last, chosen}
+use Rattle.core_soundness.proofs.Words.Elaborating.{Context, literal_object, local_register, Code, emit, here, with_labels, new_label, integer_by, Found, Spot, Local, Memory, Value, Fixed, Unknown, Nowhere, found_as, atom_in, code_line, convert, forget, tested_value, name_answer, literal_answer, address_answer, working, combine, combined, fixed_sum, moved_by, offset_of, constant_found, object_found, built_in_found, name_found, is_inner, with_static, with_literal, literal_found, at_address, with_value, indexed, dotted, target_of, pointed, negated, before_number, apply, applied, tells_equal, is_pointer_ahead, is_pointer_operand, ahead, left_operand, between, cast_fixed, cast_to, set_again, compare_again, and_then, and_ends, and_ended, or_else, or_ends, or_ended, choice_spot, choice_found, chosen_by, choose_first, choose_last, chosen}
 use Rattle.core_soundness.proofs.Words.Facts.{World, world, Holds, HeldAs, Held, StandsAs, Stands, IsObject, is_variable, is_literal, is_local, InnerFits, FileFits, NamesFit, local_sort, type_sort, TablesFit}
 use Rattle.core_soundness.proofs.Choices.{not_false}
 
@@ -81,9 +79,6 @@ constant_lands c e z h = subst (Lands c) (ok_same (c, constant_found (constant e
 
 -- literals
 
-more_statics : (c : Context) (bytes : List ℕ) (k : ℕ) → Goes c (record c { static_bytes = k; literals = c.literals ++ bytes ∷ [] })
-more_statics c bytes k = search (arith, length-append, more_refl, pieces_grew)
-
 pub record Literal (c : Context) (d : Context × ℕ) : Type 0 where
   pub goes : Goes c d.0
   pub there : IsObject (world d.0) d.1
@@ -96,7 +91,7 @@ literal_there line bytes c d h =
     let last : good (record s.value { literals = s.value.literals ++ bytes ∷ [] }, literal_object (length c.literals)) ≡ Ok d = s.last in
     let same : (record c { static_bytes = k; literals = c.literals ++ bytes ∷ [] }, literal_object (length c.literals)) ≡ d =
     ap (λ (x : Context). (record x { literals = x.literals ++ bytes ∷ [] }, literal_object (length c.literals))) e ∙ ok_same _ d last in
-    subst (Literal c) same (record { goes = more_statics c bytes k; there = is_literal (length c.literals) refl (omega (arith, length-append c.literals (bytes ∷ []))) })
+    subst (Literal c) same (record { goes = (search (arith, length-append, more_refl, pieces_grew)); there = is_literal (length c.literals) refl (omega (arith, length-append c.literals (bytes ∷ []))) })
 
 pub string_lands : (line : ℕ) (bytes : List ℕ) (c : Context) (z : Context × Found) → literal_answer line bytes c ≡ Ok z → Lands c z
 string_lands line bytes c z h =
@@ -114,29 +109,17 @@ string_lands line bytes c z h =
 pub in_memory : (w : World) (type : PlainType) (spot : Spot) (e : Found) → e.spot ≡ spot → is_scalar type ≡ false → StandsAs w true type spot → Holds w Pointer (atom_in e)
 in_memory w type spot e q s h = search arith fits 100
 
--- a pointer in hand is a place
-at_lands : (c : Context) (type : PlainType) (fixed : Fixed) (d : Context × Atom) → Gives c Pointer d → Lands c (at_address (place type) fixed d)
-at_lands c type fixed d g = record { goes = g.goes; stands = g.holds; apart = tt }
-
 IsPlaced : PlainTyped → Type 0
 IsPlaced typed = (type : PlainType) × (place type ≡ typed)
 
 at_place : (c : Context) (typed : PlainTyped) (fixed : Fixed) (d : Context × Atom) (z : Context × Found) → IsPlaced typed → Gives c Pointer d → good (at_address typed fixed d) ≡ Ok z → Lands c z
 unfolding IsPlaced
-at_place c typed fixed d z p g h = subst (Lands c) (ap (λ (t : PlainTyped). at_address t fixed d) p.1 ∙ ok_same _ z h) (at_lands c p.0 fixed d g)
-
-added_first : (line : ℕ) (c : Context) (target : PlainType) (ty : IntType) (p q : Atom) → Gives c Pointer (move_pointer line bin.Add target p q c) → Gives c Pointer (combine line bin.Add c.code (PointerTo target) (Number ty) p q c)
-unfolding working
-added_first line c target ty p q g = g
-
-added_last : (line : ℕ) (c : Context) (target : PlainType) (ty : IntType) (p q : Atom) → Gives c Pointer (move_pointer line bin.Add target q p c) → Gives c Pointer (combine line bin.Add c.code (Number ty) (PointerTo target) p q c)
-unfolding working
-added_last line c target ty p q g = g
+at_place c typed fixed d z p g h = subst (Lands c) (ap (λ (t : PlainTyped). at_address t fixed d) p.1 ∙ ok_same _ z h) (record { goes = g.goes; stands = g.holds; apart = tt })
 
 element_moves : (line : ℕ) (c : Context) (s t : Operand) (typed : PlainTyped) (p q : Atom) → 1 ≤ line → element_types line c.tags s t ≡ Ok typed → HeldAs (world c) s p → HeldAs (world c) t q → IsPlaced typed × Gives c Pointer (combine line bin.Add c.code s t p q c)
-unfolding IsPlaced
-element_moves line c (PointerTo target) (Number ty) typed p q l e h k = ((target, moved_is line c.tags target (place target) typed e), added_first line c target ty p q (move_gives line bin.Add target p q c l h k))
-element_moves line c (Number ty) (PointerTo target) typed p q l e h k = ((target, moved_is line c.tags target (place target) typed e), added_last line c target ty p q (move_gives line bin.Add target q p c l k h))
+unfolding IsPlaced working
+element_moves line c (PointerTo target) (Number ty) typed p q l e h k = ((target, moved_is line c.tags target (place target) typed e), (move_gives line bin.Add target p q c l h k))
+element_moves line c (Number ty) (PointerTo target) typed p q l e h k = ((target, moved_is line c.tags target (place target) typed e), (move_gives line bin.Add target q p c l k h))
 element_moves line c others other typed p q l e h k = never _ _ typed e
 
 pub indexed_lands : (line : ℕ) (c : Context) (x y : Found) (z : Context × Found) → 1 ≤ line → HasValue (world c) x → HasValue (world c) y → indexed line c x y ≡ Ok z → Lands c z
@@ -145,12 +128,9 @@ indexed_lands line c x y z l h k q =
     let m = element_moves line c (operand x.typed.type) (operand y.typed.type) t.value (atom_in x) (atom_in y) l t.is h.held k.held in
     at_place c t.value (fixed_sum c bin.Add x y) (combined line bin.Add c.code x y c) z m.0 m.1 t.last
 
-member_placed : (line : ℕ) (name : List ℕ) (o : Option (List PlainMember)) (typed : PlainTyped) → member_among line name o ≡ Ok typed → IsPlaced typed
-unfolding IsPlaced
-member_placed line name o typed e = search (arith, never, ok_same) fits 100
-
 member_of_placed : (line : ℕ) (name : List ℕ) (tags : TagTable) (type : PlainType) (typed : PlainTyped) → places.member_of line name tags type ≡ Ok typed → IsPlaced typed × (is_scalar type ≡ false)
-member_of_placed line name tags type typed e = search (arith, member_placed, never) fits 100
+unfolding IsPlaced
+member_of_placed line name tags type typed e = search (arith, ok_same, never) fits 100
 
 pub dotted_lands : (line : ℕ) (name : List ℕ) (c : Context) (e : Found) (z : Context × Found) → 1 ≤ line → Stands (world c) e → dotted line name c e ≡ Ok z → Lands c z
 dotted_lands line name c e z l h q =
@@ -174,11 +154,8 @@ pointed_lands line name c e z l h q =
 abbrev pub InMemory : Found → Type 0
 InMemory e = (r : ℕ) → e.spot ≡ Local r → ⊥
 
-address_held : (w : World) (type : PlainType) (spot : Spot) (e : Found) → e.spot ≡ spot → InMemory e → StandsAs w true type spot → Holds w Pointer (atom_in e)
-address_held w type spot e q n h = search arith fits 100
-
 pub address_lands : (line : ℕ) (c : Context) (e : Found) (z : Context × Found) → InMemory e → Stands (world c) e → address_answer line c e ≡ Ok z → Lands c z
-address_lands line c e z m h q = grind (arith, came, address_held, ok_same, goes_refl, true, false)
+address_lands line c e z m h q = grind (arith, came, ok_same, goes_refl, true, false)
 
 -- operators
 
@@ -212,14 +189,6 @@ calculated_lands line op typed other c e z s l h ty q p r k = cc
 IsNumberType : PlainTyped → Type 0
 IsNumberType typed = (ty : IntType) × (typed.is_place ≡ false) × (typed.type ≡ types.Int ty)
 
-on_integer : (op : UnaryOp) (ty : IntType) (folded : _) (typed : PlainTyped) → good (unary_on_integer op ty folded) ≡ Ok typed → IsNumberType typed
-unfolding IsNumberType
-on_integer op ty folded typed e = subst (λ (x : PlainTyped). (t : IntType) × (x.is_place ≡ false) × (x.type ≡ types.Int t)) (ok_same _ typed e) (unary_type op ty, refl, refl)
-
-plain_applied : (line : ℕ) (op : UnaryOp) (o : Operand) (typed : PlainTyped) (c : Context) (e : Found) (z : Context × Found) → 1 ≤ line → HeldAs (world c) o (atom_in e) → IsNumberType typed → (s : IntType) → o ≡ Number s → good (before_number line op typed o c e) ≡ Ok z → Lands c z
-unfolding IsNumberType
-plain_applied line op o typed c e z l h t s q k = calculated_lands line op typed o c e z s l h t.0 q t.1 t.2 k
-
 -- the operand of `+`, `-` or `~` is a number
 abbrev IsPlain : UnaryOp → Type 0
 IsPlain u.Deref = ⊥
@@ -227,27 +196,20 @@ IsPlain u.Not = ⊥
 IsPlain op = Unit {0}
 
 plain_number : (line : ℕ) (op : UnaryOp) (e typed : PlainTyped) (o : Operand) → IsPlain op → unary_of line op e o ≡ Ok typed → ((s : IntType) × (o ≡ Number s)) × IsNumberType typed
+unfolding IsNumberType
 plain_number line u.Deref e typed o p h = absurd p
 plain_number line u.Not e typed o p h = absurd p
-plain_number line op e typed (Number ty) p h = ((ty, refl), on_integer op ty e.folded typed h)
+plain_number line op e typed (Number ty) p h = ((ty, refl), subst (λ (x : PlainTyped). (t : IntType) × (x.is_place ≡ false) × (x.type ≡ types.Int t)) (ok_same _ typed h) (unary_type op ty, refl, refl))
 plain_number line op e typed other p h = never _ _ typed h
 
-not_result : (x typed : PlainTyped) → x.is_place ≡ false → x.type ≡ types.Int i.Int → x ≡ typed → (typed.is_place ≡ false) × (typed.type ≡ types.Int i.Int)
-not_result x typed p t e = (ap (λ (y : PlainTyped). y.is_place) (sym e) ∙ p, ap (λ (y : PlainTyped). y.type) (sym e) ∙ t)
-
-not_typed : (line : ℕ) (e typed : PlainTyped) (o : Operand) → unary_of line u.Not e o ≡ Ok typed → (typed.is_place ≡ false) × (typed.type ≡ types.Int i.Int) × (((s : IntType) × (o ≡ Number s)) ⊎ ((target : PlainType) × (o ≡ PointerTo target)))
-not_typed line e typed o h = search (arith, not_result, ok_same, never) fits 100
-
-deref_lands : (line : ℕ) (c : Context) (o : Operand) (e : Found) (typed : PlainTyped) (z : Context × Found) → HeldAs (world c) o (atom_in e) → unary_of line u.Deref e.typed o ≡ Ok typed → good (c, found_as typed (Memory (atom_in e)) e.fixed) ≡ Ok z → Lands c z
-deref_lands line c o e typed z h t k = search (arith, ok_same, goes_refl, never) fits 100
-
 plain_lands : (line : ℕ) (op : UnaryOp) (typed : PlainTyped) (c : Context) (e : Found) (z : Context × Found) → IsPlain op → 1 ≤ line → HasValue (world c) e → unary line op c.tags e.typed ≡ Ok typed → good (before_number line op typed (operand e.typed.type) c e) ≡ Ok z → Lands c z
-plain_lands line op typed c e z p l h t k = let r = plain_number line op e.typed typed (operand e.typed.type) p t in plain_applied line op (operand e.typed.type) typed c e z l h.held r.1 r.0.0 r.0.1 k
+unfolding IsNumberType
+plain_lands line op typed c e z p l h t k = let r = plain_number line op e.typed typed (operand e.typed.type) p t in (calculated_lands line op typed (operand e.typed.type) c e z r.0.0 l h.held r.1.0 r.0.1 r.1.1 r.1.2 k)
 
 apply_lands : (line : ℕ) (op : UnaryOp) (tree : Tree) (typed : PlainTyped) (c : Context) (e : Found) (z : Context × Found) → 1 ≤ line → 1 ≤ code_line tree → HasValue (world c) e → unary line op c.tags e.typed ≡ Ok typed → good (apply line op tree typed c e) ≡ Ok z → Lands c z
-apply_lands line u.Deref tree typed c e z l l2 h t k = deref_lands line c (operand e.typed.type) e typed z h.held t k
+apply_lands line u.Deref tree typed c e z l l2 h t k = search (arith, ok_same, goes_refl, never) fits 100
 apply_lands line u.Not tree typed c e z l l2 h t k =
-    let r = not_typed line e.typed typed (operand e.typed.type) t in
+    let r : (typed.is_place ≡ false) × (typed.type ≡ types.Int i.Int) × (((s : IntType) × ((operand e.typed.type) ≡ Number s)) ⊎ ((target : PlainType) × ((operand e.typed.type) ≡ PointerTo target))) = search (arith, ok_same, never) fits 100 in
     tested_not line tree typed c e z l l2 h (⊎_elim (λ (x : (s : IntType) × (operand e.typed.type ≡ Number s)). number_scalar e.typed.type x.0 x.1) (λ (x : (target : PlainType) × (operand e.typed.type ≡ PointerTo target)). pointer_scalar e.typed.type x.0 x.1) r.2) r.0 r.1 k
 apply_lands line op tree typed c e z l l2 h t k = plain_lands line op typed c e z tt l h t k
 
@@ -286,16 +248,10 @@ between_lands line op b c x y z i l g h k q =
 
 -- casts
 
-cast_converts : (line : ℕ) (type : PlainType) (e typed : PlainTyped) (s t : Operand) → operand type ≡ s → cast_types line type e s t ≡ Ok typed → (typed.is_place ≡ false) × (operand typed.type ≡ operand type) × Converting s t
-cast_converts line type e typed s t o h = search (arith, ok_same, beside_is, never) fits 100
-
-cast_typed : (line : ℕ) (type : PlainType) (e typed : PlainTyped) → cast line type e ≡ Ok typed → (typed.is_place ≡ false) × (operand typed.type ≡ operand type) × Converting (operand type) (operand e.type)
-cast_typed line type e typed h = search (arith, ok_same, cast_converts, never) fits 100
-
 pub cast_lands : (line : ℕ) (type : PlainType) (b c : Context) (e : Found) (z : Context × Found) → 1 ≤ line → Goes b c → HasValue (world c) e → cast_to line type b.code c e ≡ Ok z → Comes b z
 cast_lands line type b c e z l g h q =
     let t = came (cast line type e.typed) q in
-    let r = cast_typed line type e.typed t.value t.is in
+    let r : (t.value.is_place ≡ false) × (operand t.value.type ≡ operand type) × Converting (operand type) (operand e.typed.type) = search (arith, ok_same, beside_is, never) fits 100 in
     let d = convert line b.code type e.typed (atom_in e) c in
     let k = converted line b type e.typed (atom_in e) c l g h.held in
     made_comes b t.value (cast_fixed e.typed e.fixed) d z (record { value = r.0; goes = k.goes; held = subst (λ (o : Operand). HeldAs (world d.0) o d.1) (sym r.1) (k.held r.2) }) t.last
@@ -321,11 +277,8 @@ pub record Logical (x y typed : PlainTyped) : Type 0 where
   pub flag : typed.is_place ≡ false
   pub type : typed.type ≡ types.Int i.Int
 
-both_true : (x y : Bool) → not (x && y) ≡ false → (x ≡ true) × (y ≡ true)
-both_true x y e = search arith fits 100
-
 pub logical_typed : (line : ℕ) (folded : _) (x y typed : PlainTyped) → logical line folded x y ≡ Ok typed → Logical x y typed
-logical_typed line folded x y typed e = search (arith, both_true, kept_test, passed)
+logical_typed line folded x y typed e = search (arith, kept_test, passed)
 
 pub and_then_goes : (line : ℕ) (tree : Tree) (d : Context × Found) → 1 ≤ line → 1 ≤ code_line tree → is_scalar d.1.typed.type ≡ true → HasValue (world d.0) d.1 → Goes d.0 (and_then line tree d)
 and_then_goes line tree d l l2 s h =
@@ -419,11 +372,8 @@ pointer_chosen line x y typed s t o m e = one (same s t || y.is_null) e
     one true q = side_pointer x.type s (PointerTo s) (PointerTo t) typed o tt tt (ok_same _ typed q)
     one false q = two x.is_null q
 
-void_operand : (type : PlainType) → is_void type ≡ true → operand type ≡ Neither
-void_operand type e = search arith fits 100
-
 void_chosen : (line : ℕ) (x y typed : PlainTyped) (s t : Operand) → cond (is_void x.type && is_void y.type) (good (value x.type)) (refused Operands line) ≡ Ok typed → Sides s t typed
-void_chosen line x y typed s t e = grind (arith, true, void_operand, ok_same, false)
+void_chosen line x y typed s t e = grind (arith, true, ok_same, false)
 
 sides : (line : ℕ) (test : _) (x y typed : PlainTyped) (s t : Operand) → operand x.type ≡ s → operand y.type ≡ t → choice_types line test x y s t ≡ Ok typed → Sides s t typed
 sides line test x y typed (Number s) (Number t) o m e = subst (Sides (Number s) (Number t)) (ok_same _ typed e) (record { flag = refl; first = tt; last = tt; void = λ q. cc })

@@ -1,6 +1,5 @@
 -- What declarators, specs and prototypes do to what fits.
-use Rattle.std.proofs.Common.{◌≡◌, ℕ, Bool, true, false, cond, is_some, nat_lt, List, [], ◌∷◌, length, Option, Some, None, ◌≤◌, refl, ap, ◌∙◌, arith, ◌<◌, not, option_map, sym, subst, length-append, zero, suc, ◌||◌, unwrap_or, Ok}
-use Rattle.std.proofs.lemmas.Bool.{ltb-false}
+use Rattle.core_soundness.proofs.Words.Std.{◌≡◌, ℕ, Bool, true, false, cond, is_some, nat_lt, List, [], ◌∷◌, length, Option, Some, None, ◌≤◌, refl, ap, ◌∙◌, arith, ◌<◌, not, option_map, sym, subst, length-append, zero, suc, ◌||◌, unwrap_or, Ok, ltb-false}
 use Rattle.core_soundness.proofs.Words.Trees.{Tree, Trees}
 use Rattle.core_soundness.proofs.Words.Types.{no_layout, TagTable, layout_in, PlainType, Int, PlainTypes, Pointer, PlainNamed, Checked, ScopeList, Table, named_in, innermost, with_name, tag_name, after_declaration, is_scalar}
 use Rattle.core_soundness.proofs.Words.Core.{Sort, sort_of, Reg as Register}
@@ -50,11 +49,8 @@ told_aside told_of c m = record { code = refl; running = refl; variables = refl;
 pub with_name_outside : (s : ScopeList) (name : List ℕ) (v : PlainNamed) → MoreAll (scopes.tail s.inner) (scopes.tail (with_name s name v).inner)
 with_name_outside s name v = grind (arith, all_refl)
 
-file_stays : (file : Table) (inner : List Table) (name : List ℕ) (v : PlainNamed) → 1 ≤ length inner → MoreTags file (scopes.with_name_in file inner name v).file
-file_stays file inner name v deep = search (arith, tags_refl) fits 100
-
 name_aside : (name : List ℕ) (v : PlainNamed) (c : Context) → 1 ≤ length c.scopes.inner → Aside c (record c { scopes = with_name c.scopes name v })
-name_aside name v c deep = record { code = refl; running = refl; variables = refl; literals = refl; calls = refl; walked = refl; file = file_stays c.scopes.file c.scopes.inner name v deep; outside = with_name_outside c.scopes name v; depth = with_name_depth c.scopes name v }
+name_aside name v c deep = record { code = refl; running = refl; variables = refl; literals = refl; calls = refl; walked = refl; file = (search (arith, tags_refl) fits 100); outside = with_name_outside c.scopes name v; depth = with_name_depth c.scopes name v }
 
 named_aside : (name : Option (List ℕ)) (v : PlainNamed) (c : Context) → 1 ≤ length c.scopes.inner → Aside c (with_named name v c)
 named_aside name v c deep = search (arith, aside_refl, name_aside) fits 100
@@ -119,32 +115,19 @@ params_beside parts b deep c p z q = aside_trans b c z.0 p (params_keep Any Kept
 
 -- names that are declared
 
-none_some : (j : ℕ) → 0 ≡ suc j → ⊥
-none_some j e = omega arith
-
 with_name_inner : (w : World) (s : ScopeList) (name : List ℕ) (v : PlainNamed) (k : ℕ) → length s.inner ≡ suc k → InnerFits w v → NamesFit w s → NamesFit w (with_name s name v)
 with_name_inner w s name v k deep h f = by s.inner deep f.inner
   where
     by : (inner : List Table) → length inner ≡ suc k → TablesFit (InnerFits w) inner → NamesFit w (scopes.with_name_in s.file inner name v)
-    by [] d g = absurd (none_some k d)
+    by [] d g = absurd (omega arith)
     by (t ∷ ts) d g = record { file = f.file; inner = (pushed_fits (InnerFits w) name v t h g.0, g.1) }
 
 -- other scopes
 abbrev pub TableKept : Table → Table → Type 0
 TableKept one other = (name : List ℕ) (v : PlainNamed) → named_in name one ≡ Some v → named_in name other ≡ Some v
 
-renamed : (c : Context) (s : ScopeList) → TableKept c.scopes.file s.file → Grew (world c) (world (record c { scopes = s }))
-renamed c s keep = record { locals = λ k r e. e; mems = omega arith; integers = omega arith; pointers = omega arith; variables = omega arith; literals = omega arith; formats = λ k f e. e; calls = λ j y e. e; file = λ name t i e. keep name _ e }
-
-names_kept : (c : Context) (s : ScopeList) → TableKept c.scopes.file s.file → NamesFit (world c) s → NamesFit (world (record c { scopes = s })) s
-names_kept c s keep h = names_more (world c) (world (record c { scopes = s })) s s (renamed c s keep) (more_refl s) h
-
 pub rescoped : (answer : Option Sort) (c : Context) (s : ScopeList) → TableKept c.scopes.file s.file → length s.inner ≡ length c.scopes.inner → MoreAll (scopes.tail c.scopes.inner) (scopes.tail s.inner) → NamesFit (world c) s → Fine c → Runs answer c (record c { scopes = s })
-rescoped answer c s keep deep out h f = search (arith, renamed, names_kept, pieces_grew, table_grew)
-
--- what a part inside a scope leaves as it was
-aside_grew : (c d : Context) → Aside c d → Grew (world c) (world d)
-aside_grew c d p = search (arith, tag_kept)
+rescoped answer c s keep deep out h f = search (arith, names_more, more_refl, pieces_grew, table_grew)
 
 -- with one register more, and with one memory local more
 pub more_register : (answer : Option Sort) (name : Option (List ℕ)) (type : PlainType) (c : Context) → Fine c → Runs answer c (with_register name type c)
@@ -262,7 +245,7 @@ module _ (answer : Option Sort) where
   prototype_runs : (c x : Context) → 1 ≤ length c.scopes.inner → Fine c → Aside (entered c) x → Runs answer c (left_params x)
   prototype_runs c x deep f p =
       let d = left_params x in
-      let grew = aside_grew c d (left_aside c x p) in
+      let grew : Grew (world c) (world d) = search (arith, tag_kept) in
       record {
         grew = grew;
         fine = record { names = names_more (world c) (world d) c.scopes d.scopes grew (record { file = p.file; inner = p.outside }) f.names; lined = subst (λ (run : Running). 1 ≤ run.line) (sym p.running) f.lined };
@@ -283,16 +266,10 @@ module _ (answer : Option Sort) where
       by zero flat = left_params_runs c x.0 (own flat)
       by (suc k) deep = prototype_runs c x.0 (omega (arith, deep)) f (params_beside parts (entered c) (omega (arith, deep)) (entered c) (aside_refl (entered c)) x q)
 
-  no_list_runs : (c : Context) → Fine c → Runs answer c (record c { params = [] })
-  no_list_runs c f = record { grew = grew_refl (world c); fine = record { names = f.names; lined = f.lined }; fits = λ k. k; answer = refl; addressed = refl; outside = all_refl (scopes.tail c.scopes.inner); depth = refl; params = λ flat h name v e. cc; walked = refl }
-
   -- specs and declarators, and parameter lists at file scope
   abbrev Flat : Bool → Context → Type 0
   Flat true c = length c.scopes.inner ≡ 1
   Flat false c = Unit {0}
-
-  flat_on : (deep : Bool) (b c : Context) → length c.scopes.inner ≡ length b.scopes.inner → Flat deep b → Flat deep c
-  flat_on deep b c e h = search arith fits 100
 
   abbrev Kept : Bool → ℕ → Context → Context → Type 0
   Kept deep n c d = Flat deep c → Fine c → Runs answer c d
@@ -300,14 +277,14 @@ module _ (answer : Option Sort) where
   runs_step : Steps Any Kept
   runs_step = record {
     stop = λ deep n c h f. runs_refl answer c f;
-    join = λ deep m n k a b c e x y h f. let p = x h f in runs_trans answer a b c p (y (flat_on deep a b p.depth h) p.fine);
+    join = λ deep m n k a b c e x y h f. let p = x h f in runs_trans answer a b c p (y (search arith fits 100) p.fine);
     tells = λ deep t c m h f. told_runs t c c m (runs_refl answer c f);
     retags = λ deep tags c h f. tags_run tags c c (runs_refl answer c f);
     enumerates = λ deep name value c h f. after_runs name (n.Constant i.Int value) c c tt tt tt (runs_refl answer c f);
     names = λ deep name c h f. scopes_run (tag_name name) (n.Tag (Int i.Int)) c c tt tt tt (runs_refl answer c f);
     takes = λ name type c named h f. with_param_runs answer name type c h f;
     lists = λ deep n parts c x q p h f. list_runs parts c x q (λ flat. p (omega (arith, flat)) (entered_fine c f)) f;
-    unlists = λ deep c h f. no_list_runs c f;
+    unlists = λ deep c h f. record { grew = grew_refl (world c); fine = record { names = f.names; lined = f.lined }; fits = λ k. k; answer = refl; addressed = refl; outside = all_refl (scopes.tail c.scopes.inner); depth = refl; params = λ flat h name v e. cc; walked = refl };
   }
 
   pub constant_runs : (e : Tree) (b c : Context) → Runs answer b c → Reached (Runs answer b) (constant e c)

@@ -1,12 +1,10 @@
 -- What initializers and declarations of locals do to what fits.
-use Rattle.std.proofs.Common.{◌≡◌, ◌≤◌, ◌<◌, ◌+◌, ℕ, pos, Bool, true, false, cond, min, take, length, List, [], ◌∷◌, Option, Some, None, Ok, refl, sym, subst, arith, zero, suc, nat_lt, is_some, ◌++◌, slice_get, slice_set, unwrap_or, ap, ◌∙◌, bytes_eq, length-append}
-use Rattle.std.proofs.lemmas.Bool.{ltb-true}
-use Rattle.std.specs.Option.{option_or}
+use Rattle.core_soundness.proofs.Words.Std.{◌≡◌, ◌≤◌, ◌<◌, ◌+◌, ℕ, pos, Bool, true, false, cond, min, take, length, List, [], ◌∷◌, Option, Some, None, Ok, refl, sym, subst, arith, zero, suc, nat_lt, is_some, ◌++◌, slice_get, slice_set, unwrap_or, ap, ◌∙◌, bytes_eq, length-append, ltb-true, option_or}
 use Rattle.core_soundness.proofs.Words.Trees.{name_of, Tree, Trees, At, Node, none, ◌▹◌, count, Leaf}
-use Rattle.core_soundness.proofs.Words.Types.{no_layout, layout_in, PlainType, Array, Struct, Union, line_of, PlainNamed, unconverted, Checked, refused, then, unless, ScopeList, Table, named_in, innermost, with_name, after_declaration, tag_name, Layer, tag_named, is_function, has_no_size, Assignment, DeclaredTwice, Incomplete, LeftOut, StaticTooLarge, is_built_in}
-use Rattle.core_soundness.proofs.Words.Core.{block_size, Pointer, Sort, Integer, Start, Atom, Off, Copy, Set, Clear}
-use Rattle.core_soundness.proofs.Words.Elaborating.{Context, emit, Variable, asked, Found, Local, Memory, atom_in, code_line, valued, convert, write, size_or_zero, Spot, Storage, storage_of, specs_before, fill_local, entry, Typedef, Outside, specs_alone, zero_of, cleared, fill_memory, fill_register, fill_at, local_name, function_number, with_function, declared_function, no_initializer, variable_number_of, with_new_variable, with_variable, start_of, start_in, started_variable, started, fill_variable, file_object, file_function, file_value, file_name, name_in, entries, declaration, layers, found, Target, InRegister, InMemory, InStatic, static_scalar, member_place, store_at, fill_scalar, copy_to, fill_record, is_same_place, whole, fill_text, is_character, text, by_text, by_expression, parts_of, takes_braces, is_scalar_type, all_surplus, initialize, initialize_parts, with_bytes, with_init_layers, surplus, no_start, with_local, is_twice, declared_as, opened, closed, with_literal, with_static}
-use Rattle.core_soundness.proofs.Words.Facts.{Spoken, AllSpoken, World, world, Holds, StandsAs, Stands, NamesFit, InnerFits, FileFits, Written, AllWritten, TablesFit}
+use Rattle.core_soundness.proofs.Words.Types.{no_layout, layout_in, PlainType, Array, Struct, Union, line_of, PlainNamed, unconverted, Checked, refused, then, unless, Table, named_in, innermost, with_name, after_declaration, tag_name, Layer, tag_named, is_function, has_no_size, Assignment, DeclaredTwice, Incomplete, LeftOut, StaticTooLarge, is_built_in}
+use Rattle.core_soundness.proofs.Words.Core.{block_size, Pointer, Sort, Integer, Start, Atom, Off, Copy, Set, Clear, Enter}
+use Rattle.core_soundness.proofs.Words.Elaborating.{Context, emit, Variable, asked, Found, Local, Memory, atom_in, code_line, valued, convert, write, size_or_zero, Spot, Storage, storage_of, specs_before, fill_local, entry, Typedef, Outside, specs_alone, zero_of, cleared, fill_memory, fill_register, fill_at, local_name, function_number, with_function, declared_function, no_initializer, variable_number_of, with_new_variable, with_variable, start_of, start_in, started_variable, started, fill_variable, file_object, file_function, file_value, file_name, name_in, entries, declaration, layers, found, Target, InRegister, InMemory, InStatic, static_scalar, member_place, store_at, fill_scalar, copy_to, fill_record, whole, fill_text, is_character, text, by_text, by_expression, parts_of, takes_braces, is_scalar_type, all_surplus, initialize, initialize_parts, with_bytes, with_init_layers, surplus, no_start, with_local, is_twice, declared_as, opened, closed, with_literal, with_static, reallocates, anew}
+use Rattle.core_soundness.proofs.Words.Facts.{Spoken, AllSpoken, World, world, Holds, StandsAs, NamesFit, InnerFits, FileFits, Written, AllWritten, TablesFit}
 use Rattle.c_types.specs.Types as types
 use Rattle.core_tree.specs.declared.statements.Atom.TheVariants as atom
 use Rattle.c_tree.specs.Forms as f
@@ -20,10 +18,10 @@ use Rattle.core_soundness.proofs.Growth.{good, bad, ok_same, never, behind_strin
 use Rattle.core_soundness.proofs.Landing.{in_memory, literal_there}
 use Rattle.core_soundness.proofs.LayersRun.{TableKept, rescoped, with_local_runs, declared_runs, with_type_runs, specs_run, layers_run}
 use Rattle.core_soundness.proofs.Scopes.{pushed_fits, more_refl, all_refl, named_push, outside_spoken}
-use Rattle.core_soundness.proofs.Sitting.{opened_rests, closed_goes, Evaluates, evaluates, evaluated_goes, opened_goes, Fine, Runs, runs_refl, runs_trans, goes_runs, on_runs}
-use Rattle.core_soundness.proofs.Sorting.{Grew, holds_grew, Goes, goes_refl, goes_trans, goes_emit, gives_pointer, Gives, held_grew, stands_as_grew, converted, write_goes, kept_test, unbarred, grew_refl, pieces_grew, passed}
+use Rattle.core_soundness.proofs.Sitting.{opened_rests, closed_goes, Evaluates, evaluates, evaluated_goes, Fine, Runs, runs_refl, runs_trans, goes_runs, on_runs, goes_anew}
+use Rattle.core_soundness.proofs.Sorting.{Grew, holds_grew, Goes, goes_refl, goes_trans, goes_emit, gives_pointer, Gives, held_grew, stands_as_grew, converted, write_goes, unbarred, grew_refl, pieces_grew, passed}
 use Rattle.core_soundness.proofs.TagSorts.{tag_after}
-use Rattle.core_soundness.proofs.Choices.{either_way, three_parts, not_false}
+use Rattle.core_soundness.proofs.Choices.{either_way, three_parts}
 
 -- what initializers do to what fits (C99 6.7.8)
 
@@ -85,9 +83,6 @@ fill_scalar_fits e line type offset c d (InStatic start) z v u h q =
     let s = came (static_scalar line type offset start d.1) q in
     subst (Fills c (InStatic start)) (ok_same (d.0, InStatic s.value) z s.last) (record { goes = evaluated_goes c e d v; same = tt })
 
-record_held : (v : World) (type : PlainType) (e : Found) → is_same_place type e.typed ≡ true → Stands v e → Holds v Pointer (atom_in e)
-record_held v type e test h = search (arith, three_parts, in_memory, same_record)
-
 fill_record_fits : (e : Tree) (line : ℕ) (type : PlainType) (offset : ℕ) (c : Context) (d : Context × Found) (t : Target) (z : Context × Target) → Goes c d.0 → 1 ≤ code_line e → Holds (world d.0) Pointer (atom_in d.1) → TargetFits (world c) type t → fill_record e line type offset d t ≡ Ok z → Fills c t z
 fill_record_fits e line type offset c d (InMemory at mem) z g l held h q =
     let place = member_place at mem offset d.0 in
@@ -103,17 +98,13 @@ whole_fits e line type offset t c z s n h q =
     let d = came (found e type (opened e c)) q in
     let o = opened_rests e type c d.value s n d.is in
     fill_record_fits e line type offset c d.value t z (goes_trans c (opened e c) d.value.0 o.goes o.rests.sits.goes) o.rests.line
-    (record_held (world d.value.0) type d.value.1 (not_false _ (kept_test _ _ line _ z d.last)) o.rests.sits.stands) h (behind_test _ _ line _ z d.last)
-
-text_line : (e : Tree) (s : ScopeList) (bytes : List ℕ) → text e ≡ Some bytes → Spoken s e → 1 ≤ code_line e
-unfolding Spoken AllSpoken line_of
-text_line e s bytes h k = search arith fits 100
+    (search (arith, three_parts, in_memory, same_record)) h (behind_test _ _ line _ z d.last)
 
 fill_text_fits : (e : Tree) (line : ℕ) (bytes : List ℕ) (type : PlainType) (size offset : ℕ) (t : Target) (c : Context) (z : Context × Target) → 1 ≤ code_line e → TargetFits (world c) type t → fill_text e line bytes size offset t c ≡ Ok z → Fills c t z
 fill_text_fits e line bytes type size offset (InMemory at mem) c z l h q =
     let d = came (with_literal line bytes (opened e c)) q in
     let k = literal_there line bytes (opened e c) d.value d.is in
-    let g : Goes c d.value.0 = goes_trans c (opened e c) d.value.0 (opened_goes e c l) k.goes in
+    let g : Goes c d.value.0 = goes_trans c (opened e c) d.value.0 (either_way (Goes c) (reallocates c.scopes e) (goes_trans c (anew c) _ (goes_anew c) (goes_emit (code_line e) Enter (anew c) l tt)) (goes_anew c)) k.goes in
     let place = member_place at mem offset d.value.0 in
     let pg = place_gives at mem offset d.value.0 h.0 (omega (arith, h.1, g.grew.mems)) in
     let copied = Copy place.1 (atom.Static d.value.1) (pos (min (length bytes + 1) size)) in
@@ -123,10 +114,11 @@ fill_text_fits e line bytes type size offset (InStatic start) c z l h q = subst 
 fill_text_fits e line bytes type size offset (InRegister at register) c z l h q = never _ _ z q
 
 by_text_fits : (e : Tree) (line : ℕ) (element : PlainType) (size offset : ℕ) (o : Option (List ℕ)) (t : Target) (c : Context) (z : Context × Target) → text e ≡ o → Spoken c.scopes e → NamesFit (world c) c.scopes → TargetFits (world c) (Array element size) t → by_text e line element size offset o t c ≡ Ok z → Fills c t z
+unfolding Spoken AllSpoken line_of
 by_text_fits e line element size offset None t c z is s n h q = whole_fits e line (Array element size) offset t c z s n h q
 by_text_fits e line element size offset (Some bytes) t c z is s n h q =
     either_way (λ x. x ≡ Ok z → Fills c t z) (is_character element)
-    (λ q. fill_text_fits e line bytes (Array element size) size offset t c z (text_line e c.scopes bytes is s) h (behind_string line bytes (fill_text e line bytes size offset t c) z q))
+    (λ q. fill_text_fits e line bytes (Array element size) size offset t c z (search arith fits 100) h (behind_string line bytes (fill_text e line bytes size offset t c) z q))
     (λ q. whole_fits e line (Array element size) offset t c z s n h q) q
 
 by_expression_fits : (e : Tree) (line : ℕ) (type : PlainType) (offset : ℕ) (t : Target) (c : Context) (z : Context × Target) → Spoken c.scopes e → NamesFit (world c) c.scopes → TargetFits (world c) type t → by_expression e line type offset t c ≡ Ok z → Fills c t z
@@ -269,9 +261,6 @@ module _ (answer : Option Sort) where
 pushed_kept : (key : List ℕ) (v : PlainNamed) (t : Table) → TableKept t (t ++ (key, v) ∷ [])
 pushed_kept key v t name x e = named_push name key v t ∙ ap (λ o. option_or o (cond (bytes_eq name key) (Some v) None)) e
 
-some_none : (k : ℕ) → suc k ≡ 0 → ⊥
-some_none k x = omega arith
-
 -- a name more at file scope
 file_renamed : (answer : Option Sort) (name : List ℕ) (v : PlainNamed) (c : Context) → length c.scopes.inner ≡ 0 → FileFits (world c) v → Fine c → Runs answer c (record c { scopes = after_declaration c.scopes name v })
 file_renamed answer name v c flat h g = by (is_some (named_in name (innermost c.scopes)))
@@ -280,7 +269,7 @@ file_renamed answer name v c flat h g = by (is_some (named_in name (innermost c.
     empty [] e t r = runs_trans answer c (record c { scopes = record { file = c.scopes.file; inner = [] } }) _ r
         (rescoped answer (record c { scopes = record { file = c.scopes.file; inner = [] } }) (record { file = c.scopes.file ++ (name, v) ∷ []; inner = [] }) (pushed_kept name v c.scopes.file) refl tt
         (record { file = pushed_fits (FileFits (world c)) name v c.scopes.file h g.names.file; inner = tt }) r.fine)
-    empty (s ∷ ss) e t r = absurd (some_none (length ss) e)
+    empty (s ∷ ss) e t r = absurd (omega arith)
 
     by : (t : Bool) → Runs answer c (record c { scopes = cond t c.scopes (with_name c.scopes name v) })
     by true = runs_refl answer c g

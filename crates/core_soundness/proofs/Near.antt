@@ -1,21 +1,18 @@
 -- How much expressions and declarators make, by the tokens of their trees.
-use Rattle.std.proofs.Common.{◌≡◌, ◌≤◌, ◌+◌, ◌*◌, ℕ, List, [], ◌∷◌, ◌++◌, length, All, arith, max, Option, unwrap_or, length-append, Bool, true, false, cond, Some, None}
-use Rattle.std.proofs.lemmas.List.Elements.{All-push}
-use Rattle.std.specs.Prelude.{IfSome}
+use Rattle.core_soundness.proofs.Words.Std.{◌≡◌, ◌≤◌, ◌+◌, ◌*◌, ℕ, List, [], ◌∷◌, ◌++◌, length, All, arith, max, Option, unwrap_or, length-append, Bool, true, false, cond, Some, None, All-push, IfSome}
 use Rattle.core_soundness.proofs.Words.Trees.{Token, Allowed, AllAllowed, IsExternal, AreExternals, Item, Says, Here, Part, shape, rows, HasTree, Place, Scope, places, Piece, Said, Line, filled, spell, spell_all, Spells, Tree, Trees, Node, none, ◌▹◌, count}
-use Rattle.core_soundness.proofs.Words.Types.{no_layout, layout_in, PlainType, IntType, PlainNamed, Checked, PlainTyped}
-use Rattle.core_soundness.proofs.Words.Core.{IsShort, Mem, Reg as Register, Atom, StmKind}
-use Rattle.core_soundness.proofs.Words.Elaborating.{with_format, Context, Variable, Walked, integer_by, pointer_by, With, local_register, Found, Spot, unused, valued, convert_integer, convert, tested_value, write, Memory, constant, with_type, specs, layers, found, is_pointer, with_register, with_memory, declared_as, next_is_memory, with_named, memory_param, register_param, function_param, prototype_param, is_prototype, with_param, with_static, with_literal}
+use Rattle.core_soundness.proofs.Words.Types.{no_layout, layout_in, PlainType, PlainNamed}
+use Rattle.core_soundness.proofs.Words.Core.{IsShort, Mem, Reg as Register, StmKind}
+use Rattle.core_soundness.proofs.Words.Elaborating.{with_format, Context, Variable, Walked, pointer_by, local_register, Memory, constant, specs, layers, is_pointer, with_register, with_memory, declared_as, next_is_memory, with_named, memory_param, register_param, function_param, prototype_param, is_prototype, with_param, with_static, with_literal}
 use Rattle.core_tree.specs.declared.statements.Atom.TheVariants as atom
 use Rattle.c_tree.specs.Forms as f
 use Rattle.c_tree.specs.Places as p
 use Rattle.c_decls.specs.Named as n
-use Rattle.c_decls.specs.TypeNames as names
 use Rattle.core_soundness.proofs.Agreeing.{came}
-use Rattle.core_soundness.proofs.CodeWalk.{Writes, unused_keeps, valued_keeps, convert_integer_keeps, convert_keeps, tested_value_keeps, write_keeps}
-use Rattle.core_soundness.proofs.Growth.{Reached, reached_ok, Led, led_ok, led_unless, reached_after}
+use Rattle.core_soundness.proofs.CodeWalk.{Writes, write_keeps}
+use Rattle.core_soundness.proofs.Growth.{Reached, reached_ok, Led, led_ok, led_unless}
 use Rattle.core_soundness.proofs.Scopes.{Short, some_short}
-use Rattle.core_soundness.proofs.Walks.{said, weight, weights, Walks, found_keeps, Steps, constant_keeps, tagging, specs_keep, layers_keep}
+use Rattle.core_soundness.proofs.Walks.{said, weight, weights, Walks, Steps, constant_keeps, tagging, specs_keep, layers_keep}
 
 -- a tree weighs no more than its tokens
 
@@ -166,25 +163,11 @@ near_on m n k h x y = search arith
 pub near_most : {s t : Share} (m k : ℕ) → m ≤ k → NearBy m s t → NearBy k s t
 near_most m k h x = record { made = omega (arith, h, x.made); temporaries = λ q. omega (arith, h, x.temporaries q); tidy = x.tidy; clear = x.clear }
 
--- a temporary more
-one_more : (i m p : ℕ) → i ≤ m → max m (i + 1) + p ≤ m + p + 1
-one_more i m p h = omega arith
-
-other_more : (i m p : ℕ) → i ≤ m → p + max m (i + 1) ≤ p + m + 1
-other_more i m p h = omega arith
-
 within : (i m : ℕ) → i + 1 ≤ max m (i + 1)
 within i m = omega arith
 
-pub near_integer : (line : ℕ) (kind : ℕ → StmKind) (c : Context) → Near 1 c (integer_by line kind c).0
-near_integer line kind c = search (arith, one_more, within)
-
 pub near_pointer : (line : ℕ) (kind : ℕ → StmKind) (c : Context) → Near 1 c (pointer_by line kind c).0
-near_pointer line kind c = search (arith, other_more, within)
-
--- code that is forgotten again
-pub near_forgotten : (n : ℕ) (b c : Context) → Near n b c → Near n b (record c { code = b.code })
-near_forgotten n b c g = search arith
+near_pointer line kind c = search (arith, within)
 
 -- a format, a register and a memory local more
 pub near_format : (bytes : List ℕ) (c : Context) → IsShort bytes → Near 1 c (with_format bytes c)
@@ -226,32 +209,14 @@ near_writes = record {
   stop = λ n c. near_most 0 n (omega arith) (near_refl c);
   join = λ m n k a b c h x y. near_on m n k h x y;
   emits = λ line kind c h. near_refl c;
-  integer = λ line kind c h. near_integer line kind c;
+  integer = λ line kind c h. search (arith, within);
   pointer = λ line kind c h. near_pointer line kind c;
-  forgets = λ n b c g. near_forgotten n b c g;
+  forgets = λ n b c g. search arith;
   forks = λ m n k t r s line at a h x y. near_on m n k h x y;
   formats = λ bytes c h. near_format bytes c h;
   calls = λ calls c. near_refl c;
   frees = λ line a c. near_refl c;
 }
-
-pub unused_near : (n : ℕ) (tree : Tree) (b : Context) (answer : With Found) → Reached (Near n b) answer → Reached (Near (n + 1) b) (unused tree answer)
-unused_near n tree b answer g = unused_keeps Near near_writes n tree b answer g
-
-pub valued_near : (n : ℕ) (tree : Tree) (b : Context) (answer : With Found) → Reached (Near n b) answer → Reached (Near (n + 1) b) (valued tree answer)
-valued_near n tree b answer g = valued_keeps Near near_writes n tree b answer g
-
-pub integer_near : (line : ℕ) (ty source : IntType) (a : Atom) (c : Context) → Near 1 c (convert_integer line ty source a c).0
-integer_near line ty source a c = convert_integer_keeps Near near_writes line ty source a c
-
-pub convert_near : (n line : ℕ) (b : Context) (type : PlainType) (e : PlainTyped) (a : Atom) (c : Context) → Near n b c → Near (n + 1) b (convert line b.code type e a c).0
-convert_near n line b type e a c g = convert_keeps Near near_writes n line b type e a c g
-
-pub tested_value_near : (tree : Tree) (d : Context × Found) → Near 1 d.0 (tested_value tree d).0
-tested_value_near tree d = tested_value_keeps Near near_writes tree d
-
-pub write_near : (line : ℕ) (type : PlainType) (spot : Spot) (a : Atom) (c : Context) → Near 0 c (write line type spot a c)
-write_near line type spot a c = write_keeps Near near_writes line type spot a c
 
 -- what expressions make: at most six for each word
 
@@ -263,11 +228,8 @@ static_near line size c = search (arith, led_unless, led_ok, near_refl)
 pub literal_near : (line : ℕ) (bytes : List ℕ) (c : Context) → Reached (Near 0 c) (with_literal line bytes c)
 literal_near line bytes c z q = search (arith, came, reached_ok, static_near)
 
-near_walk : Walks Near
+pub near_walk : Walks Near
 near_walk = record { writes = near_writes; tells = λ t c m. near_refl c; literals = literal_near }
-
-pub found_near : (tree : Tree) (wish : PlainType) (c : Context) → Reached (Near (weight tree) c) (found tree wish c)
-found_near tree wish c = found_keeps Near near_walk tree wish c
 
 -- what specs, tags, declarators and parameters make
 
@@ -287,27 +249,21 @@ memory_param_near name type c h =
     let z = with_named name (n.Object type (length c.running.mems)) y in
     let one = near_register name type c h in
     let two = near_memory (unwrap_or name []) type x (some_short name h) in
-    let three = near_on 0 0 0 (omega arith) (named_near name (n.Object type (length c.running.mems)) y) (write_near c.running.line type (Memory (atom.Mem (length c.running.mems))) (atom.Reg (local_register (length c.running.locals))) z) in
+    let three = near_on 0 0 0 (omega arith) (named_near name (n.Object type (length c.running.mems)) y) (write_keeps Near near_writes c.running.line type (Memory (atom.Mem (length c.running.mems))) (atom.Reg (local_register (length c.running.locals))) z) in
     near_on 1 1 2 (omega arith) one (near_on 1 0 1 (omega arith) two three)
-
-register_param_near : (name : Option (List ℕ)) (type : PlainType) (c : Context) → IfSome name IsShort → Near 2 c (register_param name type c)
-register_param_near name type c h = search (arith, near_on, near_register, named_near)
 
 with_param_near : (name : Option (List ℕ)) (type : PlainType) (c : Context) → IfSome name IsShort → Near 2 c (with_param name type c)
 with_param_near name type c h = by (is_prototype c.scopes)
   where
     own : (t : Bool) → Near 2 c (cond t (memory_param name type c) (register_param name type c))
     own true = memory_param_near name type c h
-    own false = register_param_near name type c h
+    own false = search (arith, near_on, near_register, named_near)
 
     by : (t : Bool) → Near 2 c (cond t (prototype_param name type c) (function_param name type c))
     by true = near_on 0 0 2 (omega arith) (named_near name (n.Object type 0) c) (near_refl (prototype_param name type c))
     by false = own (next_is_memory type c)
 
 -- specs and declarators
-
-pub with_type_near : (answer : Checked (names.Context × PlainType)) (c : Context) → Reached (Near 0 c) (with_type answer c)
-with_type_near answer c = reached_after (Near 0 c) answer (λ x q. reached_ok (Near 0 c) (near_refl c))
 
 near_step : Steps IsShort (λ deep n c d. Near n c d)
 near_step = record {

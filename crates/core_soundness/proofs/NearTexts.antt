@@ -1,12 +1,9 @@
 -- How much declarations, statements and texts make: the lists of a core are short.
-use Rattle.std.proofs.Common.{◌≡◌, ◌≤◌, ◌+◌, ◌*◌, ◌==◌, not, ℕ, zero, suc, pos, Bool, true, false, cond, is_some, nat_lt, length, All, List, [], ◌∷◌, ◌++◌, slice_get, slice_set, Option, Some, None, unwrap_or, Ok, subst, arith, ◌-◌, ℤ, take, drop, Result, Err, length-drop, length-take-le, map, replicate, sum_by, sym, length-append}
-use Rattle.std.proofs.lemmas.List.{length-replicate}
-use Rattle.std.proofs.lemmas.List.Elements.{All-push, All-head, All-tail, All-cons, All-nil, All-weaker, All-append, All-map, All-replicate}
-use Rattle.std.specs.Prelude.{IfSome}
+use Rattle.core_soundness.proofs.Words.Std.{◌≡◌, ◌≤◌, ◌+◌, ◌*◌, ◌==◌, not, ℕ, zero, suc, pos, Bool, true, false, cond, is_some, nat_lt, length, All, List, [], ◌∷◌, ◌++◌, slice_get, slice_set, Option, Some, None, unwrap_or, Ok, subst, arith, ◌-◌, ℤ, take, drop, Result, Err, length-drop, length-take-le, map, replicate, sum_by, sym, length-append, length-replicate, All-push, All-head, All-tail, All-cons, All-nil, All-weaker, All-append, All-map, All-replicate, IfSome}
 use Rattle.core_soundness.proofs.Words.Trees.{first_place, behind, IsCut, answer_with, answer_of, HasTokens, PieceKind, LexError, Token, some_commas, shape, Place, name_of, Tree, Trees, Leaf, At, Node, none, ◌▹◌, count}
 use Rattle.core_soundness.proofs.Words.Types.{no_layout, layout_in, TagTable, PlainType, Array, Void, IntType, line_of, promoted, unconverted, Checked, refused, then, unless, named_in, innermost, tag_name, tag_named, with_layers, is_function, has_no_size, Operand, Number, operand, is_void, is_scalar, Assignment, DeclaredTwice, Incomplete, LeftOut, Operands, ProgramTooLong, is_built_in}
-use Rattle.core_soundness.proofs.Words.Core.{IsShort, AreShort, Core, Func, Reg as Register, Start, Static, Atom, Off, Enter, Leave, Jump, Return}
-use Rattle.core_soundness.proofs.Words.Elaborating.{addressed_in, Context, With, Variable, asked, emit, anew, left, entered, here, new_label, with_labels, with_pieces, Walked, first_context, Found, Spot, Local, Memory, atom_in, valued, convert, write, size_or_zero, convert_integer, tested_value, unused, Storage, Typedef, Outside, storage_of, specs_alone, specs_before, cleared, fill_memory, fill_register, fill_at, fill_local, local_object, local_name, function_number, with_function, declared_function, no_initializer, variable_number_of, with_new_variable, with_variable, start_of, started_variable, started, fill_variable, file_object, file_function, file_value, file_name, name_in, entry, entries, declaration, layers, specs, elaborated, found, begun, params_of, is_defined, body_begun, last_answer, piece_length, body_ended, body, named_definition, external, externals, Target, InRegister, InMemory, InStatic, static_scalar, member_place, store_at, fill_scalar, scalar, copy_to, fill_record, is_same_place, whole, fill_text, is_character, text, by_text, by_expression, parts_of, takes_braces, is_scalar_type, surplus, all_surplus, initialize, initialize_parts, no_start, with_init_layers, not_whole, is_twice, declared_as, with_local, reallocates, opened, closed, function_of, variable_static, literal_static, temporary, pointer_register, core_of, with_static, with_literal, Around, below, in_loop, in_switch, in_delay, leaves, leave_to, evaluated, maybe_evaluated, condition, leaves_if_zero, maybe_leaves, apart, return_of, return_from, case_of, cased, defaulted, switch_operand_of, switch_operand, no_cases, for_start, statement, items, around_body}
+use Rattle.core_soundness.proofs.Words.Core.{IsShort, AreShort, Core, Func, Reg as Register, Static, Atom, Off, Enter, Leave, Jump, Return}
+use Rattle.core_soundness.proofs.Words.Elaborating.{addressed_in, Context, With, Variable, asked, emit, anew, left, entered, here, new_label, with_labels, with_pieces, Walked, first_context, Found, Spot, Local, Memory, atom_in, valued, convert, write, size_or_zero, convert_integer, tested_value, unused, Storage, Typedef, Outside, storage_of, specs_alone, specs_before, cleared, fill_memory, fill_register, fill_at, fill_local, local_object, local_name, function_number, declared_function, no_initializer, variable_number_of, with_new_variable, with_variable, start_of, fill_variable, file_object, file_function, file_value, file_name, name_in, entry, entries, declaration, layers, specs, elaborated, found, begun, params_of, is_defined, body_begun, last_answer, piece_length, body_ended, body, named_definition, external, externals, Target, InRegister, InMemory, InStatic, static_scalar, member_place, store_at, fill_scalar, copy_to, fill_record, is_same_place, whole, fill_text, is_character, text, by_text, by_expression, parts_of, takes_braces, is_scalar_type, surplus, all_surplus, initialize, initialize_parts, no_start, with_init_layers, not_whole, is_twice, declared_as, with_local, reallocates, opened, closed, function_of, variable_static, literal_static, temporary, pointer_register, core_of, with_static, with_literal, Around, below, in_loop, in_switch, in_delay, leaves, leave_to, evaluated, maybe_evaluated, condition, leaves_if_zero, maybe_leaves, apart, return_of, return_from, case_of, cased, defaulted, switch_operand_of, switch_operand, no_cases, for_start, statement, items, around_body}
 use Rattle.core_soundness.proofs.Words.Facts.{AreWithin, HasShortLists}
 use Rattle.c_lexer.specs.declared.piece.Piece.{Piece}
 use Rattle.c_lexer.specs.declared.place.Place.{Place as SourcePlace}
@@ -20,11 +17,12 @@ use Rattle.elaboration.specs.Resolving.{plain_name}
 use Rattle.core_soundness.proofs.Agreeing.{came}
 use Rattle.core_soundness.proofs.Cores.{behind as core_behind, core_sizes}
 use Rattle.core_soundness.proofs.Growth.{Reached, reached_ok, reached_refused, reached_after, reached_unless, reached_barred, Led, led_ok, led_refused, led_after, led_unless, led_barred, behind_string}
-use Rattle.core_soundness.proofs.Near.{Near, near_refl, near_on, near_most, near_pointer, near_register, near_memory, valued_near, convert_near, write_near, integer_near, tested_value_near, unused_near, static_near, literal_near, found_near, declared_near, named_near, with_type_near, specs_near, layers_near, constant_near, share, Share, Tidy, made_in, temporaries, Sized, Clear}
+use Rattle.core_soundness.proofs.Near.{Near, near_refl, near_on, near_most, near_pointer, near_register, near_memory, static_near, literal_near, declared_near, named_near, specs_near, layers_near, constant_near, share, Share, Tidy, made_in, temporaries, Sized, Clear, near_writes, near_walk}
 use Rattle.core_soundness.proofs.Scopes.{Short, AllShort, name_short}
-use Rattle.core_soundness.proofs.Walks.{weight, weights, said, commas_said}
+use Rattle.core_soundness.proofs.Walks.{weight, weights, said, commas_said, found_keeps}
 use Rattle.core_soundness.proofs.Choices.{either_way}
 use Rattle.core_soundness.proofs.Statements.{behind_text}
+use Rattle.core_soundness.proofs.CodeWalk.{unused_keeps, valued_keeps, convert_integer_keeps, convert_keeps, tested_value_keeps, write_keeps}
 
 -- what initializers and declarations make
 
@@ -41,11 +39,11 @@ closed_near e c = either_way (Near 0 c) (reallocates c.scopes e) (near_refl c) (
 
 -- the value of a full expression, and the same converted
 pub full_near : (e : Tree) (type : PlainType) (c : Context) (d : Context × Found) → valued e (found e type (opened e c)) ≡ Ok d → Near (weight e + 1) (opened e c) d.0
-full_near e type c d q = valued_near (weight e) e (opened e c) (found e type (opened e c)) (found_near e type (opened e c)) d q
+full_near e type c d q = valued_keeps Near near_writes (weight e) e (opened e c) (found e type (opened e c)) (found_keeps Near near_walk e type (opened e c)) d q
 
 pub converted_near : (e : Tree) (at : ℕ) (type : PlainType) (c : Context) (d : Context × Found) → valued e (found e type (opened e c)) ≡ Ok d → Near (weight e + 2) c (convert at (opened e c).code type d.1.typed (atom_in d.1) d.0).0
 converted_near e at type c d q =
-    near_on 0 (weight e + 1 + 1) (weight e + 2) (omega arith) (opened_near e c) (convert_near (weight e + 1) at (opened e c) type d.1.typed (atom_in d.1) d.0 (full_near e type c d q))
+    near_on 0 (weight e + 1 + 1) (weight e + 2) (omega arith) (opened_near e c) (convert_keeps Near near_writes (weight e + 1) at (opened e c) type d.1.typed (atom_in d.1) d.0 (full_near e type c d q))
 
 -- initializers
 
@@ -56,21 +54,18 @@ fill_scalar_near : (e : Tree) (line : ℕ) (type : PlainType) (offset : ℕ) (ta
 fill_scalar_near e line type offset (InRegister at register) c d q =
     let v = convert at (opened e c).code type d.1.typed (atom_in d.1) d.0 in
     let s = write at type (Local register) v.1 v.0 in
-    let last = near_on 0 0 0 (omega arith) (write_near at type (Local register) v.1 v.0) (closed_near e s) in
+    let last = near_on 0 0 0 (omega arith) (write_keeps Near near_writes at type (Local register) v.1 v.0) (closed_near e s) in
     reached_ok (Near (weight e + 3) c) (near_on (weight e + 2) 0 (weight e + 3) (omega arith) (converted_near e at type c d q) last)
 fill_scalar_near e line type offset (InMemory at mem) c d q =
     let v = convert at (opened e c).code type d.1.typed (atom_in d.1) d.0 in
     let place = member_place at mem offset v.0 in
     let s = store_at at type v.1 place in
-    let last = near_on 0 0 0 (omega arith) (write_near at type (Memory place.1) v.1 place.0) (closed_near e s) in
+    let last = near_on 0 0 0 (omega arith) (write_keeps Near near_writes at type (Memory place.1) v.1 place.0) (closed_near e s) in
     let stored = near_on 1 0 1 (omega arith) (place_near at mem offset v.0) last in
     reached_ok (Near (weight e + 3) c) (near_on (weight e + 2) 1 (weight e + 3) (omega arith) (converted_near e at type c d q) stored)
 fill_scalar_near e line type offset (InStatic start) c d q =
     reached_after (Near (weight e + 3) c) (static_scalar line type offset start d.1)
     (λ filled s. reached_ok (Near (weight e + 3) c) (near_on 0 (weight e + 1) (weight e + 3) (omega arith) (opened_near e c) (full_near e type c d q)))
-
-scalar_near : (e : Tree) (line : ℕ) (type : PlainType) (offset : ℕ) (target : Target) (c : Context) → Reached (Near (weight e + 3) c) (scalar e line type offset target c)
-scalar_near e line type offset target c = search (arith, reached_after, weight, reached_barred, fill_scalar_near)
 
 fill_record_near : (k : ℕ) (e : Tree) (line : ℕ) (type : PlainType) (offset : ℕ) (c : Context) (d : Context × Found) (target : Target) → Near k c d.0 → Reached (Near (k + 3) c) (fill_record e line type offset d target)
 fill_record_near k e line type offset c d (InMemory at mem) g =
@@ -83,7 +78,7 @@ whole_near : (e : Tree) (line : ℕ) (type : PlainType) (offset : ℕ) (target :
 whole_near e line type offset target c =
     reached_after (Near (weight e + 3) c) (found e type (opened e c))
     (λ d q. reached_unless (Near (weight e + 3) c) (not (is_same_place type d.1.typed)) (not_whole d.1.typed) line
-    (fill_record_near (weight e) e line type offset c d target (near_on 0 (weight e) (weight e) (omega arith) (opened_near e c) (found_near e type (opened e c) d q))))
+    (fill_record_near (weight e) e line type offset c d target (near_on 0 (weight e) (weight e) (omega arith) (opened_near e c) (found_keeps Near near_walk e type (opened e c) d q))))
 
 fill_text_near : (e : Tree) (line : ℕ) (bytes : List ℕ) (size offset : ℕ) (target : Target) (c : Context) → Reached (Near 1 c) (fill_text e line bytes size offset target c)
 fill_text_near e line bytes size offset (InMemory at mem) c =
@@ -103,7 +98,7 @@ by_text_near e line element size offset (Some bytes) target c =
 
 by_expression_near : (e : Tree) (line : ℕ) (type : PlainType) (offset : ℕ) (target : Target) (c : Context) → Reached (Near (weight e + 3) c) (by_expression e line type offset target c)
 by_expression_near e line (Array element size) offset target c = by_text_near e line element size offset (text e) target c
-by_expression_near e line type offset target c = search (arith, whole_near, scalar_near) fits 100
+by_expression_near e line type offset target c = search (arith, whole_near, reached_after, weight, reached_barred, fill_scalar_near) fits 100
 
 some_commas_said : (place : Place) (k : ℕ) → 6 * k ≤ said (some_commas place k) + 6
 some_commas_said place zero = omega arith
@@ -156,9 +151,6 @@ fill_at_near line type inits (Local register) c = fill_register_near line type i
 fill_at_near line type inits (Memory mem) c = fill_memory_near line type inits mem c
 fill_at_near line type inits other c = led_ok (Near (starting inits) c) (near_most 0 (starting inits) (omega arith) (near_refl c))
 
-with_local_near : (name : List ℕ) (type : PlainType) (c : Context) → IsShort name → Near 1 c (with_local name type c).0
-with_local_near name type c h = grind (arith, true, near_on, near_memory, named_near, false, near_register)
-
 local_object_near : (line : ℕ) (name : List ℕ) (type : PlainType) (inits : Trees) (c : Context) → IsShort name → Led (Near (1 + starting inits) c) (local_object line name type inits c)
 local_object_near line name type inits c h =
     let x = with_local name type c in
@@ -167,7 +159,7 @@ local_object_near line name type inits c h =
     led_unless (Near (1 + starting inits) c) (is_function type) LeftOut line
     (λ a. led_unless (Near (1 + starting inits) c) (has_no_size c.tags type) Incomplete line
     (λ b. led_unless (Near (1 + starting inits) c) (is_twice c.scopes name (n.Object type 0)) DeclaredTwice line
-    (λ t z q. near_on 1 (starting inits) (1 + starting inits) (omega arith) (with_local_near name type c h) (fill_at_near line type inits x.1 x.0 z q))))
+    (λ t z q. near_on 1 (starting inits) (1 + starting inits) (omega arith) (grind (arith, true, near_on, near_memory, named_near, false, near_register)) (fill_at_near line type inits x.1 x.0 z q))))
 
 local_name_near : (line : ℕ) (storage : Storage) (name : List ℕ) (type : PlainType) (inits : Trees) (c : Context) → IsShort name → Led (Near (1 + starting inits) c) (local_name line storage name type inits c)
 local_name_near line Typedef name type inits c h z q = near_most 0 (1 + starting inits) (omega arith) (declared_near line name (n.Typedef type) c z q)
@@ -176,11 +168,8 @@ local_name_near line storages.Plain name type inits c h z q = local_object_near 
 
 -- file scope
 
-function_near : (index : ℕ) (name : List ℕ) (c : Context) → Near 0 c (with_function index name c)
-function_near index name c = either_way (Near 0 c) (nat_lt index (length c.functions)) (near_refl c) (near_refl c)
-
 pub declared_function_near : (line : ℕ) (name : List ℕ) (type : PlainType) (c : Context) → Led (Near 0 c) (declared_function line name type c)
-declared_function_near line name type c = search (arith, led_after, led_ok, near_on, declared_near, function_near)
+declared_function_near line name type c = search (arith, led_after, led_ok, near_on, declared_near, either_way, near_refl)
 
 no_initializer_near : (inits : Trees) (c : Context) → Led (Near 0 c) (no_initializer inits c)
 no_initializer_near none c = led_ok (Near 0 c) (near_refl c)
@@ -212,18 +201,12 @@ set_short [] i v h k = h
 set_short (x ∷ vs) zero v h k = All-cons HasShort v vs k (All-tail HasShort x vs h)
 set_short (x ∷ vs) (suc i) v h k = All-cons HasShort x (slice_set vs i v) (All-head HasShort x vs h) (set_short vs i v (All-tail HasShort x vs h) k)
 
-started_short : (index : ℕ) (start : Start) (o : Option Variable) (vs : List Variable) → slice_get vs index ≡ o → All HasShort vs → All HasShort (started_variable index start o vs)
-started_short index start o vs e h = search (arith, set_short, get_short) fits 100
-
-started_near : (index : ℕ) (d : Context × Target) → Near 0 d.0 (started index d)
-started_near index d = search (arith, variables_near, started_short)
-
 fill_variable_near : (line index : ℕ) (type : PlainType) (inits : Trees) (c : Context) → Led (Near (starting inits) c) (fill_variable line index type inits c)
 fill_variable_near line index type none c = led_ok (Near 0 c) (near_refl c)
 fill_variable_near line index type (init ▹ rest) c =
     led_unless (Near (weight init + 3) c) (is_some (start_of (slice_get c.variables index))) DeclaredTwice line
     (λ t. led_after (Near (weight init + 3) c) (initialize init false type 0 (InStatic no_start) c)
-    (λ d q. led_ok (Near (weight init + 3) c) (near_on (weight init + 3) 0 (weight init + 3) (omega arith) (initialize_near init false type 0 (InStatic no_start) c d q) (started_near index d))))
+    (λ d q. led_ok (Near (weight init + 3) c) (near_on (weight init + 3) 0 (weight init + 3) (omega arith) (initialize_near init false type 0 (InStatic no_start) c d q) (search (arith, variables_near, set_short, get_short)))))
 
 file_object_near : (line : ℕ) (name : List ℕ) (type : PlainType) (inits : Trees) (c : Context) → IsShort name → Led (Near (1 + starting inits) c) (file_object line name type inits c)
 file_object_near line name type inits c h =
@@ -260,22 +243,18 @@ entry_near file line storage base declarator inits c h z q =
     let t = came (with_init_layers l.value.0.tags l.value.1 inits base) l.last in
     near_on (weight declarator) (1 + starting inits) (weight declarator + starting inits + 1) (omega arith) (layers_near declarator c h l.value l.is) (name_in_near file line storage (name_of declarator) t.value inits l.value.0 (name_short declarator h) z t.last)
 
-starts_within : (inits : Trees) → starting inits ≤ weight (Node f.MaybeInit inits)
-unfolding shape
-starts_within inits = search arith fits 100
-
 entries_near : (names : Trees) (file : Bool) (line : ℕ) (storage : Storage) (base : PlainType) (c : Context) → AllShort names → Led (Near (weights names + count names) c) (entries file line storage base names c)
 unfolding entries shape
 entries_near none file line storage base c h z q = led_ok (Near 0 c) (near_refl c) z q
 entries_near (Node f.Entry (Node f.Declared (declarator ▹ none) ▹ Node f.MaybeInit inits ▹ none) ▹ rest) file line storage base c h z q =
     let d = came (entry file line storage base declarator inits c) q in
-    let room = starts_within inits in
+    let room : starting inits ≤ weight (Node f.MaybeInit inits) = search arith fits 100 in
     near_on (weight declarator + starting inits + 1) (weights rest + count rest) _ (omega (arith, room)) (entry_near file line storage base declarator inits c h.0.0.0 d.value d.is) (entries_near rest file line storage base d.value h.1 z d.last)
 entries_near (tree ▹ rest) file line storage base c h z q = led_refused (Near (weights (tree ▹ rest) + count (tree ▹ rest)) c) z q
 
 alone_near : (tree : Tree) (c : Context) → Short tree → Reached (Near (weight tree) c) (specs_alone tree c)
 alone_near (Node f.Specs (At line ▹ Node (f.RecordTag sort) (At at ▹ Leaf (w.Name name) ▹ none) ▹ none)) c h z q =
-    near_most 0 _ (omega arith) (with_type_near (tag_named at sort name (asked c) (named_in (tag_name name) (innermost c.scopes))) c z q)
+    near_most 0 _ (omega arith) ((reached_after (Near 0 c) (tag_named at sort name (asked c) (named_in (tag_name name) (innermost c.scopes))) (λ x q. reached_ok (Near 0 c) (near_refl c))) z q)
 alone_near tree c h z q = specs_near tree c h z q
 
 before_near : (tree : Tree) (names : Trees) (c : Context) → Short tree → Reached (Near (weight tree) c) (specs_before tree names c)
@@ -318,7 +297,7 @@ leave_near line delays (Some exit) c = led_ok (Near 0 c) (leaves_near (delays - 
 evaluated_near : (e : Tree) (c : Context) → Led (Near (weight e + 1) c) (evaluated e c)
 evaluated_near e c =
     led_after (Near (weight e + 1) c) (unused e (found e Void (opened e c)))
-    (λ d q. led_ok (Near (weight e + 1) c) (near_on 0 (weight e + 1) (weight e + 1) (omega arith) (opened_near e c) (near_on (weight e + 1) 0 (weight e + 1) (omega arith) (unused_near (weight e) e (opened e c) (found e Void (opened e c)) (found_near e Void (opened e c)) d q) (closed_near e d.0))))
+    (λ d q. led_ok (Near (weight e + 1) c) (near_on 0 (weight e + 1) (weight e + 1) (omega arith) (opened_near e c) (near_on (weight e + 1) 0 (weight e + 1) (omega arith) (unused_keeps Near near_writes (weight e) e (opened e c) (found e Void (opened e c)) (found_keeps Near near_walk e Void (opened e c)) d q) (closed_near e d.0))))
 
 maybe_evaluated_near : (es : Trees) (c : Context) → Led (Near (weights es + 1) c) (maybe_evaluated es c)
 maybe_evaluated_near none c z q = led_ok (Near 1 c) (near_most 0 1 (omega arith) (near_refl c)) z q
@@ -327,7 +306,7 @@ maybe_evaluated_near (e ▹ rest) c z q = near_most (weight e + 1) _ (omega arit
 condition_near : (e : Tree) (c : Context) → Reached (Near (weight e + 2) c) (condition e c)
 condition_near e c =
     reached_after (Near (weight e + 2) c) (valued e (found e Void (opened e c)))
-    (λ d q. let last = near_on 1 0 1 (omega arith) (tested_value_near e d) (closed_near e (tested_value e d).0) in
+    (λ d q. let last = near_on 1 0 1 (omega arith) (tested_value_keeps Near near_writes e d) (closed_near e (tested_value e d).0) in
     reached_unless (Near (weight e + 2) c) (not (is_scalar d.1.typed.type)) Operands (line_of e)
     (reached_ok (Near (weight e + 2) c) (near_on 0 (weight e + 2) (weight e + 2) (omega arith) (opened_near e c) (near_on (weight e + 1) 1 (weight e + 2) (omega arith) (full_near e Void c d q) last))))
 
@@ -368,7 +347,7 @@ defaulted_near line a label c = search (arith, not, led_unless, led_ok, near_ref
 operand_of_near : (k line : ℕ) (e : Tree) (o : Operand) (c : Context) (d : Context × Found) → Near k c d.0 → Reached (Near (k + 1) c) (switch_operand_of line e o d)
 operand_of_near k line e (Number ty) c d g =
     let v = convert_integer line (promoted ty) ty (atom_in d.1) d.0 in
-    reached_ok (Near (k + 1) c) (near_on k 1 (k + 1) (omega arith) g (near_on 1 0 1 (omega arith) (integer_near line (promoted ty) ty (atom_in d.1) d.0) (closed_near e v.0)))
+    reached_ok (Near (k + 1) c) (near_on k 1 (k + 1) (omega arith) g (near_on 1 0 1 (omega arith) (convert_integer_keeps Near near_writes line (promoted ty) ty (atom_in d.1) d.0) (closed_near e v.0)))
 operand_of_near k line e other c d g = reached_refused (Near (k + 1) c)
 
 operand_near : (line : ℕ) (e : Tree) (c : Context) → Reached (Near (weight e + 1 + 1) c) (switch_operand line e c)

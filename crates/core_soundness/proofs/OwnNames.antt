@@ -1,10 +1,7 @@
 -- The name `main`, which no suffix makes of another name or another name of it.
-use Rattle.std.proofs.Common.{◌≡◌, ◌==◌, ℕ, Bool, true, false, cond, List, [], ◌∷◌, ◌++◌, ◌⊎◌, inl, inr, refl, ap, eq-eqb, arith}
-use Rattle.std.proofs.lemmas.Bool.{eqb-true}
-use Rattle.std.proofs.lemmas.List.{append-nil}
-use Rattle.std.specs.Prelude.{codes, IfSome}
+use Rattle.core_soundness.proofs.Words.Std.{◌≡◌, ◌==◌, ℕ, Bool, true, false, cond, List, [], ◌∷◌, ◌++◌, ◌⊎◌, inl, inr, refl, ap, eq-eqb, arith, eqb-true, append-nil, codes, IfSome}
 use Rattle.core_soundness.proofs.Words.Trees.{is_space, is_letter, is_digit, is_name_byte, class_of, kind_of, IsToken, IsDotted, IsSuffixed, name_of, Tree, Trees, Node, none, ◌▹◌}
-use Rattle.core_soundness.proofs.Words.Facts.{Names, AllNames, Each}
+use Rattle.core_soundness.proofs.Words.Facts.{AllNames, Each}
 use Rattle.c_lexer.specs.declared.token.TokenKind.TheVariants as kind
 use Rattle.c_tree.specs.Forms as f
 use Rattle.elaboration.specs.Resolving.{plain_name}
@@ -42,13 +39,9 @@ name_cut (b ∷ rest) = by (b == 46) refl (cut_more b rest (plain_name rest) (na
     by true e h = inr (rest, ap (λ (k : ℕ). k ∷ rest) (eqb-true b 46 e))
     by false e h = h
 
-not_main : (rest : List ℕ) → IsToken kind.Name (codes "main" ++ 46 ∷ rest) → ⊥
-unfolding kind_of class_of is_space is_letter is_digit is_name_byte
-not_main rest e = cc
-
 pub own_name : (name : List ℕ) → IsToken kind.Name name → IsOwn name
-unfolding IsCut
-own_name name token e = grind (arith, name_cut, not_main)
+unfolding IsCut kind_of class_of is_space is_letter is_digit is_name_byte
+own_name name token e = grind (arith, name_cut)
 
 -- a suffix keeps that
 
@@ -62,9 +55,6 @@ own_kept name new s own e = search (arith, plain_suffix, append-nil)
 
 -- the names of functions that are defined
 
-own_tree : (tree : Tree) → Names IsOwn tree → HasOwnName tree
-own_tree tree h = search (arith, name_named) fits 100
-
 pub own_trees : (unit : Trees) → AllNames IsOwn unit → HaveOwnNames unit
 own_trees none h = tt
-own_trees (tree ▹ rest) h = (own_tree tree h.0, own_trees rest h.1)
+own_trees (tree ▹ rest) h = (search (arith, name_named) fits 100, own_trees rest h.1)

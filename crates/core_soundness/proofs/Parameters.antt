@@ -1,6 +1,5 @@
 -- The registers that declarators make.
-use Rattle.std.proofs.Common.{◌≡◌, ◌≤◌, ◌+◌, ℕ, suc, pos, true, false, ◌||◌, map, length, reverse, ◌⊎◌, List, [], ◌∷◌, ◌++◌, Option, Some, None, Ok, refl, sym, ap, ◌∙◌, subst, arith, append-nil, append_assoc}
-use Rattle.std.proofs.lemmas.List.{reverse-append, map-append}
+use Rattle.core_soundness.proofs.Words.Std.{◌≡◌, ◌≤◌, ◌+◌, ℕ, suc, pos, true, false, ◌||◌, map, length, reverse, ◌⊎◌, List, [], ◌∷◌, ◌++◌, Option, Some, None, Ok, refl, sym, ap, ◌∙◌, subst, arith, append-nil, append_assoc, reverse-append, map-append}
 use Rattle.core_soundness.proofs.Words.Trees.{name_of, Tree, Trees, Leaf, At, Node, none, ◌▹◌}
 use Rattle.core_soundness.proofs.Words.Types.{TagTable, PlainType, PlainTypes, Function, first, line_of, typed, wanted, PlainNamed, after_declaration, Table, Layer, ArrayOf, FunctionOf, special_type, array_length, layered, with_layers, with_param_layers, adjusted, is_record, is_function, is_array}
 use Rattle.core_soundness.proofs.Words.Core.{Sort, sort_of, Atom}
@@ -238,10 +237,6 @@ mutual
 
 -- specs, and layers with no function among them, add no parameter and have no list: what tags and constants keep, they keep
 
--- a member is no function
-member_plain : (line : ℕ) (name : Option (List ℕ)) (type : PlainType) (list : d.Members) (c : Context) (z : Context × d.Members) → member line name type list c ≡ Ok z → is_function type ≡ false
-member_plain line name type list c z q = search (arith, kept_test)
-
 module _ (R : Context → Context → Type 0) (tag : Tagging R) (adds : Enumerates R) where
   mutual
     unfolding specs words_type tag_type members member_names layers suffix_layers suffix_layer
@@ -279,7 +274,7 @@ module _ (R : Context → Context → Type 0) (tag : Tagging R) (adds : Enumerat
         let l = came (layers declarator c) q in
         let t = came (with_layers l.value.0.tags l.value.1 base) l.last in
         let m = came (member line (name_of declarator) t.value list l.value.0) t.last in
-        let one = layers_plain declarator c l.value l.is (not_function l.value.0.tags l.value.1 base t.value t.is (member_plain line (name_of declarator) t.value list l.value.0 m.value m.is)) in
+        let one = layers_plain declarator c l.value l.is (not_function l.value.0.tags l.value.1 base t.value t.is (search (arith, kept_test))) in
         tag.join c l.value.0 z.0 one (tag.join l.value.0 m.value.0 z.0 (members_keep_one R tag line (name_of declarator) t.value list l.value.0 m.value m.is) (member_names_plain rest line base m.value.1 m.value.0 z m.last))
 
     layers_plain : (tree : Tree) (c : Context) (z : Context × List Layer) → layers tree c ≡ Ok z → functions z.1 ≡ 0 → R c z.0
@@ -335,9 +330,5 @@ suffixes_counts parts c z q n = suffixes_plain (Alike counts) counts_tags (λ na
 pub declared_counts : (line : ℕ) (name : List ℕ) (v : PlainNamed) (c z : Context) → declared_as line name v c ≡ Ok z → counts z ≡ counts c
 declared_counts line name v c z q = ap counts (sym (passed _ _ line (record c { scopes = after_declaration c.scopes name v }) z q))
 
--- and no register is added
-sorts_tags : Tagging (Alike sorts)
-sorts_tags = record { stop = λ c. refl; join = λ a b c x y. y ∙ x; tells = λ t c m. refl; retags = λ tags c. refl; names = λ name c. refl }
-
 pub specs_sorts : (tree : Tree) (c : Context) → Reached (Alike sorts c) (specs tree c)
-specs_sorts tree c z q = specs_plain (Alike sorts) sorts_tags (λ name value c. refl) tree c z q
+specs_sorts tree c z q = specs_plain (Alike sorts) (record { stop = λ c. refl; join = λ a b c x y. y ∙ x; tells = λ t c m. refl; retags = λ tags c. refl; names = λ name c. refl }) (λ name value c. refl) tree c z q

@@ -1,11 +1,11 @@
 -- Parts of code behind one another, and the code of statements.
-use Rattle.std.proofs.Common.{◌≡◌, ◌⊎◌, ◌≤◌, ◌<◌, ◌+◌, ℕ, zero, suc, List, [], ◌∷◌, ◌++◌, refl, sym, ap, ◌∙◌, subst, arith, inl, inr, ⊎_elim, append_assoc, ℤ, Bool, false, not, take, drop, Option, Some, None, ap₂, append-nil, map}
+use Rattle.core_soundness.proofs.Words.Std.{◌≡◌, ◌⊎◌, ◌≤◌, ◌<◌, ◌+◌, ℕ, zero, suc, List, [], ◌∷◌, ◌++◌, refl, sym, ap, ◌∙◌, subst, arith, inl, inr, ⊎_elim, append_assoc, ℤ, Bool, false, not, take, drop, Option, Some, None, ap₂, append-nil, map}
 use Rattle.core_soundness.proofs.Words.Trees.{Tree, Trees, none, ◌▹◌}
 use Rattle.core_soundness.proofs.Words.Types.{PlainType, Void, IntType, line_of, promoted, unconverted, Operand, Number, is_void, is_scalar, Operands, Assignment}
 use Rattle.core_soundness.proofs.Words.Core.{Atom, Stm, StmKind, Jump, Zero, Case, Loop, Leave, Return}
 use Rattle.core_soundness.proofs.Words.Elaborating.{Piece, Does, Here, Code, Context, Running, entered, left, emit, Found, atom_in, valued, convert, convert_integer, code_line, tested_value, unused, found, opened, closed, Around, below, in_loop, in_switch, in_delay, leaves, evaluated, maybe_evaluated, condition, leaves_if_zero, maybe_leaves, returned, return_of, return_from, switch_operand_of, switch_operand, does}
 use Rattle.core_soundness.proofs.Declaring.{passes_refl, tail_depth}
-use Rattle.core_soundness.proofs.Flows.{Marks, Target, Targets, Places, Placed, steps, Goes, Flows, agree_refl, steps_append, targets_append, places_append, Way, way_on, way_back, IsWay, Leads, AreEarlier, leads_less, Fragment, joined, with_ways, within, closed_by, opened_by, loop_leaves, stm_at, earlier_less, anywhere, zero_leaves, Agree, agree_trans, targets_map, places_map, placed_left, placed_right, placed_below, flows_append, flows_agree, marked, Stands, leads_agree, Entered, ArePlaced, Made}
+use Rattle.core_soundness.proofs.Flows.{Marks, Target, Targets, Places, Placed, steps, Goes, Flows, agree_refl, steps_append, targets_append, places_append, Way, way_on, way_back, IsWay, Leads, AreEarlier, leads_less, Fragment, joined, with_ways, within, closed_by, opened_by, stm_at, earlier_less, anywhere, Agree, agree_trans, targets_map, places_map, placed_left, placed_right, placed_below, flows_append, flows_agree, marked, Stands, leads_agree, Entered, ArePlaced, Made}
 use Rattle.core_soundness.proofs.Growth.{Grows, grows_refl, grows_trans, Reached, reached_ok, reached_refused, reached_after, reached_unless, Led, led_ok, led_after, led_unless, led_barred, Stays, Passes, stays_trans, grows_passes, grows_closed, stays_beside}
 use Rattle.core_soundness.proofs.Scopes.{Safe, left_safe, tied_refl}
 use Rattle.core_soundness.proofs.Walks.{found_grows, grown_valued, grows_convert, grows_convert_integer, grows_tested, grown_unused}
@@ -35,7 +35,7 @@ loop_fragment n line l high a le f =
     let small : l < l + 2 = omega arith in
     let small1 : l + 1 < l + 2 = omega arith in
     let small2 : l < l + 1 = omega arith in
-    let back : Fragment both n high high (Does (stm_at line (Loop l)) ∷ []) [] = ways_swapped (way_back l n) (way_on (l + 1) n) [] n high high (Does (stm_at line (Loop l)) ∷ []) [] (loop_leaves (way_on (l + 1) n ∷ []) n high high line l (omega arith)) in
+    let back : Fragment both n high high (Does (stm_at line (Loop l)) ∷ []) [] = ways_swapped (way_back l n) (way_on (l + 1) n) [] n high high (Does (stm_at line (Loop l)) ∷ []) [] (grind (arith, agree_refl)) in
     let first : Fragment both n (l + 2) high (a ++ (Does (stm_at line (Loop l)) ∷ [])) [] = joined both n (l + 2) high high a (Does (stm_at line (Loop l)) ∷ []) [] [] (small1, (small, tt)) le (omega arith) f back in
     let moved : Fragment both n (l + 1 + 1) high (a ++ (Does (stm_at line (Loop l)) ∷ [])) [] = within both n (l + 2) high (l + 1 + 1) high (a ++ (Does (stm_at line (Loop l)) ∷ [])) [] (omega arith) (omega arith) first in
     opened_by [] n l high ((a ++ (Does (stm_at line (Loop l)) ∷ [])) ++ (Here (l + 1) ∷ [])) (omega arith) tt
@@ -162,11 +162,8 @@ fits_delay l a h = record { early = h.early; breaks = outside_more a.delays a.br
 pub fits_loop : (l end next : ℕ) (a : Around) → end < l → next < l → Fits l (in_loop end next a)
 fits_loop l end next a x y = record { early = (x, (y, tt)); breaks = omega arith; continues = omega arith }
 
-later_ways : (l : ℕ) (x y : Option (ℕ × ℕ)) → AreEarlier l (ways_of x ++ ways_of y) → AreEarlier l (ways_of y)
-later_ways l x y h = search arith fits 100
-
 pub fits_switch : (l end : ℕ) (block : Bool) (ty : IntType) (a : Around) → end < l → Fits l a → Fits l (in_switch block end ty a)
-fits_switch l end block ty a x h = record { early = (x, later_ways l a.breaks a.continues h.early); breaks = omega arith; continues = h.continues }
+fits_switch l end block ty a x h = record { early = (x, search arith fits 100); breaks = omega arith; continues = h.continues }
 
 -- the labels of the cases of the running switch, and of its default
 abbrev pub IsCase : ℕ → List (ℤ × ℕ) → Type 0
@@ -238,9 +235,6 @@ below_labels a c d e w l h =
 
 -- expressions
 
-grows_tested_value : (tree : Tree) (d : Context × Found) → Grows d.0 (tested_value tree d).0
-grows_tested_value tree d = grows_tested (code_line tree) d.1.typed.type (atom_in d.1) d.0
-
 pub evaluated_passes : (e : Tree) (c : Context) → Safe c.scopes → Led (Passes c) (evaluated e c)
 evaluated_passes e c s =
     let begun = opened e c in
@@ -257,16 +251,13 @@ condition_passes e c s =
     reached_after (Passes c) (valued e (found e Void begun))
     (λ d h. reached_unless (Passes c) (not (is_scalar d.1.typed.type)) Operands (line_of e)
     (reached_ok (Passes c) (grows_passes c _ s (grows_closed e c (tested_value e d).0 s
-    (grows_trans begun d.0 _ (grown_valued e begun (found e Void begun) (found_grows e Void begun begun (grows_refl begun)) d h) (grows_tested_value e d))))))
+    (grows_trans begun d.0 _ (grown_valued e begun (found e Void begun) (found_grows e Void begun begun (grows_refl begun)) d h) (grows_tested (code_line e) d.1.typed.type (atom_in d.1) d.0))))))
 
 -- a test, which leaves to a label
 pub record Tests (l : ℕ) (c d : Context) : Type 0 where
   pub part : (n : ℕ) → Part (way_on l n ∷ []) n c.code d.code []
   pub running : (d.running.cases ≡ c.running.cases) × (d.running.otherwise ≡ c.running.otherwise)
   pub stays : Stays c d
-
-pub tests_passes : (l : ℕ) (c d : Context) → Passes c d → Tests l c d
-tests_passes l c d p = record { part = λ n. part_anywhere (way_on l n ∷ []) n c.code d.code (passes_part n c d p); running = (p.cases, p.otherwise); stays = p.stays }
 
 tests_zero : (line l : ℕ) (a : Atom) (c d : Context) → l < c.code.labels → Passes c d → Tests l c (emit line (Zero a l) d)
 tests_zero line l a c d le p = record {
@@ -277,7 +268,7 @@ tests_zero line l a c d le p = record {
         code = ap (λ (x : List Piece). x ++ (Does (stm_at line (Zero a l)) ∷ [])) p.code ∙ append_assoc c.code.pieces p.pieces (Does (stm_at line (Zero a l)) ∷ []);
         more = p.more;
         fragment = joined (way_on l n ∷ []) n c.code.labels d.code.labels d.code.labels p.pieces (Does (stm_at line (Zero a l)) ∷ []) [] [] (le, tt) p.more (omega arith)
-            (anywhere (way_on l n ∷ []) n c.code.labels d.code.labels p.pieces [] (p.fragment n)) (zero_leaves [] n d.code.labels d.code.labels line l a small);
+            (anywhere (way_on l n ∷ []) n c.code.labels d.code.labels p.pieces [] (p.fragment n)) (search (arith, agree_refl));
       };
   running = (p.cases, p.otherwise);
   stays = record { safe = p.stays.safe; depth = p.stays.depth; tied = p.stays.tied; walked = p.stays.walked; length = p.stays.length; params = p.stays.params; counted = λ h. let k = p.stays.counted h in record { bytes = k.bytes; small = k.small }; inside = λ h. let k = p.stays.inside h in record { variables = k.variables; literals = k.literals; objects = k.objects } };
@@ -287,7 +278,7 @@ pub leaves_tests : (line l : ℕ) (e : Tree) (c : Context) → l < c.code.labels
 leaves_tests line l e c le s = search (arith, led_after, led_ok, tests_zero, condition_passes)
 
 pub maybe_tests : (line l : ℕ) (e : Trees) (c : Context) → l < c.code.labels → Safe c.scopes → Led (Tests l c) (maybe_leaves line l e c)
-maybe_tests line l none c le s = led_ok (Tests l c) (tests_passes l c c (passes_refl c s))
+maybe_tests line l none c le s = led_ok (Tests l c) (record { part = λ n. part_anywhere (way_on l n ∷ []) n c.code c.code (passes_part n c c (passes_refl c s)); running = ((passes_refl c s).cases, (passes_refl c s).otherwise); stays = (passes_refl c s).stays })
 maybe_tests line l (e ▹ rest) c le s = leaves_tests line l e c le s
 
 -- leaving
@@ -301,14 +292,11 @@ leaves_same : (line k : ℕ) (c : Context) → leaves line k c ≡ record c { co
 leaves_same line zero c = refl
 leaves_same line (suc k) c = leaves_same line k (emit line Leave c)
 
-leaves_code : (line k : ℕ) (c : Context) → leaves line k c ≡ record c { code = record c.code { pieces = c.code.pieces ++ leave_pieces line k } }
-leaves_code line k c = leaves_same line k c ∙ ap (λ (x : List Piece). record c { code = record c.code { pieces = x } }) (leaves_pieces line k c)
-
 -- leaving so many scopes, and then for good
 pub out_walks : (a : Around) (line k e : ℕ) (kind : StmKind) (c : Context) → Safe c.scopes → a.delays ≡ e + k → Target (λ l. IsWay (ways a) l) kind → Target (λ l. l < c.code.labels) kind
     → ((m : Marks) (p : ℕ) → Leads m (p + k + 1) (ways a) → Goes m kind (p + k) e a.delays) → Walks a c (emit line kind (leaves line k c))
 out_walks a line k e kind c s deep is below_all goes =
-    subst (λ (x : Context). Walks a c (emit line kind x)) (sym (leaves_code line k c))
+    subst (λ (x : Context). Walks a c (emit line kind x)) (sym (leaves_same line k c ∙ ap (λ (x : List Piece). record c { code = record c.code { pieces = x } }) (leaves_pieces line k c)))
     (walks_part a c (emit line kind (record c { code = record c.code { pieces = c.code.pieces ++ leave_pieces line k } }))
     (record {
       pieces = leave_pieces line k ++ (Does (stm_at line kind) ∷ []);
@@ -320,9 +308,6 @@ out_walks a line k e kind c s deep is below_all goes =
 pub returned_walks : (a : Around) (line : ℕ) (r : Option Atom) (c : Context) → Safe c.scopes → Walks a c (returned line a.delays r c)
 returned_walks a line r c s = out_walks a line a.delays 0 (Return r) c s (omega arith) tt tt (λ m p lead. refl)
 
-pub return_walks : (a : Around) (line : ℕ) (r : Option Atom) (c d : Context) → Fits c.code.labels a → Passes c d → Walks a c (returned line a.delays r d)
-return_walks a line r c d fit p = walks_trans a c d _ fit (walks_passes a c d p) (returned_walks a line r d p.stays.safe)
-
 return_of_walks : (line : ℕ) (a : Around) (e : Tree) (type : PlainType) (c : Context) → Fits c.code.labels a → Safe c.scopes → Led (Walks a c) (return_of line a.delays e type c)
 return_of_walks line a e type c fit s =
     let begun = opened e c in
@@ -331,7 +316,7 @@ return_of_walks line a e type c fit s =
     led_barred (Walks a c) (unconverted type d.1.typed) line
     (let v = convert line begun.code type d.1.typed (atom_in d.1) d.0 in
     let g : Grows begun v.0 = grows_convert line begun type d.1.typed (atom_in d.1) d.0 (grown_valued e begun (found e type begun) (found_grows e type begun begun (grows_refl begun)) d h) in
-    led_ok (Walks a c) (return_walks a line (Some v.1) c (closed e v.0) fit (grows_passes c (closed e v.0) s (grows_closed e c v.0 s g))))))
+    led_ok (Walks a c) (walks_trans a c (closed e v.0) _ fit (walks_passes a c (closed e v.0) (grows_passes c (closed e v.0) s (grows_closed e c v.0 s g))) (returned_walks a line (Some v.1) (closed e v.0) (grows_passes c (closed e v.0) s (grows_closed e c v.0 s g)).stays.safe)))))
 
 pub return_from_walks : (line : ℕ) (a : Around) (e : Trees) (c : Context) → Fits c.code.labels a → Safe c.scopes → Led (Walks a c) (return_from line a.delays e c)
 return_from_walks line a none c fit s =
@@ -388,9 +373,6 @@ module _ (n line l l1 l2 l3 high : ℕ) (i a b c : List Piece) (le0 : l + 3 ≤ 
   end_goal : (t : ℕ) → t ≡ l + 1 → Goal t
   end_goal t e = in_rest t (inr (placed_right t (middle ++ (Does (stm_at line (Loop l)) ∷ [])) (Here (l + 1) ∷ []) (inl e)))
 
-  next_goal : (t : ℕ) → t ≡ l + 2 → Goal t
-  next_goal t e = in_middle t (placed_right t a (b ++ (Here (l + 2) ∷ c)) (placed_right t b (Here (l + 2) ∷ c) (inl e)))
-
   middle_goes : Targets Goal middle
   middle_goes =
       targets_append Goal a (b ++ (Here (l + 2) ∷ c))
@@ -399,7 +381,7 @@ module _ (n line l l1 l2 l3 high : ℕ) (i a b c : List Piece) (le0 : l + 3 ≤ 
       (targets_append Goal b (Here (l + 2) ∷ c)
       (targets_map (λ t. Placed t b ⊎ IsWay (way_on (l + 1) n ∷ way_on (l + 2) n ∷ []) t) Goal b
       (λ t. ⊎_elim (λ (h : Placed t b). in_middle t (placed_right t a (b ++ (Here (l + 2) ∷ c)) (placed_left t b (Here (l + 2) ∷ c) h)))
-      (⊎_elim (λ (h : t ≡ l + 1). end_goal t h) (⊎_elim (λ (h : t ≡ l + 2). next_goal t h) (λ (h : ⊥). absurd h)))) fb.goes)
+      (⊎_elim (λ (h : t ≡ l + 1). end_goal t h) (⊎_elim (λ (h : t ≡ l + 2). in_middle t (placed_right t a (b ++ (Here (l + 2) ∷ c)) (placed_right t b (Here (l + 2) ∷ c) (inl h)))) (λ (h : ⊥). absurd h)))) fb.goes)
       (targets_map (λ t. Placed t c ⊎ ⊥) Goal c (λ t. ⊎_elim (λ (h : Placed t c). in_middle t (placed_right t a (b ++ (Here (l + 2) ∷ c)) (placed_right t b (Here (l + 2) ∷ c) (inr h)))) (λ (h : ⊥). absurd h)) fc.goes))
 
   code_goes : Targets Goal code
@@ -430,9 +412,6 @@ module _ (n line l l1 l2 l3 high : ℕ) (i a b c : List Piece) (le0 : l + 3 ≤ 
             (places_append (λ t. t < high) b (Here (l + 2) ∷ c) fb.places (small2, places_map (λ t. t < l3) (λ t. t < high) c (λ t h. omega (arith, h)) fc.places))) tt) (small1, tt),
       )
 
-  middle_long : steps middle ≡ steps a + steps b + steps c
-  middle_long = omega (arith, steps_append a (b ++ (Here (l + 2) ∷ c)), steps_append b (Here (l + 2) ∷ c))
-
   code_made : (m : Marks) (p : ℕ) → Made l n p m code []
   code_made m p =
       let ph : ℕ = p + steps i in
@@ -462,7 +441,7 @@ module _ (n line l l1 l2 l3 high : ℕ) (i a b c : List Piece) (le0 : l + 3 ≤ 
       let a_to_b : Agree l2 made_a.marks made_b.marks = agree_trans l2 l3 made_a.marks made_c.marks made_b.marks le2 made_c.same c_to_b in
       let i_to_b : Agree l1 made_i.marks made_b.marks = agree_trans l1 l2 made_i.marks made_a.marks made_b.marks le1 made_a.same a_to_b in
       let n_marks : Marks = made_b.marks in
-      let long = middle_long in
+      let long : steps middle ≡ steps a + steps b + steps c = omega (arith, steps_append a (b ++ (Here (l + 2) ∷ c)), steps_append b (Here (l + 2) ∷ c)) in
       let pl : ph + steps middle ≡ pn + steps c = omega arith in
       let body : Flows n_marks middle ph n n =
       flows_append n_marks a (b ++ (Here (l + 2) ∷ c)) ph n n n (flows_agree l2 made_a.marks n_marks a ph n n a_to_b fa.targets fa.places made_a.flow)

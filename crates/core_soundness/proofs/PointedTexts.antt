@@ -1,15 +1,10 @@
 -- The pointers that the statics of a core hold first.
-use Rattle.std.proofs.Common.{◌≡◌, ◌≤◌, ◌<◌, ◌+◌, not, ℕ, zero, suc, Bool, true, false, cond, is_some, nat_lt, All, length, map, List, [], ◌∷◌, ◌++◌, slice_get, slice_set, option_map, unwrap_or, Option, Some, None, Ok, refl, sym, ap, ◌∙◌, subst, ⊎_elim, arith, bytes_eq, inl, inr}
-use Rattle.std.proofs.lemmas.Bool.{ltb-true, ltb-false}
-use Rattle.std.proofs.lemmas.List.{length-map}
-use Rattle.std.proofs.lemmas.List.Elements.{All-cons, All-nil, All-append, All-head, All-tail}
-use Rattle.std.proofs.lemmas.Option.{slice_get-map}
+use Rattle.core_soundness.proofs.Words.Std.{◌≡◌, ◌≤◌, ◌<◌, ◌+◌, not, ℕ, zero, suc, Bool, true, false, cond, is_some, nat_lt, All, length, map, List, [], ◌∷◌, ◌++◌, slice_get, slice_set, option_map, unwrap_or, Option, Some, None, Ok, refl, sym, ap, ◌∙◌, subst, ⊎_elim, arith, bytes_eq, inl, inr, ltb-true, ltb-false, length-map, All-cons, All-nil, All-append, All-head, All-tail, slice_get-map, Contains, nat_eq}
 use Rattle.std.specs.List.{IsDistinct}
-use Rattle.std.specs.Prelude.{Contains, nat_eq}
 use Rattle.core_soundness.proofs.Words.Trees.{name_of, Tree, Trees, Leaf, At, Node, none, ◌▹◌}
 use Rattle.core_soundness.proofs.Words.Types.{no_layout, array_layout, number_layout, TagTable, layout_in, PlainType, built_ins, numbered_from, ScopeList, Table, named_in, innermost, after_declaration, tag_name, with_layers, tag_named, is_built_in, is_function, has_no_size, BuiltIn, DeclaredTwice, Incomplete, LeftOut, StaticTooLarge}
 use Rattle.core_soundness.proofs.Words.Core.{block_size, IsLayoutOfType, IsTarget, IsStatic, Core, Start, Static}
-use Rattle.core_soundness.proofs.Words.Elaborating.{addressed_in, Context, Variable, asked, first_context, size_or_zero, Storage, Typedef, storage_of, specs_alone, specs_before, function_number, with_function, declared_function, no_initializer, variable_number_of, with_new_variable, with_variable, start_of, start_in, started_variable, fill_variable, file_object, file_value, file_name, name_in, entry, entries, declaration, specs, layers, walked, elaborated, begun, is_defined, body_begun, body_ended, body, named_definition, definition, external, externals, Target, InStatic, initialize, no_start, with_init_layers, trimmed, is_twice, declared_as, static_by, variable_static, literal_static, core_of, start_by, with_static, around_body, items}
+use Rattle.core_soundness.proofs.Words.Elaborating.{addressed_in, Context, Variable, asked, first_context, size_or_zero, Storage, Typedef, storage_of, specs_alone, specs_before, function_number, with_function, declared_function, no_initializer, variable_number_of, with_new_variable, with_variable, start_of, start_in, started_variable, fill_variable, file_object, file_value, file_name, name_in, entry, entries, declaration, specs, layers, walked, elaborated, begun, is_defined, body_begun, body_ended, body, named_definition, definition, external, externals, InStatic, initialize, no_start, with_init_layers, trimmed, is_twice, declared_as, static_by, variable_static, literal_static, core_of, start_by, with_static, around_body, items}
 use Rattle.core_soundness.proofs.Words.Facts.{HasLayouts}
 use Rattle.c_tree.specs.Forms as f
 use Rattle.c_tree.specs.Words as w
@@ -17,10 +12,10 @@ use Rattle.c_decls.specs.BuiltIns as names
 use Rattle.c_decls.specs.Named as n
 use Rattle.elaboration.specs.Resolving.{plain_name}
 use Rattle.core_soundness.proofs.Agreeing.{came}
-use Rattle.core_soundness.proofs.Aiming.{Aims, in_variable, in_literal, VariablesStay, same_variables, ObjectsThere, There, there_on, PointersIn, pointers_stay, TargetIn, initialize_points}
+use Rattle.core_soundness.proofs.Aiming.{Aims, in_variable, in_literal, VariablesStay, same_variables, ObjectsThere, There, there_on, PointersIn, pointers_stay, initialize_points}
 use Rattle.core_soundness.proofs.Cores.{behind as core_behind}
-use Rattle.core_soundness.proofs.Declaring.{passes_refl, specs_passes, layers_pass, introduced, Levels, levels_refl, with_type_levels, declared_levels, specs_level, layers_level}
-use Rattle.core_soundness.proofs.Growth.{good, ok_same, Reached, Led, led_ok, led_refused, led_after, led_unless, Settled, settled_refl, settled_trans}
+use Rattle.core_soundness.proofs.Declaring.{passes_refl, specs_passes, layers_pass, introduced, Levels, levels_refl, declared_levels, specs_level, layers_level, levels_trans, told_levels}
+use Rattle.core_soundness.proofs.Growth.{good, ok_same, Reached, Led, led_ok, led_refused, led_after, led_unless, Settled, settled_refl, settled_trans, reached_after, reached_ok}
 use Rattle.core_soundness.proofs.Scopes.{Safe, SafeTable, get_left, get_last, get_push, get_below, set_get, push_get}
 use Rattle.core_soundness.proofs.Seats.{Has, has_row, byte, PointersBelow, places, Filled, trimmed_length}
 use Rattle.core_soundness.proofs.Sorting.{passed}
@@ -59,9 +54,6 @@ pushed_stay vs v k x e = (x, get_left vs (v ∷ []) k x e, refl)
 record NumberIs (vs : List Variable) (index : ℕ) : Type 0 where
   near : index ≤ length vs
   there : index < length vs → (v : Variable) × (slice_get vs index ≡ Some v)
-
-number_is : (c : Context) (name : List ℕ) → There c → NumberIs c.variables (variable_number_of c (named_in name c.scopes.file))
-number_is c name h = grind (arith, get_below)
 
 -- a variable with its name
 new_pointed : (line index : ℕ) (name : List ℕ) (type : PlainType) (c z : Context) → index ≡ length c.variables → Pointed c → with_new_variable line name type (record c { scopes = after_declaration c.scopes name (n.Object type index) }) ≡ Ok z → Pointed z
@@ -110,16 +102,13 @@ start_pointed : (index : ℕ) (c : Context) (start : Start) (o : Option Variable
 start_pointed index c start None e h p = record { there = h.there; starts = h.starts }
 start_pointed index c start (Some v) e h p = record { there = there_more c.variables _ c.scopes.file (set_stay c.variables index v start e) h.there; starts = set_starts c.variables c.literals index v start e h.starts p }
 
-target_start : (c : Context) (t : Target) → TargetIn c t → PointersIn c.variables c.literals (start_in t).pointers
-target_start c t h = search arith fits 100
-
 fill_pointed : (line index : ℕ) (type : PlainType) (inits : Trees) (c : Context) → Pointed c → Led Pointed (fill_variable line index type inits c)
 fill_pointed line index type none c h = led_ok Pointed h
 fill_pointed line index type (init ▹ rest) c h =
     led_unless Pointed (is_some (start_of (slice_get c.variables index))) DeclaredTwice line
     (λ t. led_after Pointed (initialize init false type 0 (InStatic no_start) c)
     (λ d q. let r = initialize_points init false type 0 (InStatic no_start) c h.there tt d q in
-    led_ok Pointed (start_pointed index d.0 (start_in d.1) (slice_get d.0.variables index) refl (settled_pointed c d.0 r.0 h) (target_start d.0 d.1 r.1))))
+    led_ok Pointed (start_pointed index d.0 (start_in d.1) (slice_get d.0.variables index) refl (settled_pointed c d.0 r.0 h) (search arith fits 100))))
 
 object_pointed : (line : ℕ) (name : List ℕ) (type : PlainType) (inits : Trees) (c : Context) → Pointed c → Led Pointed (file_object line name type inits c)
 object_pointed line name type inits c h =
@@ -129,7 +118,7 @@ object_pointed line name type inits c h =
     (λ d q. let same : record c { scopes = after_declaration c.scopes name (n.Object type index) } ≡ d = passed (is_twice c.scopes name (n.Object type index)) DeclaredTwice line (record c { scopes = after_declaration c.scopes name (n.Object type index) }) d q in
     led_after Pointed (with_variable line index name type d)
     (λ v k. fill_pointed line index type inits v
-    (variable_pointed line index name type c v (number_is c name h.there) h (ap (λ (x : Context). with_variable line index name type x) same ∙ k)))))
+    (variable_pointed line index name type c v (grind (arith, get_below)) h (ap (λ (x : Context). with_variable line index name type x) same ∙ k)))))
 
 -- functions and other names
 
@@ -177,7 +166,7 @@ entries_pointed (tree ▹ rest) line storage base c h = led_refused Pointed
 
 alone_level : (tree : Tree) (c : Context) → Reached (Levels c) (specs_alone tree c)
 alone_level (Node f.Specs (At line ▹ Node (f.RecordTag sort) (At at ▹ Leaf (w.Name name) ▹ none) ▹ none)) c =
-    with_type_levels (tag_named at sort name (asked c) (named_in (tag_name name) (innermost c.scopes))) c c (tag_after at sort name (asked c) (named_in (tag_name name) (innermost c.scopes))) (levels_refl c)
+    (reached_after (Levels c) (tag_named at sort name (asked c) (named_in (tag_name name) (innermost c.scopes))) (λ x h. reached_ok (Levels c) (levels_trans c c _ (levels_refl c) (told_levels x.0 c ((tag_after at sort name (asked c) (named_in (tag_name name) (innermost c.scopes))) x h)))))
 alone_level tree c = specs_level tree c c (levels_refl c)
 
 pub before_level : (tree : Tree) (names : Trees) (c : Context) → Reached (Levels c) (specs_before tree names c)

@@ -1,14 +1,9 @@
 -- Whole types, and numbers, sizes and offsets in range.
-use Rattle.std.proofs.Common.{◌≤◌, ℕ, pos, Bool, true, false, cond, List, [], ◌∷◌, ◌++◌, arith, ◌≡◌, ℤ, is_some, Option, Some, None, unwrap_or, Ok, refl, sym, ap, ◌∙◌, subst, ◌==◌, not, is_none, map, fold, zip, option_map, bytes_eq, ◌+◌, ◌*◌, zero, suc, take, append_assoc}
-use Rattle.std.proofs.lemmas.Bool.{ltb-false, eqb-true}
-use Rattle.std.proofs.lemmas.Int.{ints, SFits-int_wrap}
-use Rattle.std.specs.Int.{w8, w16, w32, w64}
-use Rattle.std.specs.List.{find}
-use Rattle.std.specs.Option.{option_or}
+use Rattle.core_soundness.proofs.Words.Std.{◌≤◌, ℕ, pos, Bool, true, false, cond, List, [], ◌∷◌, ◌++◌, arith, ◌≡◌, ℤ, is_some, Option, Some, None, unwrap_or, Ok, refl, sym, ap, ◌∙◌, subst, ◌==◌, not, map, fold, zip, option_map, bytes_eq, ◌+◌, ◌*◌, zero, suc, append_assoc, ltb-false, eqb-true, ints, SFits-int_wrap, w8, w16, w32, w64, find, option_or}
 use Rattle.core_soundness.proofs.Words.Trees.{Tree, BinaryOp, UnaryOp}
-use Rattle.core_soundness.proofs.Words.Types.{Known, no_layout, Placed, none_placed, offset_after, placed, layout_of, CompletedTag, known, layout_in, TagTable, PlainMember, learn, tag_layout, member_layout, refusal, placed_members, members_in, PlainType, Int, Pointer, kind_of, Array, Layout, IntType, typed, promoted, common_type, immovable, moving, sum_types, difference_types, integer_types, binary, is_void, has_no_size, PlainTyped, Operand, Number, PointerTo, Neither, operand, value, TypeKind, Operands, Incomplete}
+use Rattle.core_soundness.proofs.Words.Types.{Known, no_layout, Placed, none_placed, offset_after, placed, layout_of, CompletedTag, known, layout_in, PlainMember, learn, tag_layout, member_layout, placed_members, members_in, PlainType, Int, Pointer, kind_of, Array, Layout, IntType, typed, promoted, common_type, moving, sum_types, difference_types, binary, PlainTyped, Operand, Number, PointerTo, Neither, operand, value, members_layout, keeps_union_rule}
 use Rattle.core_soundness.proofs.Words.Core.{wrapped, IntKind, I8, U8, I16, U16, I32, U32, I64, U64, IsLayoutOfType, IsNumber, Mem, Atom, CmpOp, StmKind, Set, Load, Loadp, Test, Un, Bin, Cmp, Add, Sub, Off, Diff, Pcmp}
-use Rattle.core_soundness.proofs.Words.Elaborating.{byte_layout, element_layout, Piece, Does, Here, Context, emit, here, integer_by, pointer_by, Variable, Walked, asked, told, Code, Found, valued, convert, atom_in, write, Spot, unused, size_or_zero, Local, Memory, Value, Empty, read_spot, valued_from, atom_of, convert_integer, convert_to, tested, found, elements, struct_parts, parts_of, offset_among, offset_of, working, Working, Calculates, Shifts, Compares, Branches, convert_both, work, before_integer, move_pointer, between_pointers, pointer_beside, beside_integer, combine, combined, change, changed_to, member_address, reallocates, opened}
+use Rattle.core_soundness.proofs.Words.Elaborating.{byte_layout, element_layout, Piece, Does, Here, Context, emit, here, integer_by, pointer_by, Variable, Walked, asked, told, Code, Found, valued, convert, atom_in, write, Spot, unused, size_or_zero, Local, Memory, Value, Empty, read_spot, valued_from, atom_of, convert_integer, tested, found, elements, struct_parts, parts_of, offset_among, offset_of, working, Working, Calculates, Shifts, Compares, Branches, convert_both, work, before_integer, move_pointer, between_pointers, pointer_beside, beside_integer, combine, combined, changed_to, member_address, reallocates, opened}
 use Rattle.core_soundness.proofs.Words.Facts.{IsStep, AtomIn, KindIn, PiecesIn, IsElement, MemsLaid, VariablesLaid, WalkedLaid, Solid, Whole, AreMade, TableWhole, NamesWhole, MembersWhole}
 use Rattle.hs_base.specs.NumbersEquations.{low_bits_lt}
 use Rattle.c_types.specs.TagTableEquations.{Extends, sized_stays, layout_stays, some_array}
@@ -23,9 +18,8 @@ use Rattle.c_tree.specs.declared.operator.UnaryOp.TheVariants as u
 use Rattle.c_decls.specs.TypeNames as names
 use Rattle.core_soundness.proofs.Agreeing.{unused_agrees, found_agrees, came}
 use Rattle.core_soundness.proofs.CodeWalk.{quiet_convert, quiet_write}
-use Rattle.core_soundness.proofs.Growth.{Grows, Kept, grows_refl, valued_unused, good, ok_same, never, behind_test}
-use Rattle.core_soundness.proofs.Sorting.{unbarred}
-use Rattle.core_soundness.proofs.TagSorts.{Leads, typed_leads, unused_leads, Kinds, kinds_refl, leads_kinds, same_kinds}
+use Rattle.core_soundness.proofs.Growth.{Grows, Kept, grows_refl, valued_unused, ok_same, never, behind_test}
+use Rattle.core_soundness.proofs.TagSorts.{Leads, typed_leads, unused_leads, Kinds, kinds_refl, leads_kinds, leads_refl}
 use Rattle.core_soundness.proofs.TypedWhole.{Fit, LayersWhole, LayerWhole, typed_good, unused_good}
 use Rattle.core_soundness.proofs.Walks.{found_grows, grown_unused, grows_convert, grows_write}
 use Rattle.core_soundness.proofs.WholeTypes.{nothing, all_stay, extends_refl, is_layout, made_sized, learn_extends, whole_stays, members_stay, some_layout, placed_far}
@@ -124,7 +118,7 @@ pub record Same (c d : Context) : Type 0 where
   pub walked : d.walked ≡ c.walked
 
 pub same_widens : (c d : Context) → Same c d → Solid c → Widens c d
-same_widens c d e h = search (arith, nothing, same_kinds)
+same_widens c d e h = search (arith, nothing, leads_kinds, leads_refl)
 
 -- what grew from the same context, with the same scopes and tags
 pub same_by : (b c d : Context) → asked d ≡ asked c → Kept b c → Kept b d → Same c d
@@ -236,34 +230,16 @@ laid c type h w s = is_layout c.tags.completed type (unwrap_or (layout_in c.tags
 
 -- sizes of types
 
-size_small : (c : Context) (type : PlainType) (o : Option Layout) → Solid c → Whole (K c) type → layout_in c.tags type ≡ o → unwrap_or (option_map (λ (l : Layout). l.size) o) 0 ≤ 268435456
-size_small c type o h w e = search (arith, made_sized) fits 100
-
 pub size_number : (c : Context) (type : PlainType) → Solid c → Whole (K c) type → IsNumber (pos (size_or_zero c type))
-size_number c type h w = small_number (size_or_zero c type) (size_small c type (layout_in c.tags type) h w refl)
-
-size_step : (c : Context) (type : PlainType) (o : Option Layout) → Solid c → Whole (K c) type → layout_in c.tags type ≡ o → is_none (option_map (λ (l : Layout). l.size) o) ≡ false → IsStep (pos (unwrap_or (option_map (λ (l : Layout). l.size) o) 0))
-size_step c type o h w e q = search (arith, made_sized, small_step) fits 100
-
-pub has_step : (c : Context) (type : PlainType) → Solid c → Whole (K c) type → has_no_size c.tags type ≡ false → IsStep (pos (size_or_zero c type))
-has_step c type h w q = size_step c type (layout_in c.tags type) h w refl q
-
-movable : (void none : Bool) (one other : TypeKind) → cond void (Some one) (cond none (Some other) None) ≡ None → none ≡ false
-movable void none one other e = search arith fits 100
-
-pub moved_step : (c : Context) (type : PlainType) → Solid c → Whole (K c) type → immovable c.tags type ≡ None → IsStep (pos (size_or_zero c type))
-moved_step c type h w e = has_step c type h w (movable (is_void type) (has_no_size c.tags type) Operands Incomplete e)
+size_number c type h w = small_number (size_or_zero c type) (search (arith, made_sized) fits 100)
 
 -- the elements of new objects
 byte_element : IsElement byte_layout
 byte_element = (small_step 1 (omega arith) (omega arith), is_layout [] (Int Rattle.c_types.specs.declared.types.IntType.TheVariants.Char) byte_layout tt tt refl)
 
-element_of : (c : Context) (type : PlainType) (o : Option Layout) → Solid c → Whole (K c) type → layout_in c.tags type ≡ o → IsElement (unwrap_or o byte_layout)
-element_of c type o h w e = search (arith, byte_element, made_sized, small_step, is_layout) fits 100
-
 pub wanted_element : (c : Context) (type : PlainType) → Solid c → Whole (K c) type → IsElement (element_layout c.tags type)
 unfolding element_layout
-wanted_element c (Pointer target) h w = element_of c target (layout_in c.tags target) h w refl
+wanted_element c (Pointer target) h w = search (arith, byte_element, made_sized, small_step, is_layout) fits 100
 wanted_element c other h w = byte_element
 
 -- offsets of members
@@ -301,17 +277,11 @@ found_offset end (x ∷ ms) (y ∷ ps) p m h e = by (p (record { name = x.0; typ
     by true again q = let same : y.0 ≡ m.offset = ap (λ (o : Option PlainMember). (unwrap_or o m).offset) q in subst (λ (k : ℕ). k ≤ end) same h.0
     by false again q = again q
 
-kept_small : (k : Known) (new : CompletedTag) → refusal k new ≡ None → (tag_layout k new).size ≤ 268435456
-kept_small k new e = grind (arith, not, true, false, ltb-false)
-
 pub members_same : (ms : List (List ℕ × PlainType)) (j k : Known) → Extends j k → MembersWhole j ms → map (member_layout j) ms ≡ map (member_layout k) ms
 members_same [] j k x h = refl
 members_same (m ∷ ms) j k x h =
     let here : member_layout j m ≡ member_layout k m = ap (λ (o : Option Layout). unwrap_or o no_layout) (sized_stays j k x m.1 h.0.1) in
     ap (λ (l : Layout). l ∷ map (member_layout j) ms) here ∙ ap (λ (ls : List Layout). member_layout k m ∷ ls) (members_same ms j k x h.1)
-
-tag_end : (j : Known) (new : CompletedTag) → refusal j new ≡ None → (placed new.is_union (map (member_layout j) new.members)).end ≤ 268435456
-tag_end j new e = search (arith, rounded_le, kept_small)
 
 made_end : (j : Known) (tags : List CompletedTag) (test : CompletedTag → Bool) (done : CompletedTag) → AreMade j tags → find test tags ≡ Some done → (placed done.is_union (map (member_layout (fold learn j tags)) done.members)).end ≤ 268435456
 made_end j [] test done m e = cc
@@ -324,12 +294,9 @@ made_end j (t ∷ tags) test done m e = by (test t) (made_end (learn j t) tags t
     by true again q =
         let same : t ≡ done = ap (λ (o : Option CompletedTag). unwrap_or o done) q in
         let x : Extends j far = λ tag l h. stays_known (learn j t) tags tag l (learn_extends j t tag l h) in
-        let here : (placed t.is_union (map (member_layout far) t.members)).end ≤ 268435456 = subst (λ (ls : List Layout). (placed t.is_union ls).end ≤ 268435456) (members_same t.members j far x m.0.1) (tag_end j t m.0.0.kept) in
+        let here : (placed t.is_union (map (member_layout far) t.members)).end ≤ 268435456 = subst (λ (ls : List Layout). (placed t.is_union ls).end ≤ 268435456) (members_same t.members j far x m.0.1) (grind (arith, rounded_le, not, true, false, ltb-false)) in
         subst (λ (y : CompletedTag). (placed y.is_union (map (member_layout far) y.members)).end ≤ 268435456) same here
     by false again q = again q
-
-member_offset : (table : TagTable) (tag : ℕ) (members : List PlainMember) (p : PlainMember → Bool) (m : PlainMember) → AreMade nothing table.completed → members_in table tag ≡ Some members → find p members ≡ Some m → m.offset ≤ 268435456
-member_offset table tag members p m made e f = grind (arith, option_map, found_offset, places_to, made_end, nothing)
 
 among_small : (name : List ℕ) (o : Option (List PlainMember)) → ((members : List PlainMember) (m : PlainMember) → o ≡ Some members → find (λ (m : PlainMember). bytes_eq name m.name) members ≡ Some m → m.offset ≤ 268435456) → offset_among name o ≤ 268435456
 among_small name None h = omega arith
@@ -341,7 +308,7 @@ among_small name (Some members) h = by (find (λ (m : PlainMember). bytes_eq nam
 
 pub offset_number : (c : Context) (name : List ℕ) (type : PlainType) → Solid c → IsNumber (pos (offset_of c.tags name type))
 unfolding offset_of
-offset_number c name type h = search (arith, small_number, among_small, member_offset, bytes_eq, zero_number) fits 100
+offset_number c name type h = grind (arith, small_number, among_small, option_map, found_offset, places_to, made_end, nothing, bytes_eq, zero_number)
 
 -- conversions and operators keep the numbers of statements in range
 
@@ -371,11 +338,8 @@ unfolding convert_integer
 convert_integer_in line ty source (atom.Int v) c g h = (g, wrapped_number (kind_of ty) v)
 convert_integer_in line ty source a c g h = search (arith, has_cond, in_integer) fits 100
 
-convert_to_in : (line : ℕ) (before : Code) (wanted given : Operand) (a : Atom) (c : Context) → PiecesIn before.pieces → In c → AtomIn a → Has (convert_to line before wanted given a c)
-convert_to_in line before wanted given a c p g h = search (arith, convert_integer_in) fits 100
-
 pub convert_in : (line : ℕ) (before : Code) (type : PlainType) (e : PlainTyped) (a : Atom) (c : Context) → PiecesIn before.pieces → In c → AtomIn a → Has (convert line before type e a c)
-convert_in line before type e a c p g h = convert_to_in line before (operand type) (operand e.type) a c p g h
+convert_in line before type e a c p g h = search (arith, convert_integer_in) fits 100
 
 pub tested_in : (line : ℕ) (type : PlainType) (a : Atom) (c : Context) → In c → AtomIn a → Has (tested line type a c)
 unfolding tested
@@ -469,7 +433,7 @@ pub pointed_of : (c : Context) (type : PlainType) → Whole (K c) type → Point
 pointed_of c type h = search arith fits 100
 
 pub moving_step : (line : ℕ) (c : Context) (target : PlainType) (x t : PlainTyped) → Solid c → Whole (K c) target → moving line c.tags target x ≡ Ok t → Step c target
-moving_step line c target x t h w q = moved_step c target h w (unbarred (immovable c.tags target) line (good x) t q).0
+moving_step line c target x t h w q = search (arith, made_sized, small_step) fits 100
 
 needs_all : (how : Working) (S : Type 0) → S → Needs how S
 needs_all how S x = search arith fits 100
@@ -486,9 +450,6 @@ sum_steps how line c x y z other rest h p q e = tt
 difference_steps : (how : Working) (line : ℕ) (c : Context) (x y z : PlainTyped) (s t : Operand) → Solid c → Pointed c s → Pointed c t → difference_types line c.tags x y s t ≡ Ok z → Steps how s t c
 difference_steps how line c x y z (PointerTo target) (Number t) h p q e = needs_all how _ (moving_step line c target (value x.type) z h p e)
 difference_steps how line c x y z s t h p q e = search (arith, needs_all, moving_step, behind_test, never) fits 100
-
-integer_steps : (how : Working) (op : BinaryOp) (line : ℕ) (c : Context) (x y z : PlainTyped) (s t : Operand) → integer_types op line x y s t ≡ Ok z → Steps how s t c
-integer_steps how op line c x y z s t e = search (arith, never) fits 100
 
 -- `&&` and `||` are not among these
 abbrev pub IsBetween : BinaryOp → Type 0
@@ -508,13 +469,10 @@ binary_steps b.LessEqual line c x y z i h p q e = compared_steps (working b.Less
 binary_steps b.GreaterEqual line c x y z i h p q e = compared_steps (working b.GreaterEqual) cmp.Ge (operand x.type) (operand y.type) c refl
 binary_steps b.Equal line c x y z i h p q e = compared_steps (working b.Equal) cmp.Eq (operand x.type) (operand y.type) c refl
 binary_steps b.NotEqual line c x y z i h p q e = compared_steps (working b.NotEqual) cmp.Ne (operand x.type) (operand y.type) c refl
-binary_steps op line c x y z i h p q e = integer_steps (working op) op line c x y z (operand x.type) (operand y.type) e
-
-change_in : (line : ℕ) (op : BinaryOp) (s t : Operand) (old y : Atom) (c : Context) → In c → AtomIn old → AtomIn y → Steps Branches s t c → Has (change line op s t old y c)
-change_in line op s t old y c g h k q = search (arith, work_in, convert_integer_in, move_in) fits 100
+binary_steps op line c x y z i h p q e = search (arith, never) fits 100
 
 pub changed_in : (line : ℕ) (op : BinaryOp) (type : PlainType) (old : Atom) (e : PlainTyped) (y : Atom) (c : Context) → In c → AtomIn old → AtomIn y → Steps Branches (operand type) (operand e.type) c → Has (changed_to line op type old e y c)
-changed_in line op type old e y c g h k q = change_in line op (operand type) (operand e.type) old y c g h k q
+changed_in line op type old e y c g h k q = search (arith, work_in, convert_integer_in, move_in) fits 100
 
 pub member_in : (line offset : ℕ) (p : Atom) (c : Context) → In c → AtomIn p → IsNumber (pos offset) → Has (member_address line offset p c)
 member_in line offset p c g h k = in_pointer line (λ r. Off r p (pos offset)) c g (λ r. ((h, tt), k))
@@ -586,30 +544,30 @@ rows_parts k end offset (m ∷ ms) (p ∷ ps) w h e =
 pub learnt : (j : Known) (t : CompletedTag) (tag : ℕ) → j tag ≡ None → (t.tag == tag) ≡ true → learn j t tag ≡ Some (tag_layout j t)
 learnt j t tag e q = ap (λ (o : Option Layout). option_or o (cond (t.tag == tag) (Some (tag_layout j t)) None)) e ∙ ap (λ (b : Bool). cond b (Some (tag_layout j t)) None) q
 
-record Done (k : Known) (tag : ℕ) (done : CompletedTag) (l : Layout) : Type 0 where
-  members : MembersWhole k done.members
-  inside : (placed done.is_union (map (member_layout k) done.members)).end ≤ l.size
+pub record TagIs (k : Known) (done : CompletedTag) (l : Layout) : Type 0 where
+  pub members : MembersWhole k done.members
+  pub is : members_layout done.is_union (map (member_layout k) done.members) ≡ l
+  pub rule : done.is_union ≡ true → keeps_union_rule (map (member_layout k) done.members) ≡ true
 
-done_at : (j : Known) (tags : List CompletedTag) (tag : ℕ) (done : CompletedTag) (l : Layout) → AreMade j tags → find (λ (d : CompletedTag). d.tag == tag) tags ≡ Some done → fold learn j tags tag ≡ Some l → Done (fold learn j tags) tag done l
-done_at j [] tag done l m e h = cc
-done_at j (t ∷ tags) tag done l m e h = by (t.tag == tag) refl (λ q. done_at (learn j t) tags tag done l m.1 q h) e
+pub tag_at : (j : Known) (tags : List CompletedTag) (tag : ℕ) (done : CompletedTag) (l : Layout) → AreMade j tags → find (λ (d : CompletedTag). d.tag == tag) tags ≡ Some done → fold learn j tags tag ≡ Some l → TagIs (fold learn j tags) done l
+tag_at j [] tag done l m e h = cc
+tag_at j (t ∷ tags) tag done l m e h = by (t.tag == tag) refl (λ q. tag_at (learn j t) tags tag done l m.1 q h) e
   where
     far : Known
     far = fold learn (learn j t) tags
 
-    by : (b : Bool) → (t.tag == tag) ≡ b → (find (λ (d : CompletedTag). d.tag == tag) tags ≡ Some done → Done far tag done l) → cond b (Some t) (find (λ (d : CompletedTag). d.tag == tag) tags) ≡ Some done → Done far tag done l
+    by : (b : Bool) → (t.tag == tag) ≡ b → (find (λ (d : CompletedTag). d.tag == tag) tags ≡ Some done → TagIs far done l) → cond b (Some t) (find (λ (d : CompletedTag). d.tag == tag) tags) ≡ Some done → TagIs far done l
     by true s again q =
         let same : t ≡ done = ap (λ (o : Option CompletedTag). unwrap_or o done) q in
         let x : Extends j far = λ tag l h. stays_known (learn j t) tags tag l (learn_extends j t tag l h) in
         let once : j tag ≡ None = ap j (sym (eqb-true t.tag tag s)) ∙ m.0.0.once in
         let is : tag_layout j t ≡ l = some_same (tag_layout j t) l (sym (stays_known (learn j t) tags tag (tag_layout j t) (learnt j t tag once s)) ∙ h) in
-        let all = placed t.is_union (map (member_layout j) t.members) in
-        let r = rounded_le all.end all.align in
-        let near : all.end ≤ l.size = subst (λ (y : Layout). all.end ≤ y.size) is r in
-        subst (λ (y : CompletedTag). Done far tag y l) same
+        let ms : map (member_layout j) t.members ≡ map (member_layout far) t.members = members_same t.members j far x m.0.1 in
+        subst (λ (y : CompletedTag). TagIs far y l) same
         (record {
           members = members_stay t.members j far x m.0.1;
-          inside = subst (λ (ls : List Layout). (placed t.is_union ls).end ≤ l.size) (members_same t.members j far x m.0.1) near;
+          is = ap (λ (ls : List Layout). members_layout t.is_union ls) (sym ms) ∙ is;
+          rule = λ u. subst (λ (ls : List Layout). keeps_union_rule ls ≡ true) ms (search arith fits 100);
         })
     by false s again q = again q
 
@@ -619,19 +577,13 @@ struct_in c tag offset l h e s = by (find (λ (d : CompletedTag). d.tag == tag) 
     by : (o : Option CompletedTag) → find (λ (d : CompletedTag). d.tag == tag) c.tags.completed ≡ o → PartsIn (K c) (struct_parts offset (option_map (placed_members (K c)) o))
     by None q = tt
     by (Some done) q =
-        let d = done_at nothing c.tags.completed tag done l h.made q e in
+        let d = tag_at nothing c.tags.completed tag done l h.made q e in
         let all = placed done.is_union (map (member_layout (K c)) done.members) in
-        rows_parts (K c) all.end offset done.members all.members d.members (placed_rows (K c) done.is_union done.members) (let near = d.inside in omega (arith, near, s))
-
-first_within : (k : Known) (ps : List (PlainType × ℕ)) → PartsIn k ps → PartsIn k (take 1 ps)
-first_within k ps h = search arith fits 100
-
-array_in : (c : Context) (asked n offset : ℕ) (element : PlainType) (l : Layout) → Whole (K c) element → layout_of (K c) element ≡ Some l → offset + n * l.size ≤ 268435456 → PartsIn (K c) (elements asked n offset (size_or_zero c element) element)
-array_in c asked n offset element l w e h = search (arith, option_map, elements_in)
+        rows_parts (K c) all.end offset done.members all.members d.members (placed_rows (K c) done.is_union done.members) (let near : all.end ≤ l.size = subst (λ (y : Layout). all.end ≤ y.size) d.is (rounded_le all.end all.align) in omega (arith, near, s))
 
 pub parts_in : (c : Context) (asked : ℕ) (type : PlainType) (offset : ℕ) → Solid c → Whole (K c) type → Within (K c) type offset → PartsIn (K c) (parts_of c asked type offset)
 unfolding parts_of
-parts_in c asked type offset h w v = search (arith, some_array, array_in, struct_in, first_within) fits 100
+parts_in c asked type offset h w v = search (arith, some_array, option_map, elements_in, struct_in) fits 100
 
 -- at the start of an object
 pub starts_within : (c : Context) (type : PlainType) (l : Layout) → Solid c → Whole (K c) type → layout_of (K c) type ≡ Some l → Within (K c) type 0

@@ -1,11 +1,9 @@
 -- Expressions keep the numbers of statements in range.
-use Rattle.std.proofs.Common.{◌≡◌, ◌<◌, ◌+◌, ◌&&◌, ◌^◌, not, ℕ, pos, zero, suc, Bool, true, false, length, drop, List, [], ◌∷◌, Option, Some, None, unwrap_or, Ok, refl, sym, subst, arith, option_map, ℤ}
-use Rattle.std.proofs.lemmas.Int.{ints}
-use Rattle.std.specs.Prelude.{slice_index_or}
+use Rattle.core_soundness.proofs.Words.Std.{◌≡◌, ◌<◌, ◌+◌, ◌&&◌, ◌^◌, not, ℕ, pos, zero, suc, Bool, true, false, length, drop, List, [], ◌∷◌, Option, Some, None, unwrap_or, Ok, refl, sym, subst, arith, option_map, ℤ, ints, slice_index_or}
 use Rattle.core_soundness.proofs.Words.Trees.{number_value, Tree, Trees, Leaf, At, Node, none, ◌▹◌, AssignOp, BinaryOp, UnaryOp}
-use Rattle.core_soundness.proofs.Words.Types.{TagTable, CompletedTag, known, PlainType, PlainTypes, Void, Int, Pointer, constant_of, named, built_in_named, built_in_value, Callee, NoFunction, called, line_of, typed, int_constant, char_constant, joined, typename, PlainNamed, element, element_types, choice, assigned, changed, changed_types, moves, size, Checked, then, found as declaration, unary, binary, moving, address, PlainTyped, Operand, Number, PointerTo, operand, place, value, constant, is_null_constant, is_record, BuiltIn, Constant, Operands, StaticTooLarge}
+use Rattle.core_soundness.proofs.Words.Types.{TagTable, CompletedTag, known, PlainType, PlainTypes, Void, Int, Pointer, constant_of, named, built_in_named, built_in_value, Callee, NoFunction, called, line_of, typed, int_constant, char_constant, joined, typename, PlainNamed, element, element_types, choice, assigned, changed, changed_types, moves, size, Checked, then, found as declaration, unary, binary, moving, address, PlainTyped, Operand, Number, PointerTo, operand, place, value, constant, is_null_constant, is_record, BuiltIn, Constant, Operands}
 use Rattle.core_soundness.proofs.Words.Core.{I8, IsNumber, Atom, StmKind, Set, Cmp, Zero, Jump, Copy, Malloc, Calloc, Realloc, Free, Lib, Printf, Enter, Leave}
-use Rattle.core_soundness.proofs.Words.Elaborating.{record_assigned, scalar_assigned, old_value, changed_answer, changed_by, one_found, stepped, Argument, atoms_of, atom_at, argument_from, lib_name, result_by, with_format, call_built_in, call_of_built_in, call_named, element_layout, first_type, rest_types, Code, Context, emit, here, new_label, with_labels, integer_by, asked, told, Walked, Found, Spot, Value, found_as, atom_in, valued_from, convert, tested_value, code_line, write, size_or_zero, valued_as, valued, unused, name_answer, literal_answer, unevaluated, changing, comma_answer, callee, callee_name, parameters, format_argument, is_printf, call_answer, found, arguments, cast_operand, working, Branches, operator_of, changed_to, opened, closed, set_again, compare_again, constant_found, object_found, built_in_found, name_found, is_inner, with_static, with_literal, indexed, dotted, pointed, negated, before_number, apply, applied, tells_equal, is_pointer_ahead, ahead, left_operand, between, cast_to, and_then, and_ends, and_ended, or_else, or_ended, chosen_by, choose_first, choice_spot, chosen, choose, type_ahead}
+use Rattle.core_soundness.proofs.Words.Elaborating.{record_assigned, scalar_assigned, old_value, changed_answer, changed_by, one_found, stepped, Argument, atoms_of, atom_at, argument_from, lib_name, result_by, with_format, call_built_in, call_of_built_in, call_named, element_layout, first_type, rest_types, Code, Context, emit, here, new_label, with_labels, integer_by, asked, told, Walked, Found, Spot, Value, found_as, atom_in, valued_from, convert, tested_value, code_line, write, size_or_zero, valued_as, valued, unused, name_answer, literal_answer, unevaluated, changing, comma_answer, callee, callee_name, parameters, format_argument, is_printf, call_answer, found, arguments, cast_operand, working, Branches, operator_of, changed_to, opened, closed, set_again, compare_again, constant_found, object_found, built_in_found, name_found, is_inner, with_literal, indexed, dotted, pointed, negated, apply, applied, tells_equal, is_pointer_ahead, ahead, left_operand, between, cast_to, and_then, and_ends, and_ended, or_else, or_ended, chosen_by, choose_first, chosen, choose, type_ahead}
 use Rattle.core_soundness.proofs.Words.Facts.{AtomIn, AtomsIn, PiecesIn, Solid, Whole, NamedWhole, AllWhole, AreMade, Written, AllWritten}
 use Rattle.c_types.specs.TagTableEquations.{Extends}
 use Rattle.c_types.specs.Types as ct
@@ -19,14 +17,14 @@ use Rattle.c_tree.specs.declared.operator.UnaryOp.TheVariants as u
 use Rattle.c_decls.specs.TypeNames as names
 use Rattle.c_decls.specs.declared.built_in.BuiltIn.TheVariants as built
 use Rattle.core_soundness.proofs.Agreeing.{came, left_typed, changing_first}
-use Rattle.core_soundness.proofs.CodeWalk.{quiet_read, quiet_tested_value}
+use Rattle.core_soundness.proofs.CodeWalk.{quiet_read, quiet_tested_value, read_keeps}
 use Rattle.core_soundness.proofs.Growth.{good, ok_same, never, Led, led_ok, led_after, led_unless, Grows, grows_refl, valued_unused, cast_unused, behind_test}
 use Rattle.core_soundness.proofs.Ranged as base
 use Rattle.core_soundness.proofs.Ranged.{In, Has, in_emit, in_here, in_integer, in_pointer, zero_number, one_number, small_number, size_number, offset_number, wanted_element, SpotIn, spot_atom, read_in, valued_from_in, convert_in, tested_in, write_in, before_in, Steps, combined_in, Pointed, pointed_of, moving_step, IsBetween, binary_steps, changed_in, member_in, K, Widens, same_kept, same_widens, wrapped_number, widens_refl, widens_trans, fit_of, told_widens, told_whole, found_gone, value_gone, converted_widens, unused_gone, Gone}
 use Rattle.core_soundness.proofs.Sorting.{moved_is}
 use Rattle.core_soundness.proofs.TagSorts.{typename_leads, kinds_refl, Leads, Kinds}
 use Rattle.core_soundness.proofs.TypedWhole.{assigned_whole, led_cond, called_whole, typed_good, typename_good, CW, Fit}
-use Rattle.core_soundness.proofs.Walks.{grows_read, grows_tested, grows_write}
+use Rattle.core_soundness.proofs.Walks.{grows_tested, grows_write, Made, grows_writes}
 use Rattle.core_soundness.proofs.WholeTypes.{whole_stays, nothing, all_stay, extends_refl, made_sized}
 use Rattle.core_soundness.proofs.Choices.{either_way, some_same}
 use Rattle.core_soundness.proofs.Scopes.{name_fits}
@@ -71,14 +69,11 @@ held_number v h = (omega (arith, ints, h), omega (arith, ints, h))
 
 -- literals
 
-static_in : (line k : ℕ) (c : Context) → In c → Led In (with_static line k c)
-static_in line k c g = led_unless In _ StaticTooLarge line (λ t. led_ok In g)
-
 abbrev In0 : {A : Type 0} → Context × A → Type 0
 In0 {A} z = In z.0
 
 pub literal_in : (line : ℕ) (bytes : List ℕ) (c : Context) → In c → Led (In0 {A = ℕ}) (with_literal line bytes c)
-literal_in line bytes c g = search (arith, led_after, led_ok, static_in)
+literal_in line bytes c g = search (arith, led_after, led_ok, led_unless)
 
 pub string_in : (line : ℕ) (bytes : List ℕ) (c : Context) → In c → Led E (literal_answer line bytes c)
 string_in line bytes c g = search (arith, led_after, led_ok, literal_in)
@@ -112,13 +107,10 @@ negated_in line tree t c e g s =
     let r = tested_value_in tree (c, e) (g, s) in
     in_integer line (λ r. Cmp cmp.Eq r d.1 (atom.Int (pos 0))) d.0 r.0 (λ i. ((r.1, (zero_number, tt)), tt))
 
-number_in : (line : ℕ) (op : UnaryOp) (t : PlainTyped) (o : Operand) (c : Context) (e : Found) → In c → SpotIn e.spot → E (before_number line op t o c e)
-number_in line op t o c e g s = search (arith, before_in, spot_atom) fits 100
-
 apply_in : (line : ℕ) (op : UnaryOp) (tree : Tree) (t : PlainTyped) (c : Context) (e : Found) → In c → SpotIn e.spot → E (apply line op tree t c e)
 apply_in line u.Deref tree t c e g s = (g, spot_atom e.spot s)
 apply_in line u.Not tree t c e g s = negated_in line tree t c e g s
-apply_in line op tree t c e g s = number_in line op t (operand e.typed.type) c e g s
+apply_in line op tree t c e g s = search (arith, before_in, spot_atom) fits 100
 
 pub applied_in : (line : ℕ) (op : UnaryOp) (tree : Tree) (c : Context) (e : Found) → In c → SpotIn e.spot → Led E (applied line op tree c e)
 applied_in line op tree c e g s = led_after E (unary line op c.tags e.typed) (λ t k. led_ok E (apply_in line op tree t c e g s))
@@ -188,16 +180,13 @@ first_in line other before type d f h =
     let r = chosen_by_in line before type d.1.typed (d.0, atom_in d.1) f (h.0, spot_atom d.1.spot h.1) in
     (in_here other (emit line (Jump (other + 1)) v.0) (in_emit line (Jump (other + 1)) v.0 r.0 (tt, tt)), r.1)
 
-choice_spot_in : (type : PlainType) (x : Atom) → AtomIn x → SpotIn (choice_spot type x)
-choice_spot_in type x h = search arith fits 100
-
 pub chosen_in : (line end : ℕ) (before : Code) (t : Atom) (test x : Found) (d : Context × Found) → PiecesIn before.pieces → AtomIn t → E d → Led E (chosen line end before t test x d)
 chosen_in line end before t test x d f p h =
     led_after E (choice line test.typed x.typed d.1.typed)
     (λ y k. let v = convert line before y.type d.1.typed (atom_in d.1) d.0 in
     let r = convert_in line before y.type d.1.typed (atom_in d.1) d.0 f h.0 (spot_atom d.1.spot h.1) in
     led_ok E
-    (in_here end (set_again line t v.1 v.0) (set_again_in line t v.1 v.0 r.0 r.1), choice_spot_in y.type t p))
+    (in_here end (set_again line t v.1 v.0) (set_again_in line t v.1 v.0 r.0 r.1), search arith fits 100))
 
 -- assignments
 
@@ -240,7 +229,7 @@ changed_by_in line op keeps target old d s w p o h =
     answer false t old v g o r = (g, r)
 
 pub old_solid : (line : ℕ) (d : Context × Found) → Solid d.0 → Widens d.0 (old_value line d).0
-old_solid line d h = same_widens d.0 _ (same_kept d.0 _ (quiet_read line d.1.typed.type d.1.spot d.0) (grows_read line d.1.typed.type d.1.spot d.0).kept) h
+old_solid line d h = same_widens d.0 _ (same_kept d.0 _ (quiet_read line d.1.typed.type d.1.spot d.0) (read_keeps Made grows_writes line d.1.typed.type d.1.spot d.0).kept) h
 
 pub stepped_in : (line : ℕ) (op : AssignOp) (keeps : Bool) (d : Context × Found) → Solid d.0 → Whole (K d.0) d.1.typed.type → E d → Led E (stepped line op keeps d)
 stepped_in line op keeps d s w h =

@@ -1,7 +1,5 @@
 -- What stays where names of a tree get a suffix: all that does not look at the bytes of names.
-use Rattle.std.proofs.Common.{◌≡◌, ◌≤◌, ◌+◌, ℕ, Bool, true, List, [], Option, None, is_some, ◌||◌, if◌then◌else◌, suc, refl, sym, ap, ◌∙◌, subst, arith, inl, inr, ◌⊎◌}
-use Rattle.std.proofs.lemmas.List.{append-nil}
-use Rattle.std.proofs.Math.Path.{transport, transport⁻¹}
+use Rattle.core_soundness.proofs.Words.Std.{◌≡◌, ◌≤◌, ◌+◌, ℕ, Bool, true, List, [], Option, None, is_some, ◌||◌, if◌then◌else◌, suc, refl, sym, ap, ◌∙◌, subst, arith, inl, inr, ◌⊎◌, append-nil, transport, transport⁻¹}
 use Rattle.core_soundness.proofs.Words.Trees.{Form, shape, IsRenamed, IsSuffixed, Renames, RenamesAll, RenamesSome, first_name, word_name, word_is_typedef, has_typedef, leads_to_name, name_of, name_among, first_list, params_of, params_among, suffix_params, Tree, Trees, Leaf, At, Node, none, ◌▹◌, count, Word}
 use Rattle.core_soundness.proofs.Words.Facts.{IsList, HasLists, HasParameters, IsDefinition, joined, WordNames, Names, AllNames, IsHeld, HasParts, Written, AllWritten, Each}
 use Rattle.c_tree.specs.Forms as f
@@ -240,10 +238,6 @@ has_params_blank tree = refl
 grammatical_blank : (tree : Tree) → Grammatical (blank tree) ≡ Grammatical tree
 grammatical_blank tree = λ i. (written_blank tree i × definition_blank tree i) × (formed_blank tree i × has_params_blank tree i)
 
-grammatical_kept : (tree new : Tree) → Renames tree new → Grammatical tree → Grammatical new
-grammatical_kept tree new h g =
-    transport (grammatical_blank new) (subst Grammatical (same_blank tree new h) (transport⁻¹ (grammatical_blank tree) g))
-
 -- names that are such ones, where a suffix keeps that
 
 module _ (V W : List ℕ → Type 0) (kept : (name new : List ℕ) → IsSuffixed name new → V name → W new) where
@@ -273,7 +267,7 @@ module _ (V W : List ℕ → Type 0) (kept : (name new : List ℕ) → IsSuffixe
 
 pub some_grammatical : (trees news : Trees) → RenamesSome trees news → Each Grammatical trees → Each Grammatical news
 unfolding RenamesSome
-some_grammatical (tree ▹ rest) (new ▹ news) (inl h) p = (grammatical_kept tree new h.0 p.0, some_grammatical rest news h.1 p.1)
+some_grammatical (tree ▹ rest) (new ▹ news) (inl h) p = (transport (grammatical_blank new) (subst Grammatical (same_blank tree new h.0) (transport⁻¹ (grammatical_blank tree) p.0)), some_grammatical rest news h.1 p.1)
 some_grammatical (tree ▹ rest) (new ▹ news) (inr h) p = some_grammatical rest (new ▹ news) h p.1
 some_grammatical trees news h p = search arith fits 100
 
@@ -285,14 +279,11 @@ some_weighed trees news h = search arith fits 100
 
 -- trees that keep their names
 
-same_renamed : (word : Word) → IsRenamed word word
-same_renamed word = search (arith, append-nil) fits 100
-
 mutual
   unfolding Renames RenamesAll
 
   renames_same : (tree : Tree) → Renames tree tree
-  renames_same (Leaf word) = same_renamed word
+  renames_same (Leaf word) = search (arith, append-nil) fits 100
   renames_same (At line) = refl
   renames_same (Node form parts) = (refl, renames_same_all parts)
 

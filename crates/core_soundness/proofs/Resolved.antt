@@ -1,18 +1,9 @@
 -- Formats are read, and statements are resolved to the numbers of a core.
-use Rattle.std.proofs.Common.{◌≡◌, ◌≢◌, true≢false, append-nil, ◌≤◌, ◌==◌, ◌&&◌, ℕ, zero, suc, nat_le, nat_eq, Bool, true, false, not, cond, List, [], ◌∷◌, ◌++◌, length, take, drop, slice_index, is_some, codes, unwrap_or, get_or, All, Option, Some, None, refl, sym, ap, ◌∙◌, subst, arith, append_assoc, ◌<◌, ◌+◌, ◌*◌, ◌/◌, ◌%◌, map, replicate, slice_get, option_map, length-append}
-use Rattle.std.proofs.lemmas.Bool.{eqb-true, eqb-false, leb-true, and_parts, eq-eqb}
-use Rattle.std.proofs.lemmas.List.{take-append-drop, length-map}
-use Rattle.std.proofs.lemmas.List.Concat.{flat_map-cons}
-use Rattle.std.proofs.lemmas.List.Folds.{length-prefix_len}
-use Rattle.std.proofs.lemmas.Nat.{div-mul-add, mod-mul-add}
-use Rattle.std.specs.Char.{is_ascii_digit}
-use Rattle.std.specs.Cmp.Lexicographic.{pointwise}
-use Rattle.std.specs.List.{find, prefix_len, take_while, starts_with}
-use Rattle.std.specs.Str.Parse.{digits_value}
+use Rattle.core_soundness.proofs.Words.Std.{◌≡◌, ◌≢◌, true≢false, append-nil, ◌≤◌, ◌==◌, ◌&&◌, ℕ, zero, suc, nat_le, nat_eq, Bool, true, false, not, cond, List, [], ◌∷◌, ◌++◌, length, take, drop, slice_index, is_some, codes, unwrap_or, get_or, All, Option, Some, None, refl, sym, ap, ◌∙◌, subst, arith, append_assoc, ◌<◌, ◌+◌, ◌*◌, ◌/◌, ◌%◌, map, replicate, slice_get, option_map, length-append, eqb-true, eqb-false, leb-true, and_parts, eq-eqb, take-append-drop, length-map, flat_map-cons, length-prefix_len, div-mul-add, mod-mul-add, is_ascii_digit, pointwise, find, prefix_len, take_while, starts_with, digits_value}
 use Rattle.core_soundness.proofs.Words.Types.{behind_flags, digits_at, behind_digits, behind_length, is_item, is_format_of, is_format}
 use Rattle.core_soundness.proofs.Words.Core.{IntKind, I32, plain_byte, GoesOnPlain, ReadsPieces, IsFormat, is_flag, StartsOutside, ReadsItem, length_bytes, is_one_of, kind_of, length_at, item_at, join, pieces_from, pieces_of, Piece, Plain, Item, Sort, Pointer, sort_of, register_sort, atom_sort, TakesAll, GivesResult, TakesCall, TakesFormat, IsTyped, HasRegister, answer_sort, Core, Func, Reg as Register, Atom, Stm, StmKind, Set, Return}
-use Rattle.core_soundness.proofs.Words.Elaborating.{Piece as CodePiece, Does, Here, Context, Walked, local_register, integer_temporary, pointer_temporary, file_variable, literal_object, Numbers, atom_by, atoms_by, numbered, body_of, register_by, static_by, numbers_of, temporary, pointer_register, function_of, variable_static, literal_static, core_of}
-use Rattle.core_soundness.proofs.Words.Facts.{World, walked_world, IsRegister, is_local, is_integer, is_pointer_temporary, IsObject, is_variable, is_literal, Holds, HoldAll, Receives, IsCall, IsPrinted, Fits, FitsAnswer, FitsIn, PiecesFit}
+use Rattle.core_soundness.proofs.Words.Elaborating.{Piece as CodePiece, Does, Here, Context, Walked, file_variable, literal_object, Numbers, atom_by, atoms_by, numbered, body_of, register_by, static_by, numbers_of, temporary, pointer_register, function_of, variable_static, literal_static, core_of}
+use Rattle.core_soundness.proofs.Words.Facts.{World, walked_world, IsRegister, is_local, is_integer, is_pointer_temporary, IsObject, is_variable, is_literal, Holds, HoldAll, Receives, IsCall, IsPrinted, Fits, PiecesFit}
 use Rattle.c_print.specs.ItemEquations.{front_passes, rest_starts_outside, conv_is_letter, item_is_no_percent, width_bytes_value}
 use Rattle.core_tree.specs.declared.statements.Atom.TheVariants as atom
 use Rattle.core_soundness.proofs.Scopes.{get_left}
@@ -39,9 +30,6 @@ same_bytes (x ∷ a) (y ∷ b) e = both x y a b (nat_eq x y) refl (λ q. same_by
     both x y a b false q again h = cc
 same_bytes a b e = search arith fits 100
 
-begins : (needle bytes : List ℕ) → starts_with nat_eq bytes needle ≡ true → bytes ≡ needle ++ drop (length needle) bytes
-begins needle bytes e = sym (take-append-drop (length needle) bytes) ∙ ap (λ (front : List ℕ). front ++ drop (length needle) bytes) (sym (same_bytes needle (take (length needle) bytes) e))
-
 -- the first text that a list begins with, or none
 found_begins : {T : Type 0} (spell : T → List ℕ) (absent : T) (bytes : List ℕ) (ls : List T) → spell absent ≡ []
     → (let l = unwrap_or (find (λ l. starts_with nat_eq bytes (spell l)) ls) absent in bytes ≡ spell l ++ drop (length (spell l)) bytes)
@@ -50,7 +38,7 @@ found_begins spell absent bytes (l ∷ ls) e = by (starts_with nat_eq bytes (spe
   where
     by : (t : Bool) → starts_with nat_eq bytes (spell l) ≡ t → (let k = unwrap_or (find (λ x. starts_with nat_eq bytes (spell x)) ls) absent in bytes ≡ spell k ++ drop (length (spell k)) bytes)
         → (let k = unwrap_or (cond t (Some l) (find (λ x. starts_with nat_eq bytes (spell x)) ls)) absent in bytes ≡ spell k ++ drop (length (spell k)) bytes)
-    by true q again = begins (spell l) bytes q
+    by true q again = sym (take-append-drop (length (spell l)) bytes) ∙ ap (λ (front : List ℕ). front ++ drop (length (spell l)) bytes) (sym (same_bytes (spell l) (take (length (spell l)) bytes) q))
     by false q again = again
 
 -- an item
@@ -92,9 +80,6 @@ item_reads bytes e =
 
 -- pieces
 
-no_more : GoesOnPlain [] → ⊥
-no_more h = either_way (λ x. [] ≡ x ++ h.1 → ⊥) (nat_eq h.0 37) (λ e. cc) (λ e. cc) h.3
-
 -- an item is no plain text
 item_alone : (item : List ℕ) (left zeros : Bool) (width conv : ℕ) (kind : IntKind) (rest : List ℕ) → ReadsItem item left zeros width conv kind rest → GoesOnPlain (37 ∷ item) → ⊥
 item_alone item left zeros width conv kind rest reads plain = by_test (nat_eq plain.0 37) refl plain.3
@@ -118,7 +103,7 @@ some_bytes b text e = cc
 
 -- one plain byte in front of pieces
 plain_first : (b : ℕ) (bytes rest : List ℕ) (pieces : List Piece) → bytes ≡ plain_byte b ++ rest → b ≢ 0 → ReadsPieces rest pieces [] → ReadsPieces bytes (join (Plain (b ∷ [])) pieces) []
-plain_first b bytes rest [] e h r = search (arith, some_bytes, append-nil, flat_map-cons, first_none, none_none, no_more) fits 100
+plain_first b bytes rest [] e h r = search (arith, some_bytes, append-nil, flat_map-cons, first_none, none_none, either_way) fits 100
 plain_first b bytes rest (Plain more ∷ pieces) e h r = search (arith, some_bytes, append_assoc, flat_map-cons, first_none) fits 100
 plain_first b bytes rest (Item left zeros width conv kind ∷ pieces) e h r = (
   rest,
@@ -133,12 +118,6 @@ plain_first b bytes rest (Item left zeros width conv kind ∷ pieces) e h r = (
   r,
 )
 
-plain_spelled : (b : ℕ) (rest : List ℕ) → (b == 37) ≡ false → b ∷ rest ≡ plain_byte b ++ rest
-plain_spelled b rest e = ap (λ (t : Bool). cond t (37 ∷ 37 ∷ []) (b ∷ []) ++ rest) (sym e)
-
-second_is : (rest : List ℕ) → (slice_index rest 0 == 37) ≡ true → rest ≡ 37 ∷ drop 1 rest
-second_is rest e = search (arith, eqb-true) fits 100
-
 reads_format : (n : ℕ) (bytes : List ℕ) → is_format_of n bytes ≡ true → ReadsPieces bytes (pieces_from n bytes) []
 reads_format (suc n) (b ∷ rest) e =
     by (b == 0) (b == 37) (slice_index rest 0 == 37) (is_item rest) refl refl refl refl (λ q. reads_format n rest q) (λ q. reads_format n (drop 1 rest) q) (λ q. reads_format n (drop 1 (behind_length rest)) q) e
@@ -149,9 +128,9 @@ reads_format (suc n) (b ∷ rest) e =
         → cond is_zero false (cond (not is_percent) (is_format_of n rest) (cond is_double (is_format_of n (drop 1 rest)) (is_good && is_format_of n (drop 1 (behind_length rest))))) ≡ true
         → ReadsPieces (b ∷ rest) (let front = cond is_percent (cond is_double (Plain (37 ∷ []), drop 1 rest) (item_at rest)) (Plain (b ∷ []), rest) in join front.0 (pieces_from n front.1)) []
     by true p d g z q x i one two other h = cc
-    by false false d g z q x i one two other h = plain_first b (b ∷ rest) rest (pieces_from n rest) (plain_spelled b rest q) (eqb-false b 0 z) (one h)
+    by false false d g z q x i one two other h = plain_first b (b ∷ rest) rest (pieces_from n rest) (ap (λ (t : Bool). cond t (37 ∷ 37 ∷ []) (b ∷ []) ++ rest) (sym q)) (eqb-false b 0 z) (one h)
     by false true true g z q x i one two other h =
-        plain_first 37 (b ∷ rest) (drop 1 rest) (pieces_from n (drop 1 rest)) (ap (λ (k : ℕ). k ∷ rest) (eqb-true b 37 q) ∙ ap (λ (l : List ℕ). 37 ∷ l) (second_is rest x)) (λ k. omega (arith, k)) (two h)
+        plain_first 37 (b ∷ rest) (drop 1 rest) (pieces_from n (drop 1 rest)) (ap (λ (k : ℕ). k ∷ rest) (eqb-true b 37 q) ∙ ap (λ (l : List ℕ). 37 ∷ l) (search (arith, eqb-true) fits 100)) (λ k. omega (arith, k)) (two h)
     by false true false g z q x i one two other h =
         let parts = and_parts g (is_format_of n (drop 1 (behind_length rest))) h in
         (drop 1 (behind_length rest), (rest, ap (λ (k : ℕ). k ∷ rest) (eqb-true b 37 q), item_reads rest (i ∙ parts.0)), other parts.1)
@@ -175,18 +154,6 @@ rest_of : (locals integers r quotient rest : ℕ) → r / 3 ≡ quotient → r %
 unfolding by_rest
 rest_of locals integers r quotient rest e h = search arith
 
-local_number : (locals integers k : ℕ) → register_by locals integers (local_register k) ≡ k
-unfolding by_rest
-local_number locals integers k = rest_of locals integers (3 * k) k 0 (ap (λ (j : ℕ). j / 3) (third k 0 (3 * k) (omega arith)) ∙ div-mul-add k 3 0 (omega arith)) (ap (λ (j : ℕ). j % 3) (third k 0 (3 * k) (omega arith)) ∙ mod-mul-add k 3 0 (omega arith))
-
-integer_number : (locals integers k : ℕ) → register_by locals integers (integer_temporary k) ≡ locals + k
-unfolding by_rest
-integer_number locals integers k = rest_of locals integers (3 * k + 1) k 1 (ap (λ (j : ℕ). j / 3) (third k 1 (3 * k + 1) (omega arith)) ∙ div-mul-add k 3 1 (omega arith)) (ap (λ (j : ℕ). j % 3) (third k 1 (3 * k + 1) (omega arith)) ∙ mod-mul-add k 3 1 (omega arith))
-
-pointer_number : (locals integers k : ℕ) → register_by locals integers (pointer_temporary k) ≡ locals + integers + k
-unfolding by_rest
-pointer_number locals integers k = rest_of locals integers (3 * k + 2) k 2 (ap (λ (j : ℕ). j / 3) (third k 2 (3 * k + 2) (omega arith)) ∙ div-mul-add k 3 2 (omega arith)) (ap (λ (j : ℕ). j % 3) (third k 2 (3 * k + 2) (omega arith)) ∙ mod-mul-add k 3 2 (omega arith))
-
 -- lists
 
 get_right : {X : Type 0} (xs ys : List X) (j k : ℕ) → j ≡ length xs + k → slice_get (xs ++ ys) j ≡ slice_get ys k
@@ -207,9 +174,6 @@ get_there (x ∷ xs) sort (suc i) h = get_there xs sort i (omega (arith, h))
 length_same : {X : Type 0} (n : ℕ) (x : X) → length (replicate n x) ≡ n
 length_same zero x = refl
 length_same (suc n) x = ap suc (length_same n x)
-
-some_left : (xs ys : List Register) (k : ℕ) (sort : Sort) (o : Option Register) → slice_get xs k ≡ o → option_map sort_of o ≡ Some sort → option_map sort_of (slice_get (xs ++ ys) k) ≡ Some sort
-some_left xs ys k sort o e h = search (arith, option_map, get_left) fits 100
 
 pub variable_number : (count k : ℕ) → static_by count (file_variable k) ≡ k
 variable_number count k = grind (arith, eq-eqb)
@@ -234,11 +198,12 @@ module _ (c : Context) (w : Walked) where
   here = walked_world c w
 
   register_resolves : (sort : Sort) (r : ℕ) → IsRegister here sort r → register_sort func (num.register r) ≡ Some sort
-  register_resolves sort r (is_local k at there) = search (arith, local_number, some_left)
+  unfolding by_rest
+  register_resolves sort r (is_local k at there) = search (arith, rest_of, third, div-mul-add, mod-mul-add, option_map, get_left)
   register_resolves sort r (is_integer k at there same) =
       let locals : ℕ = length w.running.locals in
       ap (λ (i : ℕ). register_sort func (register_by locals w.code.most_integers i)) at
-      ∙ ap (λ (i : ℕ). register_sort func i) (integer_number locals w.code.most_integers k)
+      ∙ ap (λ (i : ℕ). register_sort func i) (rest_of locals w.code.most_integers (3 * k + 1) k 1 (ap (λ (j : ℕ). j / 3) (third k 1 (3 * k + 1) (omega arith)) ∙ div-mul-add k 3 1 (omega arith)) (ap (λ (j : ℕ). j % 3) (third k 1 (3 * k + 1) (omega arith)) ∙ mod-mul-add k 3 1 (omega arith)))
       ∙ ap (λ (o : Option Register). option_map sort_of o)
       (get_right w.running.locals temporaries (locals + k) k refl ∙ get_left (replicate w.code.most_integers temporary) (replicate w.code.most_pointers pointer_register) k temporary (get_same w.code.most_integers temporary k there))
       ∙ ap (λ (s : Sort). Some s) (sym same)
@@ -246,7 +211,7 @@ module _ (c : Context) (w : Walked) where
       let locals : ℕ = length w.running.locals in
       let integers : ℕ = w.code.most_integers in
       ap (λ (i : ℕ). register_sort func (register_by locals integers i)) at
-      ∙ ap (λ (i : ℕ). register_sort func i) (pointer_number locals integers k)
+      ∙ ap (λ (i : ℕ). register_sort func i) (rest_of locals integers (3 * k + 2) k 2 (ap (λ (j : ℕ). j / 3) (third k 2 (3 * k + 2) (omega arith)) ∙ div-mul-add k 3 2 (omega arith)) (ap (λ (j : ℕ). j % 3) (third k 2 (3 * k + 2) (omega arith)) ∙ mod-mul-add k 3 2 (omega arith)))
       ∙ ap (λ (o : Option Register). option_map sort_of o)
       (get_right w.running.locals temporaries (locals + integers + k) (integers + k) (omega arith)
       ∙ get_right (replicate integers temporary) (replicate w.code.most_pointers pointer_register) (integers + k) k (omega (arith, length_same integers temporary))
@@ -294,30 +259,18 @@ module _ (c : Context) (w : Walked) where
     kind_resolves (Set r a) h = (h.0, register_resolves h.0 r h.1, atom_resolves h.0 a h.2)
     kind_resolves kind h = search (arith, register_resolves, atom_resolves, result_resolves, all_resolve, printed_resolves) fits 100
 
-    answer_typed : (answer : Option Sort) (a : Option Atom) → FitsAnswer here answer a → IsTyped core func (numbered num (Return a))
-    unfolding numbered
-    answer_typed answer a h = search (arith, atom_resolves) fits 100
-
-    in_resolves : (answer : Option Sort) (kind : StmKind) → FitsIn answer here kind → IsTyped core func (numbered num kind)
-    in_resolves answer kind h = search (arith, answer_typed, kind_resolves) fits 100
-
     pub statements_resolve : (answer : Option Sort) (pieces : List CodePiece) (point : ℕ) (stm : Stm) → PiecesFit answer here pieces → slice_get (body_of num pieces) point ≡ Some stm → (1 ≤ stm.line) × IsTyped core func stm.kind
+    unfolding numbered
     statements_resolve answer [] point stm h e = cc
     statements_resolve answer (Here l ∷ pieces) point stm h e = statements_resolve answer pieces point stm h.1 e
-    statements_resolve answer (Does s ∷ pieces) zero stm h e = subst (λ (x : Stm). (1 ≤ x.line) × IsTyped core func x.kind) (some_same _ stm e) (h.0.0, in_resolves answer s.kind h.0.1)
+    statements_resolve answer (Does s ∷ pieces) zero stm h e = subst (λ (x : Stm). (1 ≤ x.line) × IsTyped core func x.kind) (some_same _ stm e) (h.0.0, search (arith, atom_resolves, kind_resolves) fits 100)
     statements_resolve answer (Does s ∷ pieces) (suc point) stm h e = statements_resolve answer pieces point stm h.1 e
 
   -- returns
 
-  answer_resolves : (answer : Option Sort) (a : Option Atom) → FitsAnswer here answer a → answer_sort core func (option_map (atom_by num) a) ≡ answer
-  answer_resolves answer a h = search (arith, atom_resolves) fits 100
-
-  return_resolves : (answer : Option Sort) (kind : StmKind) (a : Option Atom) → FitsIn answer here kind → numbered num kind ≡ Return a → answer_sort core func a ≡ answer
-  unfolding numbered
-  return_resolves answer kind a h e = search (arith, answer_resolves) fits 100
-
   pub returns_resolve : (answer : Option Sort) (pieces : List CodePiece) (point : ℕ) (stm : Stm) (a : Option Atom) → PiecesFit answer here pieces → slice_get (body_of num pieces) point ≡ Some stm → stm.kind ≡ Return a → answer_sort core func a ≡ answer
+  unfolding numbered
   returns_resolve answer [] point stm a h e q = cc
   returns_resolve answer (Here l ∷ pieces) point stm a h e q = returns_resolve answer pieces point stm a h.1 e q
-  returns_resolve answer (Does s ∷ pieces) zero stm a h e q = return_resolves answer s.kind a h.0.1 (ap (λ (x : Stm). x.kind) (some_same _ stm e) ∙ q)
+  returns_resolve answer (Does s ∷ pieces) zero stm a h e q = search (arith, atom_resolves) fits 100
   returns_resolve answer (Does s ∷ pieces) (suc point) stm a h e q = returns_resolve answer pieces point stm a h.1 e q

@@ -1,9 +1,5 @@
 -- What scopes declare: names, who owns what they stand for, short names, and what stands outside.
-use Rattle.std.proofs.Common.{◌≡◌, ◌⊎◌, ℕ, Bool, true, false, cond, List, [], ◌∷◌, ◌++◌, Option, Some, None, refl, sym, ap, ◌∙◌, subst, inl, ⊎_elim, bytes_eq, ◌≤◌, ◌<◌, ◌+◌, zero, suc, nat_eq, length, slice_get, slice_set, arith, eqb-true, length-append, if◌then◌else◌, unwrap_or}
-use Rattle.std.proofs.lemmas.Bool.{eqb-false}
-use Rattle.std.proofs.lemmas.Slice.Eq.{bytes_eq-Decides}
-use Rattle.std.specs.Option.{option_or}
-use Rattle.std.specs.Prelude.{IfSome}
+use Rattle.core_soundness.proofs.Words.Std.{◌≡◌, ◌⊎◌, ℕ, Bool, true, false, cond, List, [], ◌∷◌, ◌++◌, Option, Some, None, refl, sym, ap, ◌∙◌, subst, inl, ⊎_elim, bytes_eq, ◌≤◌, ◌<◌, ◌+◌, zero, suc, nat_eq, length, slice_get, slice_set, arith, eqb-true, length-append, if◌then◌else◌, unwrap_or, eqb-false, bytes_eq-Decides, option_or, IfSome}
 use Rattle.core_soundness.proofs.Words.Trees.{Form, first_name, word_name, leads_to_name, name_of, name_among, Tree, Trees, Leaf, At, Node, none, ◌▹◌, Word}
 use Rattle.core_soundness.proofs.Words.Types.{PlainType, PlainNamed, Tag, ScopeList, Table, named_in, found_from, found, with_name, tag_name, first_or, innermost}
 use Rattle.core_soundness.proofs.Words.Core.{IsShort}
@@ -103,24 +99,17 @@ tag_found : (file : Table) (inner : List Table) (x : List ℕ) → SafeTable fil
 tag_found file [] x s h = s x
 tag_found file (t ∷ ts) x s h = or_safe (named_in (tag_name x) t) (found_from file (tag_name x) ts) (h.0 x) (tag_found file ts x s h.1)
 
--- the same names stand for `realloc`
-or_same : (a b c : Option PlainNamed) → frees b ≡ frees c → frees (option_or a b) ≡ frees (option_or a c)
-or_same a b c e = search arith fits 100
-
-found_same : (f g : Table) (a b : List Table) (name : List ℕ) → MoreTags f g → MoreAll a b → SafeTable f → SafeAll a → frees (found_from g name b) ≡ frees (found_from f name a)
+pub found_same : (f g : Table) (a b : List Table) (name : List ℕ) → MoreTags f g → MoreAll a b → SafeTable f → SafeAll a → frees (found_from g name b) ≡ frees (found_from f name a)
 found_same f g (t ∷ ts) (u ∷ us) name mf m sf s =
     let rest = found_same f g ts us name mf m.1 sf s.1 in
     ⊎_elim
     (λ (e : named_in name u ≡ named_in name t).
-    ap (λ o. frees (option_or o (found_from g name us))) e ∙ or_same (named_in name t) (found_from g name us) (found_from f name ts) rest)
+    ap (λ o. frees (option_or o (found_from g name us))) e ∙ (search arith fits 100))
     (λ (e : IsNewTag name t u).
     ap (λ o. frees (option_or o (found_from g name us))) e.4
     ∙ sym (ap (λ o. frees (option_or o (found_from f name ts))) e.3 ∙ ap (λ n. frees (found_from f n ts)) e.2 ∙ tag_found f ts e.0 sf s.1))
     (m.0 name)
 found_same f g a b name mf m sf s = search arith fits 100
-
-pub same_frees : (a b : ScopeList) (name : List ℕ) → More a b → Safe a → frees (found b name) ≡ frees (found a name)
-same_frees a b name m s = found_same a.file b.file a.inner b.inner name m.file m.inner s.file s.inner
 
 -- a scope is open
 abbrev pub HasScope : List Table → Type 0
@@ -140,12 +129,9 @@ named_push name key v (e ∷ t) =
       | false ↦ named_push name key v t
     ]
 
-tag_pushed : (t : Table) (x : List ℕ) (type : PlainType) → MoreTags t (t ++ (tag_name x, Tag type) ∷ [])
-tag_pushed t x type name = grind (arith, bytes_eq, true, bytes_eq-Decides, named_push, false)
-
 -- a tag more, in the innermost scope
 pub with_tag_more : (s : ScopeList) (x : List ℕ) (type : PlainType) → More s (with_name s (tag_name x) (Tag type))
-with_tag_more s x type = grind (arith, tag_pushed, tags_refl, all_refl)
+with_tag_more s x type = grind (arith, bytes_eq, true, bytes_eq-Decides, named_push, false, tags_refl, all_refl)
 
 -- any name more that is no `realloc`
 pushed_safe : (t : Table) (key : List ℕ) (v : PlainNamed) → frees (Some v) ≡ false → SafeTable t → SafeTable (t ++ (key, v) ∷ [])
@@ -159,14 +145,8 @@ with_name_safe s key v e h = grind (arith, pushed_safe)
 pub entered_safe : (s : ScopeList) → Safe s → Safe (scopes.entered s)
 entered_safe s h = record { file = h.file; inner = (λ x. refl, h.inner) }
 
-tail_safe : (inner : List Table) → SafeAll inner → SafeAll (scopes.tail inner)
-tail_safe inner h = search arith fits 100
-
-pub first_safe : (file : Table) (inner : List Table) → SafeTable file → SafeAll inner → SafeTable (scopes.first_or file inner)
-first_safe file inner s h = search arith fits 100
-
 pub left_safe : (s : ScopeList) → Safe s → Safe (scopes.left s)
-left_safe s h = record { file = h.file; inner = tail_safe s.inner h.inner }
+left_safe s h = record { file = h.file; inner = (search arith fits 100) }
 
 -- the functions of a text: each has one number by its name, and each body that was walked belongs to one of them
 
@@ -218,11 +198,8 @@ keeps_trans f g h x y = record { kept = λ name v e. y.kept name v (x.kept name 
 pub tag_kept : (f g : Table) (name : List ℕ) (v : PlainNamed) → (named_in name g ≡ named_in name f) ⊎ IsNewTag name f g → named_in name f ≡ Some v → named_in name g ≡ Some v
 tag_kept f g name v h4 h = search arith fits 100
 
-tag_same : (f g : Table) (name : List ℕ) (type : PlainType) (i : ℕ) → (named_in name g ≡ named_in name f) ⊎ IsNewTag name f g → named_in name g ≡ Some (Function type i) → named_in name f ≡ Some (Function type i)
-tag_same f g name type i h5 h = search arith fits 100
-
 pub more_keeps : (a b : ScopeList) → More a b → FileKeeps a.file b.file
-more_keeps a b m = search (arith, tag_kept, tag_same)
+more_keeps a b m = search (arith, tag_kept)
 
 all_length : (a b : List Table) → MoreAll a b → length b ≡ length a
 all_length (s ∷ ss) (t ∷ ts) m = ap suc (all_length ss ts m.1)
@@ -235,9 +212,6 @@ more_depth a b m = all_length a.inner b.inner m.inner
 abbrev pub IsNoFunction : PlainNamed → Type 0
 IsNoFunction (Function type i) = ⊥
 IsNoFunction other = Unit {0}
-
-no_function_is : (v : PlainNamed) (type : PlainType) (i : ℕ) → IsNoFunction v → v ≡ Function type i → ⊥
-no_function_is v type i h e = subst IsNoFunction e h
 
 push_kept : (name key : List ℕ) (v w : PlainNamed) (t : Table) → named_in name t ≡ Some w → named_in name (t ++ (key, v) ∷ []) ≡ Some w
 push_kept name key v w t e = named_push name key v t ∙ ap (λ o. option_or o (cond (bytes_eq name key) (Some v) None)) e
@@ -302,11 +276,8 @@ module _ (P Q : PlainNamed → Type 0) where
   pub scopes_fit : ((v : PlainNamed) → P v → Q v) → (s : ScopeList) → ScopesFit P P s → ScopesFit Q Q s
   scopes_fit f s h = record { file = λ name v e. f v (h.file name v e); inner = tables_fit f s.inner h.inner }
 
-push_keeps : (key : List ℕ) (v : PlainNamed) (t : Table) → IsNoFunction v → FileKeeps t (t ++ (key, v) ∷ [])
-push_keeps key v t h = search (arith, push_kept, no_function_is, push_get)
-
 pub with_name_keeps : (s : ScopeList) (key : List ℕ) (v : PlainNamed) → IsNoFunction v → FileKeeps s.file (with_name s key v).file
-with_name_keeps s key v h = grind (arith, push_keeps, keeps_refl)
+with_name_keeps s key v h = grind (arith, push_kept, push_get, keeps_refl)
 
 pub with_name_depth : (s : ScopeList) (key : List ℕ) (v : PlainNamed) → length (with_name s key v).inner ≡ length s.inner
 with_name_depth s key v = grind arith
@@ -521,15 +492,9 @@ some_short o h = search arith fits 100
 abbrev pub Any : List ℕ → Type 0
 Any bytes = Unit {0}
 
-pub any_name : (name : Option (List ℕ)) → IfSome name Any
-any_name name = search arith fits 100
-
-any_word : (word : Word) → WordNames Any word
-any_word word = search arith fits 100
-
 mutual
   pub any_names : (tree : Tree) → Names Any tree
-  any_names (Leaf word) = any_word word
+  any_names (Leaf word) = search arith fits 100
   any_names (At line) = tt
   any_names (Node form parts) = all_any parts
 

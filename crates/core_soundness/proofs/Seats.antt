@@ -1,20 +1,16 @@
 -- Where the parts of an object lie, and how initializers fill them.
-use Rattle.std.proofs.Common.{◌≡◌, ◌⊎◌, ◌≤◌, ◌<◌, ◌+◌, ◌*◌, ◌==◌, ◌||◌, ℕ, zero, suc, Bool, true, false, cond, filter, fold, List, [], ◌∷◌, ◌++◌, refl, sym, ap, ◌∙◌, subst, inl, inr, ⊎_elim, arith, ◌-◌, ◌/◌, length, reverse, replicate, map, slice_get, unwrap_or, length-append, append_assoc, ◌&&◌, not, is_some, take, zip, Option, Some, None, option_map}
-use Rattle.std.proofs.lemmas.Bool.{eqb-true, eq-eqb, leb-true, and_parts, cases_lt}
-use Rattle.std.proofs.lemmas.List.{reverse-append, reverse-reverse, length-reverse, length-replicate}
-use Rattle.std.specs.List.{flat_map, range_with_len, list_any, list_all, IsDistinct, AllByRecursion, find}
-use Rattle.std.specs.Prelude.{nat_le, nat_eq}
-use Rattle.core_soundness.proofs.Words.Types.{Placed, none_placed, offset_after, placed, moved, array_layout, members_layout, has_slot, keeps_union_rule, AreSlots, IsSound, Known, layout_of, CompletedTag, PlainMember, known, learn, tag_layout, member_layout, placed_members, PlainType, Array, Struct, Layout, TagError, PointerInUnion}
+use Rattle.core_soundness.proofs.Words.Std.{◌≡◌, ◌⊎◌, ◌≤◌, ◌<◌, ◌+◌, ◌*◌, ◌==◌, ◌||◌, ℕ, zero, suc, Bool, true, false, cond, filter, fold, List, [], ◌∷◌, ◌++◌, refl, sym, ap, ◌∙◌, subst, inl, inr, ⊎_elim, arith, ◌-◌, ◌/◌, length, reverse, replicate, map, slice_get, unwrap_or, length-append, append_assoc, is_some, take, zip, Option, Some, option_map, eqb-true, eq-eqb, leb-true, and_parts, cases_lt, reverse-append, length-reverse, length-replicate, flat_map, range_with_len, list_any, list_all, AllByRecursion, find, nat_le, nat_eq}
+use Rattle.std.specs.List.{IsDistinct}
+use Rattle.core_soundness.proofs.Words.Types.{Placed, none_placed, offset_after, placed, moved, array_layout, members_layout, has_slot, keeps_union_rule, AreSlots, IsSound, layout_of, CompletedTag, PlainMember, known, member_layout, placed_members, PlainType, Array, Struct, Layout}
 use Rattle.core_soundness.proofs.Words.Core.{Start}
 use Rattle.core_soundness.proofs.Words.Elaborating.{Context, size_or_zero, bytes_of, with_bytes, with_pointer, without_zeros, trimmed, elements, struct_parts, parts_of}
-use Rattle.core_soundness.proofs.Words.Facts.{Solid, AreMade, MembersWhole}
-use Rattle.c_types.specs.TagTableEquations.{Extends, some_array}
-use Rattle.c_types.specs.TagTableEquations.{stays_known}
+use Rattle.core_soundness.proofs.Words.Facts.{Solid, MembersWhole}
+use Rattle.c_types.specs.TagTableEquations.{some_array}
 use Rattle.c_types.specs.LayoutsEquations.{rounded_le}
 use Rattle.c_types.specs.Layouts.{place}
-use Rattle.core_soundness.proofs.Ranged.{members_same, learnt, rest_placed, fold_rest}
-use Rattle.core_soundness.proofs.WholeTypes.{members_stay, learn_extends, placed_far}
-use Rattle.core_soundness.proofs.Choices.{either_way, some_same}
+use Rattle.core_soundness.proofs.Ranged.{TagIs, tag_at, rest_placed, fold_rest}
+use Rattle.core_soundness.proofs.WholeTypes.{placed_far}
+use Rattle.core_soundness.proofs.Choices.{either_way}
 
 -- the law `layouts_are_sound` of `c_types`
 abbrev pub LayoutsAreSound : Type 0
@@ -67,9 +63,6 @@ pub record Seat (room : ℕ) (slots : List ℕ) (at : ℕ) (l : Layout) : Type 0
   pub inside : at + l.size ≤ room
   pub up : (s : ℕ) → Has l.slots s → Has slots (at + s)
   pub down : (s : ℕ) → Has slots s → (s + 4 ≤ at) ⊎ (at + l.size ≤ s) ⊎ Moved at l.slots s
-
-pub seat_whole : (l : Layout) → Seat l.size l.slots 0 l
-seat_whole l = search arith
 
 pub seat_within : (room : ℕ) (slots : List ℕ) (at offset : ℕ) (l m : Layout) → Seat room slots at l → Seat l.size l.slots offset m → Seat room slots (at + offset) m
 seat_within room slots at offset l m x y = search arith
@@ -373,9 +366,6 @@ padded old offset bytes = old ++ replicate (offset - length old) 0 ++ bytes
 padded_is : (old bytes : List ℕ) (offset : ℕ) → padded old offset bytes ≡ old ++ (replicate (offset - length old) 0 ++ bytes)
 padded_is old bytes offset = append_assoc old (replicate (offset - length old) 0) bytes
 
-padded_length : (old bytes : List ℕ) (offset : ℕ) → length old ≤ offset → length (padded old offset bytes) ≡ offset + length bytes
-padded_length old bytes offset h = search (arith, padded_is, length-append, length-replicate)
-
 padded_before : (old bytes : List ℕ) (offset j : ℕ) → length old ≤ offset → j < offset → byte (padded old offset bytes) j ≡ byte old j
 padded_before old bytes offset j h k =
     ap (λ (xs : List ℕ). byte xs j) (padded_is old bytes offset)
@@ -386,17 +376,11 @@ padded_before old bytes offset j h k =
     ∙ (byte_zeros (offset - length old) bytes (j - length old) (omega (arith, far, k)) ∙ sym (byte_past old j far)))
     (cases_lt j (length old))
 
-padded_behind : (old bytes : List ℕ) (offset j : ℕ) → length old ≤ offset → offset + length bytes ≤ j → byte (padded old offset bytes) j ≡ 0
-padded_behind old bytes offset j h k = byte_past (padded old offset bytes) j (omega (arith, padded_length old bytes offset h, k))
-
 pub bytes_of_length : (width v : ℕ) → length (bytes_of width v) ≡ width
 bytes_of_length zero v = refl
 bytes_of_length (suc width) v = let rest = bytes_of_length width (v / 256) in omega (arith, rest)
 
 -- without zeros at the end
-
-reversed_more : (x : ℕ) (xs : List ℕ) → reverse (x ∷ xs) ≡ reverse xs ++ (x ∷ [])
-reversed_more x xs = reverse-append (x ∷ []) xs
 
 last_zero : (xs : List ℕ) (x j : ℕ) → x ≡ 0 → byte (xs ++ (x ∷ [])) j ≡ byte xs j
 last_zero xs x j e =
@@ -409,20 +393,17 @@ last_zero xs x j e =
     at zero = e
     at (suc k) = refl
 
-cut_same : (xs : List ℕ) (j : ℕ) → byte (reverse (without_zeros xs)) j ≡ byte (reverse xs) j
+pub cut_same : (xs : List ℕ) (j : ℕ) → byte (reverse (without_zeros xs)) j ≡ byte (reverse xs) j
 cut_same [] j = refl
 cut_same (x ∷ xs) j = by (x == 0) (cut_same xs j) refl
   where
     by : (t : Bool) → byte (reverse (without_zeros xs)) j ≡ byte (reverse xs) j → (x == 0) ≡ t → byte (reverse (cond t (without_zeros xs) (x ∷ xs))) j ≡ byte (reverse (x ∷ xs)) j
-    by true again e = again ∙ (sym (last_zero (reverse xs) x j (eqb-true x 0 e)) ∙ ap (λ (ys : List ℕ). byte ys j) (sym (reversed_more x xs)))
+    by true again e = again ∙ (sym (last_zero (reverse xs) x j (eqb-true x 0 e)) ∙ ap (λ (ys : List ℕ). byte ys j) (sym (reverse-append (x ∷ []) xs)))
     by false again e = refl
 
 cut_length : (xs : List ℕ) → length (without_zeros xs) ≤ length xs
 cut_length [] = omega arith
 cut_length (x ∷ xs) = either_way (λ y0. length (without_zeros xs) ≤ length xs → length y0 ≤ length (x ∷ xs)) (x == 0) (λ again. omega (arith, again)) (λ again. omega arith) (cut_length xs)
-
-pub trimmed_byte : (start : Start) (j : ℕ) → byte (trimmed start).bytes j ≡ byte start.bytes j
-trimmed_byte start j = cut_same (reverse start.bytes) j ∙ ap (λ (ys : List ℕ). byte ys j) (reverse-reverse start.bytes)
 
 pub trimmed_length : (start : Start) → length (trimmed start).bytes ≤ length start.bytes
 trimmed_length start = omega (arith, length-reverse (without_zeros (reverse start.bytes)), cut_length (reverse start.bytes), length-reverse start.bytes)
@@ -454,7 +435,7 @@ filled_more slots low high start e h = record { inside = omega (arith, h.inside,
 -- bytes of a place without slots
 pub filled_bytes : (room : ℕ) (slots : List ℕ) (low offset : ℕ) (l : Layout) (start : Start) (bytes : List ℕ) → Filled slots low start → low ≤ offset → Seat room slots offset l → ((s : ℕ) → Has l.slots s → ⊥) → length bytes ≤ l.size → Filled slots (offset + l.size) (with_bytes start offset bytes)
 filled_bytes room slots low offset l start bytes h e seat none fits =
-    search (arith, padded_length, padded_before, padded_behind, below_more) fits 100
+    search (arith, padded_is, length-append, length-replicate, padded_before, byte_past, below_more) fits 100
 
 -- a pointer
 
@@ -481,10 +462,6 @@ filled_pointer slots low offset static at start h e there = record {
   pointers = below_push slots (offset + 4) start.pointers (offset, static, at) (below_more slots low (offset + 4) start.pointers (omega (arith, e)) h.pointers) there (omega arith);
   distinct = distinct_push slots low start.pointers (offset, static, at) e h.pointers h.distinct;
 }
-
--- the zeros at the end go
-pub filled_trimmed : (slots : List ℕ) (low : ℕ) (start : Start) → Filled slots low start → Filled slots low (trimmed start)
-filled_trimmed slots low start h = search (arith, trimmed_length, trimmed_byte)
 
 -- the parts that braces are for lie in seats, one behind another (C99 6.7.8)
 
@@ -540,36 +517,6 @@ module _ (ts : List CompletedTag) (room : ℕ) (slots : List ℕ) where
       (elements_seated base n l element (sound ts element l e) e p seat asked n 0 base (omega arith) (omega arith))
 
 -- tags
-
-record TagIs (k : Known) (done : CompletedTag) (l : Layout) : Type 0 where
-  members : MembersWhole k done.members
-  is : members_layout done.is_union (map (member_layout k) done.members) ≡ l
-  rule : done.is_union ≡ true → keeps_union_rule (map (member_layout k) done.members) ≡ true
-
-kept_rule : (u r : Bool) (rest : Option TagError) → cond (u && not r) (Some PointerInUnion) rest ≡ None → u ≡ true → r ≡ true
-kept_rule u r rest e q = search arith fits 100
-
-tag_at : (j : Known) (tags : List CompletedTag) (tag : ℕ) (done : CompletedTag) (l : Layout) → AreMade j tags → find (λ (d : CompletedTag). d.tag == tag) tags ≡ Some done → fold learn j tags tag ≡ Some l → TagIs (fold learn j tags) done l
-tag_at j [] tag done l m e h = cc
-tag_at j (t ∷ tags) tag done l m e h = by (t.tag == tag) refl (λ q. tag_at (learn j t) tags tag done l m.1 q h) e
-  where
-    far : Known
-    far = fold learn (learn j t) tags
-
-    by : (b : Bool) → (t.tag == tag) ≡ b → (find (λ (d : CompletedTag). d.tag == tag) tags ≡ Some done → TagIs far done l) → cond b (Some t) (find (λ (d : CompletedTag). d.tag == tag) tags) ≡ Some done → TagIs far done l
-    by true s again q =
-        let same : t ≡ done = ap (λ (o : Option CompletedTag). unwrap_or o done) q in
-        let x : Extends j far = λ tag l h. stays_known (learn j t) tags tag l (learn_extends j t tag l h) in
-        let once : j tag ≡ None = ap j (sym (eqb-true t.tag tag s)) ∙ m.0.0.once in
-        let is : tag_layout j t ≡ l = some_same (tag_layout j t) l (sym (stays_known (learn j t) tags tag (tag_layout j t) (learnt j t tag once s)) ∙ h) in
-        let ms : map (member_layout j) t.members ≡ map (member_layout far) t.members = members_same t.members j far x m.0.1 in
-        subst (λ (y : CompletedTag). TagIs far y l) same
-        (record {
-          members = members_stay t.members j far x m.0.1;
-          is = ap (λ (ls : List Layout). members_layout t.is_union ls) (sym ms) ∙ is;
-          rule = λ u. subst (λ (ls : List Layout). keeps_union_rule ls ≡ true) ms (kept_rule t.is_union (keeps_union_rule (map (member_layout j) t.members)) _ m.0.0.kept u);
-        })
-    by false s again q = again q
 
 there : (o : Option Layout) (d : Layout) → is_some o ≡ true → o ≡ Some (unwrap_or o d)
 there o d e = search arith fits 100

@@ -1,5 +1,5 @@
 -- Each expression is where it says, and its code fits.
-use Rattle.std.proofs.Common.{◌≡◌, ◌≤◌, ◌+◌, ℕ, ℤ, pos, Bool, true, false, cond, is_some, ⊎_elim, List, [], ◌∷◌, Option, Some, None, Ok, refl, sym, ap, ◌∙◌, subst, length, arith}
+use Rattle.core_soundness.proofs.Words.Std.{◌≡◌, ◌≤◌, ◌+◌, ℕ, ℤ, pos, Bool, true, false, cond, is_some, ⊎_elim, List, [], ◌∷◌, Option, Some, None, Ok, refl, sym, ap, ◌∙◌, subst, length, arith}
 use Rattle.core_soundness.proofs.Words.Trees.{Tree, Trees, Leaf, At, Node, none, ◌▹◌}
 use Rattle.core_soundness.proofs.Words.Types.{size_in, PlainType, PlainTypes, Void, Callee, Takes, Prints, NoFunction, called, line_of, int_constant, char_constant, joined, literal, typed, typename, PlainNamed, choice, size_answer, Checked, then, named_in, found_from, found as declaration, Table, binary, PlainTyped, operand, is_record, integer, Is}
 use Rattle.core_soundness.proofs.Words.Core.{Sort, Enter, Leave}
@@ -18,7 +18,7 @@ use Rattle.c_decls.specs.Named as n
 use Rattle.c_decls.specs.ScopeList as scopes
 use Rattle.c_decls.specs.TypeNames as names
 use Rattle.core_soundness.proofs.Agreeing.{came, quiet_left, quiet_first, valued_agrees, found_agrees, changing_first}
-use Rattle.core_soundness.proofs.Calls.{record_lands, scalar_lands, changing_rule, changed_comes, stepped_comes, arguments_grew, AllHeld, argument_goes, CallOf, call_of, call_lands, ready_on, Rests, rests, name_local, valued_operated, names_more, all_spoken_more, unused_operated, inner_kept}
+use Rattle.core_soundness.proofs.Calls.{record_lands, scalar_lands, changing_rule, changed_comes, stepped_comes, arguments_grew, AllHeld, argument_goes, CallOf, call_of, call_lands, ready_on, Rests, rests, valued_operated, names_more, all_spoken_more, unused_operated, inner_kept}
 use Rattle.core_soundness.proofs.Declaring.{tail_depth}
 use Rattle.core_soundness.proofs.Growth.{good, ok_same, never, cast_unused, valued_unused}
 use Rattle.core_soundness.proofs.Landing.{found_name, name_lands, constant_lands, string_lands, indexed_lands, dotted_lands, pointed_lands, InMemory, address_lands, applied_lands, left_goes, between_lands, cast_lands, logical_typed, and_then_goes, and_comes, or_else_gives, or_comes, choice_sides, first_goes, first_null, chosen_lands}
@@ -51,15 +51,12 @@ type_size line e known t h =
     let d = came (typename e known) h in
     size_is line (size_in d.value.0.tags d.value.1) d.value.0 t d.last
 
-size_stands : (v : World) (e : PlainTyped) → IsSize e → Stands v (constant_found e)
-unfolding IsSize
-size_stands v e h = subst (λ (x : PlainTyped). Stands v (constant_found x)) h.1 refl
-
 unevaluated_lands : (tree : Tree) (c : Context) (z : Context × Found) → ((t : names.Context × PlainTyped) → typed tree (asked c) ≡ Ok t → IsSize t.1) → unevaluated c (typed tree (asked c)) ≡ Ok z → Lands c z
+unfolding IsSize
 unevaluated_lands tree c z k h =
     let t = came (typed tree (asked c)) h in
     subst (Lands c) (ok_same (told t.value.0 c, constant_found t.value.1) z t.last)
-    (record { goes = goes_told t.value.0 c (typed_after tree (asked c) t.value t.is); stands = size_stands (world (told t.value.0 c)) t.value.1 (k t.value t.is); apart = tt })
+    (record { goes = goes_told t.value.0 c (typed_after tree (asked c) t.value t.is); stands = (subst (λ (x : PlainTyped). Stands (world (told t.value.0 c)) (constant_found x)) (k t.value t.is).1 refl); apart = tt })
 
 -- what comes next, ahead
 
@@ -168,7 +165,7 @@ mutual
 
   pub found_rests : (tree : Tree) (wish : PlainType) (c : Context) (z : Context × Found) → Spoken c.scopes tree → NamesFit (world c) c.scopes → found tree wish c ≡ Ok z → Rests c tree z
   found_rests (Node f.Name (At line ▹ Leaf (w.Name name) ▹ none)) wish c z s h q =
-      record { sits = name_lands line name c z h q; local = λ r e. name_local line name (declaration c.scopes name) c z r q e; line = s.1.0 }
+      record { sits = name_lands line name c z h q; local = λ r e. search (arith, came, ok_same); line = s.1.0 }
   found_rests (Node f.Int (At line ▹ Leaf (w.Int bytes) ▹ none)) wish c z s h q =
       rests c (Node f.Int (At line ▹ Leaf (w.Int bytes) ▹ none)) z line refl s.1.0 (constant_lands c (int_constant bytes) z q)
   found_rests (Node f.Char (At line ▹ Leaf (w.Char bytes) ▹ none)) wish c z s h q =
@@ -429,9 +426,6 @@ opened_rests e type c z s h q = let r =
 
 pub closed_goes : (e : Tree) (c : Context) → 1 ≤ code_line e → Goes c (closed e c)
 closed_goes e c l = either_way (Goes c) (reallocates c.scopes e) (goes_emit (code_line e) Leave c l tt) (goes_refl c)
-
-pub opened_goes : (e : Tree) (c : Context) → 1 ≤ code_line e → Goes c (opened e c)
-opened_goes e c l = either_way (Goes c) (reallocates c.scopes e) (goes_trans c (anew c) _ (goes_anew c) (goes_emit (code_line e) Enter (anew c) l tt)) (goes_anew c)
 
 -- the value of a full expression
 pub record Evaluates (c : Context) (e : Tree) (z : Context × Found) : Type 0 where

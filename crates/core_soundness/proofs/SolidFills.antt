@@ -1,5 +1,5 @@
 -- Initializers and declarations keep whole types, and what they make has the layouts of types (C99 6.7, 6.7.8, 6.9.2).
-use Rattle.std.proofs.Common.{◌≡◌, ◌≤◌, ◌+◌, not, ℕ, zero, suc, pos, Bool, true, false, is_some, nat_lt, min, length, List, [], ◌∷◌, slice_get, slice_set, Option, Some, None, unwrap_or, Ok, refl, subst, arith}
+use Rattle.core_soundness.proofs.Words.Std.{◌≡◌, ◌≤◌, ◌+◌, not, ℕ, zero, suc, pos, Bool, true, false, is_some, nat_lt, min, length, List, [], ◌∷◌, slice_get, slice_set, Option, Some, None, unwrap_or, Ok, refl, subst, arith}
 use Rattle.core_soundness.proofs.Words.Trees.{name_of, Tree, Trees, Leaf, At, Node, none, ◌▹◌, count}
 use Rattle.core_soundness.proofs.Words.Types.{Known, no_layout, TagTable, known, layout_in, PlainType, Array, line_of, string, Checked, refused, then, unless, named_in, innermost, tag_name, after_declaration, Layer, ArrayOf, layered_before, tag_named, is_function, has_no_size, Assignment, DeclaredTwice, Incomplete, LeftOut, StaticTooLarge, is_built_in}
 use Rattle.core_soundness.proofs.Words.Core.{block_size, IsLayoutOfType, IsNumber, Start, Atom, Set, Clear, Off, Copy}
@@ -87,9 +87,6 @@ whole_rises e line type offset target c h w t m =
     led_unless (R1 c) (not (is_same_place type d.1.typed)) (not_whole d.1.typed) line
     (λ x. fill_record_rises e line type offset c d target (rises_trans c (opened e c) d.0 o (went_rises (opened e c) d g)) (λ k. (g.fits (o.code k)).1) t m))
 
-least : (a b bound : ℕ) → b ≤ bound → min a b ≤ bound
-least a b bound h = omega (arith, h)
-
 fill_text_rises : (e : Tree) (line : ℕ) (bytes : List ℕ) (size offset : ℕ) (target : Target) (c : Context) → Solid c → size ≤ 268435456 → IsNumber (pos offset) → Led (R1 c) (fill_text e line bytes size offset target c)
 fill_text_rises e line bytes size offset (InMemory at mem) c h small m =
     let begun = opened e c in
@@ -103,7 +100,7 @@ fill_text_rises e line bytes size offset (InMemory at mem) c h small m =
     led_ok (R1 c)
     (coded_rises c d.0 s.code y
     (λ g. let p = in_pointer at (λ p. Off p (atom.Mem mem) (pos offset)) d.0 (y.code g) (λ r. ((tt, tt), m)) in
-    in_emit at (Copy place.1 (atom.Static d.1) (pos k)) place.0 p.0 ((p.1, (tt, tt)), small_number k (least (length bytes + 1) size 268435456 small)))))
+    in_emit at (Copy place.1 (atom.Static d.1) (pos k)) place.0 p.0 ((p.1, (tt, tt)), small_number k (omega (arith, small))))))
 fill_text_rises e line bytes size offset (InStatic start) c h small m = led_ok (R1 c) (rises_refl c h)
 fill_text_rises e line bytes size offset (InRegister at register) c h small m = led_refused (R1 c)
 
@@ -177,12 +174,8 @@ with_local_rises name type c h w s = by (next_is_memory type c)
 local_spot : (name : List ℕ) (type : PlainType) (c : Context) → SpotIn (with_local name type c).1
 local_spot name type c = grind (arith, true, false)
 
--- the layout of a type that has one
-has_layout : (c : Context) (type : PlainType) → is_some (layout_in c.tags type) ≡ true → layout_in c.tags type ≡ Some (unwrap_or (layout_in c.tags type) no_layout)
-has_layout c type s = some_layout (layout_in c.tags type) s
-
 starts : (c : Context) (type : PlainType) → Solid c → Whole (K c) type → is_some (layout_in c.tags type) ≡ true → Within (K c) type 0
-starts c type h w s = starts_within c type (unwrap_or (layout_in c.tags type) no_layout) h w (has_layout c type s)
+starts c type h w s = starts_within c type (unwrap_or (layout_in c.tags type) no_layout) h w (some_layout (layout_in c.tags type) s)
 
 local_object_rises : (line : ℕ) (name : List ℕ) (type : PlainType) (inits : Trees) (c : Context) → Solid c → AllWritten inits → Whole (K c) type → Led (Rises c) (local_object line name type inits c)
 local_object_rises line name type inits c h v w =

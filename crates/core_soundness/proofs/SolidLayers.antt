@@ -1,11 +1,9 @@
 -- Declarators, specs and tags have whole types (C99 6.7).
-use Rattle.std.proofs.Common.{◌≡◌, ℕ, ℤ, pos, Bool, true, false, ◌||◌, cond, is_some, is_none, All, List, [], ◌∷◌, ◌++◌, length, reverse, slice_get, unwrap_or, option_map, Option, Some, None, Ok, refl, ap, ◌∙◌, arith}
-use Rattle.std.proofs.lemmas.List.Elements.{All-cons}
-use Rattle.std.specs.Option.{option_map_or}
+use Rattle.core_soundness.proofs.Words.Std.{◌≡◌, ℕ, ℤ, pos, Bool, true, false, ◌||◌, cond, is_some, is_none, All, List, [], ◌∷◌, ◌++◌, length, reverse, slice_get, unwrap_or, option_map, Option, Some, None, Ok, refl, ap, ◌∙◌, arith, All-cons, option_map_or}
 use Rattle.core_soundness.proofs.Words.Trees.{name_of, Tree, Trees, Leaf, At, Node, none, ◌▹◌, RecordSort}
 use Rattle.core_soundness.proofs.Words.Types.{Known, layout_of, TagTable, CompletedTag, refusal, layout_in, PlainType, PlainTypes, Struct, Union, Layout, TagError, TagInfo, line_of, typed, wanted, constant_from, PlainNamed, Checked, unless, named_in, innermost, with_name, tag_name, Layer, special_type, array_length, with_layers, with_param_layers, adjusted, is_void, is_record, is_array, is_function, has_no_size, DeclaredTwice, Incomplete, LeftOut}
 use Rattle.core_soundness.proofs.Words.Core.{HasLayout}
-use Rattle.core_soundness.proofs.Words.Elaborating.{Context, asked, entered, local_register, Memory, constant, with_type, maybe_name, newly_named, begun_as, completed_by, complete, ended, with_member, member, enumerator, enum_named, is_declared, param, left_params, specs, words_type, tag_type, members, member_names, enumerators, layers, suffix_layers, suffix_layer, params, is_twice, declared_as, next_is_memory, with_register, with_memory, counted, with_named, memory_param, register_param, function_param, prototype_param, is_prototype, with_param}
+use Rattle.core_soundness.proofs.Words.Elaborating.{Context, asked, entered, local_register, Memory, constant, with_type, maybe_name, begun_as, completed_by, complete, ended, with_member, member, enumerator, enum_named, is_declared, param, left_params, specs, words_type, tag_type, members, member_names, enumerators, layers, suffix_layers, suffix_layer, params, is_twice, declared_as, next_is_memory, with_register, with_memory, with_named, memory_param, register_param, function_param, prototype_param, is_prototype, with_param}
 use Rattle.core_soundness.proofs.Words.Facts.{Solid, Whole, AllWhole, MembersWhole, NamedWhole, HasParts, Written, AllWritten}
 use Rattle.c_types.specs.TagTable as tables
 use Rattle.core_tree.specs.declared.statements.Atom.TheVariants as atom
@@ -22,7 +20,7 @@ use Rattle.core_soundness.proofs.Ranged.{wrapped_number, mems_push, K, fit_of, t
 use Rattle.core_soundness.proofs.RangedFound.{Rises, rises_refl, rises_trans, told_rises, write_rises, with_code}
 use Rattle.core_soundness.proofs.TagSorts.{name_longer, SortedType, SortedName, type_longer, push_longer, new_sorted, ST, word_sorted, special_sorted, with_layers_sorted, Leads, typed_leads, wanted_leads, special_leads, new_tag_leads, MembersSorted, members_longer, bodies_longer, bodies_push, Sorts, kinds_refl, leads_kinds}
 use Rattle.core_soundness.proofs.TypedWhole.{GoodType, LayersWhole, LayerWhole, layers_append, layers_reverse, with_layers_whole, with_param_layers_whole, adjusted_whole, special_good, word_whole, length_some, typed_good, wanted_good}
-use Rattle.core_soundness.proofs.WholeTypes.{named_stays, whole_stays, members_stay, push_extends, extends_refl, made_push, whole_fits}
+use Rattle.core_soundness.proofs.WholeTypes.{named_stays, whole_stays, members_stay, push_extends, extends_refl, whole_fits, made_on, nothing}
 use Rattle.core_soundness.proofs.Choices.{either_way}
 use Rattle.core_soundness.proofs.Scopes.{none_fits, first_fits, innermost_fits, named_fits, entered_fit, left_fit, scopes_fit}
 
@@ -87,11 +85,8 @@ maybe_named name v c h w s = search (arith, rises_refl, named_rises) fits 100
 pub memory_rises : (name : List ℕ) (type : PlainType) (c : Context) → Solid c → Whole (K c) type → is_some (layout_in c.tags type) ≡ true → Rises c (with_memory name type c)
 memory_rises name type c h w s = search (arith, with_code, mems_push, laid, extends_refl, kinds_refl)
 
-pub counted_rises : (c x : Context) → Rises c x → Rises c (counted x)
-counted_rises c x r = record { solid = r.solid; more = r.more; kinds = r.kinds; code = r.code; cases = r.cases; walked = r.walked }
-
 param_made : (name : Option (List ℕ)) (type : PlainType) (c : Context) → Solid c → Whole (K c) type → is_some (layout_in c.tags type) ≡ true → Rises c (with_param name type c)
-param_made name type c h w s = counted_rises c _ (by (is_prototype c.scopes))
+param_made name type c h w s = record { solid = (by (is_prototype c.scopes)).solid; more = (by (is_prototype c.scopes)).more; kinds = (by (is_prototype c.scopes)).kinds; code = (by (is_prototype c.scopes)).code; cases = (by (is_prototype c.scopes)).cases; walked = (by (is_prototype c.scopes)).walked }
   where
     mem : ℕ
     mem = length c.running.mems
@@ -113,16 +108,8 @@ param_made name type c h w s = counted_rises c _ (by (is_prototype c.scopes))
     by true = maybe_named name (n.Object type 0) c h w (λ ks. tt)
     by false = own (next_is_memory type c)
 
--- a parameter has a layout: it is an integer or a pointer
-param_sized : (k : Known) (type : PlainType) → is_void type ≡ false → is_record type || is_function type ≡ false → is_array type ≡ false → is_some (layout_of k type) ≡ true
-param_sized k type a b e = search arith fits 100
-
 adjusted_flat : (type : PlainType) → is_array (adjusted type) ≡ false
 adjusted_flat type = search arith fits 100
-
--- a parameter is no struct, union or array
-param_sorted : (type : PlainType) (made : List TagInfo) → is_record type || is_function type ≡ false → is_array type ≡ false → SortedType made type
-param_sorted type made b e = search arith fits 100
 
 param_rises : (line : ℕ) (name : Option (List ℕ)) (type : PlainType) (c : Context) → Solid c → Whole (K c) type → is_array type ≡ false → Led (T c) (param line name type c)
 param_rises line name type c h w flat =
@@ -131,7 +118,7 @@ param_rises line name type c h w flat =
     led_unless (T c) (is_void type) Incomplete line
     (λ a. led_unless (T c) (is_record type || is_function type) LeftOut line
     (λ b. led_unless (T c) (is_declared name c) DeclaredTwice line
-    (λ t. let q = param_made name type c h w (param_sized (K c) type a b flat) in led_ok (T c) (q, whole_stays type (K c) _ q.more w, λ ks. param_sorted type (with_param name type c).tags.made b flat))))
+    (λ t. let q = param_made name type c h w (search arith fits 100) in led_ok (T c) (q, whole_stays type (K c) _ q.more w, λ ks. search arith fits 100))))
 
 -- tags
 
@@ -147,12 +134,9 @@ constant_rises e c h =
     (λ x q. let g = wanted_good c.tags.completed h.made e (typed e (asked c)) (typed_good c.tags.completed h.made e (asked c) (fit_of c h)) x q in
     led_after (R1 c) (constant_from (line_of e) x.1.type x.1.folded) (λ k z. led_ok (R1 c) (told_rises c x.0 h g.0 (wanted_leads (asked c) e (typed e (asked c)) (typed_leads e (asked c)) x q))))
 
-newly_rises : (sort : RecordSort) (name : List ℕ) (c : Context) → Solid c → Rises c (newly_named sort name c).0
-newly_rises sort name c h = search (arith, with_code, named_fits, extends_refl, leads_kinds, new_tag_leads) fits 100
-
 begun_as_rises : (sort : RecordSort) (name : List ℕ) (o : Option PlainNamed) (c : Context) → Solid c → Rises c (begun_as sort name o c).0
 begun_as_rises sort name (Some (n.Tag type)) c h = rises_refl c h
-begun_as_rises sort name other c h = newly_rises sort name c h
+begun_as_rises sort name other c h = search (arith, with_code, named_fits, extends_refl, leads_kinds, new_tag_leads) fits 100
 
 begun_rises : (sort : RecordSort) (name : Option (List ℕ)) (c : Context) → Solid c → Rises c (begun sort name c).0
 begun_rises sort None c h = record { solid = h; more = extends_refl (K c); kinds = record { made = push_longer c.tags.made _; sorts = λ ks. record { names = scopes_fit (SortedName c.tags.made) (SortedName _) (λ v. name_longer v c.tags.made _ (push_longer c.tags.made _)) c.scopes ks.names; list = λ name v e. name_longer v c.tags.made _ (push_longer c.tags.made _) (ks.list name v e); bodies = bodies_longer c.tags.completed c.tags.made _ (push_longer c.tags.made _) ks.bodies } }; code = λ k. k; cases = λ k. k; walked = λ k. k }
@@ -186,7 +170,7 @@ complete_rises line number type b c list r m some w sm st at =
     by t None e =
         let x = push_extends c.tags.completed new in
         let h = r.solid in
-        let made = made_push c.tags.completed new h.made (record { once = not_known (K c number) t; some = some; members = members_all (K c) list m; kept = e }) m in
+        let made = made_on nothing c.tags.completed new h.made (record { once = not_known (K c number) t; some = some; members = members_all (K c) list m; kept = e }) m in
         led_ok (T b) (
           record {
             solid = record {

@@ -1,8 +1,5 @@
 -- Statements, functions and texts keep whole types, and numbers in range.
-use Rattle.std.proofs.Common.{take, drop, ◌≡◌, ◌≤◌, ◌+◌, ◌*◌, ◌-◌, not, ℕ, zero, suc, ℤ, true, false, All, length, map, List, [], ◌∷◌, ◌++◌, slice_get, sum_by, Option, Some, None, Ok, refl, sym, subst, arith, bytes_eq, pos}
-use Rattle.std.proofs.lemmas.List.Elements.{All-cons, All-nil}
-use Rattle.std.proofs.lemmas.List.Sums.{sum_by-append, sum_by-cons}
-use Rattle.std.specs.List.{flat_map}
+use Rattle.core_soundness.proofs.Words.Std.{take, drop, ◌≡◌, ◌≤◌, ◌+◌, ◌*◌, ◌-◌, not, ℕ, zero, suc, ℤ, true, false, All, length, map, List, [], ◌∷◌, ◌++◌, slice_get, sum_by, Option, Some, None, Ok, refl, sym, subst, arith, bytes_eq, pos, All-cons, All-nil, sum_by-append, sum_by-cons, flat_map}
 use Rattle.core_soundness.proofs.Words.Trees.{name_of, Tree, Trees, At, Node, none, ◌▹◌}
 use Rattle.core_soundness.proofs.Words.Types.{Known, array_layout, number_layout, TagTable, PlainType, Void, IntType, built_ins, numbered_from, line_of, promoted, unconverted, Checked, then, named_in, with_layers, Operand, Number, is_void, is_scalar, is_function, BuiltIn, Operands, Assignment, LeftOut, DeclaredTwice}
 use Rattle.core_soundness.proofs.Words.Core.{block_size, IsLayoutOfType, IsNumber, EachFunc, EachStatement, atom_numbers, element_layouts, HasNumbers, given, operands, Core, Func, Mem, Static, Atom, Stm, StmKind, Enter, Leave, Return, Jump, Zero, Loop, Case, Add, Sub, Off, Diff, Copy, Clear, Malloc, Calloc, Realloc}
@@ -380,10 +377,6 @@ statics_all : (c : Context) (vs : List Variable) (rest : List Static) → Variab
 statics_all c [] rest h k = k
 statics_all c (v ∷ vs) rest h k = All-cons Laid (variable_static c v) (map (variable_static c) vs ++ rest) h.0 (statics_all c vs rest h.1 k)
 
-literal_laid : (bytes : List ℕ) → block_size (length bytes + 1) ≤ 67108864 → IsLayoutOfType (array_layout (length bytes + 1) (number_layout 1))
-literal_laid bytes small =
-    is_layout [] (types.Array (types.Int i.Char) (length bytes + 1)) (array_layout (length bytes + 1) (number_layout 1)) tt (tt, (number_layout 1, refl, omega (arith, small), omega arith)) refl
-
 abbrev bytes_in : List Static → ℕ
 bytes_in statics = sum_by (λ (static : Static). block_size static.layout.size) statics
 
@@ -393,7 +386,7 @@ literals_all (l ∷ ls) h =
     let e = sum_by-cons (λ (static : Static). block_size static.layout.size) (literal_static l) (map literal_static ls) in
     let first : block_size (length l + 1) ≤ 67108864 = head (length l + 1) (bytes_in (map literal_static ls)) (bytes_in (map literal_static (l ∷ ls))) (one (length l)) e h in
     let rest : bytes_in (map literal_static ls) ≤ 67108864 = omega (arith, e, h) in
-    All-cons Laid (literal_static l) (map literal_static ls) (literal_laid l first) (literals_all ls rest)
+    All-cons Laid (literal_static l) (map literal_static ls) (is_layout [] (types.Array (types.Int i.Char) (length l + 1)) (array_layout (length l + 1) (number_layout 1)) tt (tt, (number_layout 1, refl, omega (arith, first), omega arith)) refl) (literals_all ls rest)
   where
     one : (k : ℕ) → (k + 1) * 1 ≡ k + 1
     one k = omega arith

@@ -1,10 +1,10 @@
 -- The sorts of operands and results.
-use Rattle.std.proofs.Common.{◌≡◌, ◌≤◌, ℕ, List, [], ◌∷◌, ◌++◌, slice_get, Option, Some, None, option_map, refl, sym, ◌∙◌, subst, arith, ◌<◌, ◌+◌, max, Bool, true, false, cond, Ok, pos, ◌⊎◌}
+use Rattle.core_soundness.proofs.Words.Std.{◌≡◌, ◌≤◌, ℕ, List, [], ◌∷◌, ◌++◌, slice_get, Option, Some, None, option_map, refl, sym, ◌∙◌, subst, arith, ◌<◌, ◌+◌, max, Bool, true, false, cond, Ok, pos, ◌⊎◌}
 use Rattle.core_soundness.proofs.Words.Trees.{Tree, BinaryOp, UnaryOp}
 use Rattle.core_soundness.proofs.Words.Types.{TagTable, PlainType, kind_of, IntType, line_of, promoted, common_type, Refusal, Checked, unless, named_in, result_type, barred, moving, immovable, beside_pointer, sum_types, difference_types, order_types, equal_types, integer_types, binary, PlainTyped, Operand, Number, PointerTo, Neither, operand, held, read, is_scalar, has_no_size, value, int, is_null_constant, TypeKind}
-use Rattle.core_soundness.proofs.Words.Core.{Sort, Integer, Pointer, sort_of, Reg as Register, Atom, CmpOp, StmKind, Set, Un, Bin, Cmp, Add, Sub, Off, Diff, Pcmp, Test, Load, Loadp, Store, Storep, Call, Printf, Return}
+use Rattle.core_soundness.proofs.Words.Core.{Sort, Integer, Pointer, Reg as Register, Atom, CmpOp, StmKind, Set, Un, Bin, Cmp, Add, Sub, Off, Diff, Pcmp, Test, Load, Loadp, Store, Storep, Call, Printf, Return}
 use Rattle.core_soundness.proofs.Words.Elaborating.{Piece, Does, Here, Context, told, emit, here, with_labels, integer_by, pointer_by, integer_temporary, pointer_temporary, With, Found, Spot, Local, Memory, Value, Empty, read_spot, read_value, code_line, valued_from, atom_in, convert_integer, convert_to, convert, tested, tested_value, write, unused, size_or_zero, working, Working, Calculates, Shifts, Compares, Branches, convert_both, work, on_integers, before_integer, move_pointer, between_pointers, pointer_beside, beside_integer, combine, change, changed_to, member_address, tells_equal}
-use Rattle.core_soundness.proofs.Words.Facts.{World, IsRegister, is_local, is_integer, is_pointer_temporary, IsObject, is_variable, is_literal, Holds, HoldAll, local_sort, Receives, IsPrinted, Fits, FitsAnswer, FitsIn, PiecesFit, world, HeldAs, Held, StandsAs, Stands}
+use Rattle.core_soundness.proofs.Words.Facts.{World, IsRegister, is_local, is_integer, is_pointer_temporary, IsObject, is_variable, is_literal, Holds, HoldAll, Receives, IsPrinted, Fits, FitsIn, PiecesFit, world, HeldAs, Held, StandsAs, Stands}
 use Rattle.c_types.specs.Types as types
 use Rattle.core_tree.specs.declared.statements.Atom.TheVariants as atom
 use Rattle.core_tree.specs.declared.statements.CmpOp.TheVariants as cmp
@@ -38,11 +38,8 @@ grew_refl w = record { locals = λ k r e. e; mems = omega arith; integers = omeg
 pub grew_trans : (u v w : World) → Grew u v → Grew v w → Grew u w
 grew_trans u v w x y = search arith
 
-local_grew : (w v : World) (k : ℕ) (sort : Sort) (o : Option Register) → slice_get w.locals k ≡ o → ((reg : Register) → o ≡ Some reg → slice_get v.locals k ≡ Some reg) → option_map sort_of o ≡ Some sort → local_sort v k ≡ Some sort
-local_grew w v k sort o e h q = search (arith, option_map) fits 100
-
 pub register_grew : (w v : World) (sort : Sort) (r : ℕ) → Grew w v → IsRegister w sort r → IsRegister v sort r
-register_grew w v sort r g (is_local k e h) = is_local k e (local_grew w v k sort (slice_get w.locals k) refl (λ reg q. g.locals k reg q) h)
+register_grew w v sort r g (is_local k e h) = is_local k e (search (arith, option_map) fits 100)
 register_grew w v sort r g (is_integer k e h s) = is_integer k e (omega (arith, h, g.integers)) s
 register_grew w v sort r g (is_pointer_temporary k e h s) = is_pointer_temporary k e (omega (arith, h, g.pointers)) s
 
@@ -76,11 +73,8 @@ fits_grew w v (Printf r k args) g h = (register_grew w v Integer r g h.0, printe
 fits_grew w v (Return a) g h = absurd h
 fits_grew w v kind g h = search (register_grew, holds_grew, all_grew, receives_grew)
 
-pub answer_grew : (w v : World) (answer : Option Sort) (a : Option Atom) → Grew w v → FitsAnswer w answer a → FitsAnswer v answer a
-answer_grew w v answer a g h = search (arith, holds_grew) fits 100
-
 fits_in_grew : (answer : Option Sort) (w v : World) (kind : StmKind) → Grew w v → FitsIn answer w kind → FitsIn answer v kind
-fits_in_grew answer w v (Return a) g h = answer_grew w v answer a g h
+fits_in_grew answer w v (Return a) g h = search (arith, holds_grew) fits 100
 fits_in_grew answer w v kind g h = fits_grew w v kind g h
 
 -- a statement that fits is no return
@@ -151,18 +145,6 @@ max_left a b = omega arith
 max_right : (a b : ℕ) → a < max b (a + 1)
 max_right a b = omega arith
 
-pub with_integer_grew : (line : ℕ) (kind : ℕ → StmKind) (c : Context) → Grew (world c) (world (integer_by line kind c).0)
-with_integer_grew line kind c = search (arith, max_left)
-
-pub with_pointer_grew : (line : ℕ) (kind : ℕ → StmKind) (c : Context) → Grew (world c) (world (pointer_by line kind c).0)
-with_pointer_grew line kind c = search (arith, max_left)
-
-pub integer_there : (line : ℕ) (kind : ℕ → StmKind) (c : Context) → IsRegister (world (integer_by line kind c).0) Integer (integer_temporary c.code.integers)
-integer_there line kind c = is_integer c.code.integers refl (max_right c.code.integers c.code.most_integers) refl
-
-pub pointer_there : (line : ℕ) (kind : ℕ → StmKind) (c : Context) → IsRegister (world (pointer_by line kind c).0) Pointer (pointer_temporary c.code.pointers)
-pointer_there line kind c = is_pointer_temporary c.code.pointers refl (max_right c.code.pointers c.code.most_pointers) refl
-
 -- where a context goes with an operand of a sort
 pub record Gives (c : Context) (sort : Sort) (d : Context × Atom) : Type 0 where
   pub goes : Goes c d.0
@@ -175,8 +157,8 @@ gives_on b c sort d g h = record { goes = goes_trans b c d.0 g h.goes; holds = h
 pub gives_integer : (line : ℕ) (kind : ℕ → StmKind) (c : Context) → 1 ≤ line → ((v : World) (r : ℕ) → Grew (world c) v → IsRegister v Integer r → Fits v (kind r)) → Gives c Integer (integer_by line kind c)
 gives_integer line kind c l h =
     let d = (integer_by line kind c).0 in
-    let grew = with_integer_grew line kind c in
-    let there = integer_there line kind c in
+    let grew : Grew (world c) (world (integer_by line kind c).0) = search (arith, max_left) in
+    let there = is_integer c.code.integers refl (max_right c.code.integers c.code.most_integers) refl in
     record {
       goes = record {
         grew = grew;
@@ -191,8 +173,8 @@ gives_integer line kind c l h =
 pub gives_pointer : (line : ℕ) (kind : ℕ → StmKind) (c : Context) → 1 ≤ line → ((v : World) (r : ℕ) → Grew (world c) v → IsRegister v Pointer r → Fits v (kind r)) → Gives c Pointer (pointer_by line kind c)
 gives_pointer line kind c l h =
     let d = (pointer_by line kind c).0 in
-    let grew = with_pointer_grew line kind c in
-    let there = pointer_there line kind c in
+    let grew : Grew (world c) (world (pointer_by line kind c).0) = search (arith, max_left) in
+    let there = is_pointer_temporary c.code.pointers refl (max_right c.code.pointers c.code.most_pointers) refl in
     record {
       goes = record {
         grew = grew;
@@ -237,9 +219,6 @@ pub record HasValue (w : World) (e : Found) : Type 0 where
   pub value : e.typed.is_place ≡ false
   pub held : Held w e.typed.type (atom_in e)
 
-pub value_stands : (w : World) (e : Found) → HasValue w e → Stands w e
-value_stands w e h = subst (λ (x : Bool). StandsAs w x e.typed.type e.spot) (sym h.value) (subst (StandsAs w false e.typed.type) (sym h.spot) h.held)
-
 pub value_grew : (w v : World) (e : Found) → Grew w v → HasValue w e → HasValue v e
 value_grew w v e g h = record { spot = h.spot; value = h.value; held = held_grew w v e.typed.type (atom_in e) g h.held }
 
@@ -267,7 +246,7 @@ pub record Comes (c : Context) (z : Context × Found) : Type 0 where
   pub value : HasValue (world z.0) z.1
 
 pub comes_lands : (c : Context) (z : Context × Found) → Comes c z → Lands c z
-comes_lands c z h = record { goes = h.goes; stands = value_stands (world z.0) z.1 h.value; apart = subst Apart (sym h.value.spot) tt }
+comes_lands c z h = record { goes = h.goes; stands = (subst (λ (x : Bool). StandsAs (world z.0) x z.1.typed.type z.1.spot) (sym h.value.value) (subst (StandsAs (world z.0) false z.1.typed.type) (sym h.value.spot) h.value.held)); apart = subst Apart (sym h.value.spot) tt }
 
 -- reading
 
@@ -296,18 +275,10 @@ reads_place line at tags (types.Union tag) spot c typed l h e = no_record _ (has
 reads_place line at tags (types.Function answer params) spot c typed l h e = never _ _ typed e
 reads_place line at tags other rest c typed l h e = absurd h
 
--- a value is read as it is
-value_read : (line : ℕ) (type : PlainType) (a : Atom) (c : Context) → read_spot line type (Value a) c ≡ (c, a)
-unfolding read_spot
-value_read line type a c = search arith fits 100
-
-empty_read : (line : ℕ) (type : PlainType) (c : Context) → read_spot line type Empty c ≡ (c, atom.Null)
-unfolding read_spot
-empty_read line type c = search arith fits 100
-
 reads_value : (line : ℕ) (type : PlainType) (spot : Spot) (c : Context) → StandsAs (world c) false type spot → Brings c type (read_spot line type spot c)
-reads_value line type (Value a) c h = subst (Brings c type) (sym (value_read line type a c)) (record { goes = goes_refl c; held = h })
-reads_value line type Empty c h = subst (Brings c type) (sym (empty_read line type c)) (record { goes = goes_refl c; held = subst (λ (o : Operand). HeldAs (world c) o atom.Null) (sym h) tt })
+unfolding read_spot
+reads_value line type (Value a) c h = subst (Brings c type) (sym (search arith fits 100)) (record { goes = goes_refl c; held = h })
+reads_value line type Empty c h = subst (Brings c type) (sym (search arith fits 100)) (record { goes = goes_refl c; held = subst (λ (o : Operand). HeldAs (world c) o atom.Null) (sym h) tt })
 reads_value line type other c h = absurd h
 
 reads : (line at : ℕ) (tags : TagTable) (is_place : Bool) (e : PlainTyped) (spot : Spot) (c : Context) (typed : PlainTyped) → 1 ≤ line → e.is_place ≡ is_place → StandsAs (world c) is_place e.type spot → cond is_place (held at tags e.type) (Ok e) ≡ Ok typed → Brings c typed.type (read_spot line e.type spot c) × (typed.is_place ≡ false)
@@ -425,9 +396,6 @@ pub record Makes (c : Context) (typed : PlainTyped) (d : Context × Atom) : Type
   pub goes : Goes c d.0
   pub held : Held (world d.0) typed.type d.1
 
-pub makes_integer : (c : Context) (typed : PlainTyped) (ty : IntType) (d : Context × Atom) → typed.is_place ≡ false → typed.type ≡ types.Int ty → Gives c Integer d → Makes c typed d
-makes_integer c typed ty d p e g = record { value = p; goes = g.goes; held = subst (λ (t : PlainType). Held (world d.0) t d.1) (sym e) g.holds }
-
 pub makes_pointer : (c : Context) (type target : PlainType) (typed : PlainTyped) (d : Context × Atom) → operand type ≡ PointerTo target → value type ≡ typed → Gives c Pointer d → Makes c typed d
 makes_pointer c type target typed d o e g = search arith
 
@@ -510,20 +478,17 @@ module _ (line : ℕ) (l : 1 ≤ line) (b c : Context) (g : Goes b c) where
   moves_first : (op : BinaryOp) (target : PlainType) (p q : Atom) → Holds (world b) Pointer p → Holds (world c) Integer q → Gives b Pointer (move_pointer line op target p q c)
   moves_first op target p q h k = gives_on b c Pointer _ g (move_gives line op target p q c l (holds_grew (world b) (world c) Pointer p g.grew h) k)
 
-  moves_last : (op : BinaryOp) (target : PlainType) (p q : Atom) → Holds (world b) Integer p → Holds (world c) Pointer q → Gives b Pointer (move_pointer line op target q p c)
-  moves_last op target p q h k = gives_on b c Pointer _ g (move_gives line op target q p c l k (holds_grew (world b) (world c) Integer p g.grew h))
-
   pointers : (how : Working) (target : PlainType) (p q : Atom) → Holds (world b) Pointer p → Holds (world c) Pointer q → Gives b Integer (between_pointers line how target p q c)
   pointers how target p q h k = gives_on b c Integer _ g (between_gives line how target p q c l (holds_grew (world b) (world c) Pointer p g.grew h) k)
 
   number_made : (ty : IntType) (typed made : PlainTyped) (d : Context × Atom) → made.type ≡ types.Int ty → made.is_place ≡ false → made ≡ typed → Gives b Integer d → Makes b typed d
-  number_made ty typed made d o p e k = subst (λ (x : PlainTyped). Makes b x d) e (makes_integer b made ty d p o k)
+  number_made ty typed made d o p e k = subst (λ (x : PlainTyped). Makes b x d) e (record { value = p; goes = k.goes; held = subst (λ (t : PlainType). Held (world d.0) t d.1) (sym o) k.holds })
 
   pub sum_makes : (tags : TagTable) (x y typed : PlainTyped) (s t : Operand) (p q : Atom) → operand x.type ≡ s → operand y.type ≡ t → sum_types line tags x y s t ≡ Ok typed → HeldAs (world b) s p → HeldAs (world c) t q → Makes b typed (combine line bin.Add b.code s t p q c)
   unfolding working
   sum_makes tags x y typed (Number s) (Number t) p q o m e h k = number_made (result_type bin.Add s t) typed _ _ refl refl (ok_same _ typed e) (numbers bin.Add s t p q h k)
   sum_makes tags x y typed (PointerTo target) (Number t) p q o m e h k = makes_pointer b x.type target typed _ o (moved_is line tags target (value x.type) typed e) (moves_first bin.Add target p q h k)
-  sum_makes tags x y typed (Number s) (PointerTo target) p q o m e h k = makes_pointer b y.type target typed _ m (moved_is line tags target (value y.type) typed e) (moves_last bin.Add target p q h k)
+  sum_makes tags x y typed (Number s) (PointerTo target) p q o m e h k = makes_pointer b y.type target typed _ m (moved_is line tags target (value y.type) typed e) (gives_on b c Pointer _ g (move_gives line bin.Add target q p c l k (holds_grew (world b) (world c) Integer p g.grew h)))
   sum_makes tags x y typed rest other p q o m e h k = never _ _ typed e
 
   pub difference_makes : (tags : TagTable) (x y typed : PlainTyped) (s t : Operand) (p q : Atom) → operand x.type ≡ s → operand y.type ≡ t → difference_types line tags x y s t ≡ Ok typed → HeldAs (world b) s p → HeldAs (world c) t q → Makes b typed (combine line bin.Subtract b.code s t p q c)
@@ -558,14 +523,11 @@ module _ (line : ℕ) (l : 1 ≤ line) (b c : Context) (g : Goes b c) where
       subst (λ (x : Working). Gives b Integer (beside_integer line op x target p q c)) (sym w)
       (gives_on b c Integer _ g (gives_integer line (λ r. Pcmp test r atom.Null q) c l (λ v r gv i. (i, refl, holds_grew (world c) v Pointer q gv h))))
 
-  left_number : (s : IntType) (t : Operand) (p : Atom) → (IsPointed t → ⊥) → Left b (Number s) t p → Holds (world b) Integer p
-  left_number s t p n h4 = search arith fits 100
-
   left_pointer : (target : PlainType) (t : Operand) (p : Atom) → Left b (PointerTo target) t p → Holds (world b) Pointer p
   left_pointer target t p h3 = search arith fits 100
 
   pub equal_makes : (op : BinaryOp) (test : CmpOp) (x y typed : PlainTyped) (s t : Operand) (p q : Atom) → working op ≡ Compares test → equal_types op line x y s t ≡ Ok typed → Left b s t p → HeldAs (world c) t q → Makes b typed (combine line op b.code s t p q c)
-  equal_makes op test x y typed (Number s) (Number t) p q w e h k = number_made (result_type op s t) typed _ _ refl refl (ok_same _ typed e) (numbers op s t p q (left_number s (Number t) p (λ n. n) h) k)
+  equal_makes op test x y typed (Number s) (Number t) p q w e h k = number_made (result_type op s t) typed _ _ refl refl (ok_same _ typed e) (numbers op s t p q (search arith fits 100) k)
   equal_makes op test x y typed (PointerTo target) (PointerTo other) p q w e h k = number_made _ typed int _ refl refl (passed _ _ line int typed e) (pointers (working op) target p q (left_pointer target (PointerTo other) p h) k)
   equal_makes op test x y typed (PointerTo target) (Number t) p q w e h k = number_made _ typed int _ refl refl (ok_same int typed (beside_is line y (good int) typed e)) (first_compared op (working op) test target p q w (left_pointer target (Number t) p h))
   equal_makes op test x y typed (Number s) (PointerTo other) p q w e h k = number_made _ typed int _ refl refl (ok_same int typed (beside_is line x (good int) typed e)) (last_compared op (working op) test other p q w k)

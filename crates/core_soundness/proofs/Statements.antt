@@ -1,16 +1,14 @@
 -- What statements and external declarations do to what is known.
-use Rattle.std.proofs.Common.{◌≡◌, ◌⊎◌, ◌≤◌, ◌<◌, ◌+◌, ◌-◌, ℕ, ℤ, Bool, true, false, not, length, List, [], ◌∷◌, ◌++◌, take, drop, Option, Some, None, Ok, refl, sym, ap, ◌∙◌, subst, arith, inl, inr, ⊎_elim, append_assoc, append-nil, true≢false, sum_by, slice_get, slice_set, bytes_eq, codes, ltb-false}
-use Rattle.std.proofs.lemmas.List.Sums.{sum_by-append}
-use Rattle.std.specs.Prelude.{is_some, nat_lt}
+use Rattle.core_soundness.proofs.Words.Std.{◌≡◌, ◌⊎◌, ◌≤◌, ◌<◌, ◌+◌, ◌-◌, ℕ, ℤ, Bool, true, false, not, length, List, [], ◌∷◌, ◌++◌, take, drop, Option, Some, None, Ok, refl, sym, ap, ◌∙◌, subst, arith, inl, inr, ⊎_elim, append_assoc, append-nil, true≢false, sum_by, slice_get, slice_set, bytes_eq, codes, ltb-false, sum_by-append, is_some, nat_lt}
 use Rattle.core_soundness.proofs.Words.Trees.{name_of, Tree, Trees, At, Node, none, ◌▹◌}
-use Rattle.core_soundness.proofs.Words.Types.{kind_of, PlainType, IntType, built_ins, numbered_from, first_scopes, name_of as name_of_built_in, Checked, refused, then, named_in, with_layers, is_function, BuiltIn, StrayBreak, CaseTwice, LeftOut, DeclaredTwice, NoMain, ProgramTooLong}
+use Rattle.core_soundness.proofs.Words.Types.{kind_of, PlainType, IntType, built_ins, numbered_from, name_of as name_of_built_in, Checked, refused, then, named_in, with_layers, is_function, BuiltIn, StrayBreak, CaseTwice, LeftOut, DeclaredTwice, NoMain, ProgramTooLong}
 use Rattle.core_soundness.proofs.Words.Core.{wrapped, Atom, Jump, Loop, Enter, Leave, Return}
 use Rattle.core_soundness.proofs.Words.Elaborating.{addressed_in, Piece, Does, Here, Code, Context, entered, left, scoped, emit, here, new_label, with_labels, with_pieces, no_code, Declared, Walked, first_context, declaration, function_number, declared_function, constant, specs, layers, walked, begun, define, params_of, is_defined, body_begun, last_answer, piece_length, body_ended, body, defined, named_definition, definition, external, externals, calls_defined, is_main, Around, below, in_loop, in_switch, in_delay, leave_to, evaluated, maybe_evaluated, leaves_if_zero, maybe_leaves, apart, has_case, with_case, cased, defaulted, dispatch, default_or, switch_operand, no_cases, switched, looped, for_start, statement, items, around_body}
 use Rattle.c_tree.specs.Forms as f
 use Rattle.c_tree.specs.Tree as t
 use Rattle.c_decls.specs.Named as n
 use Rattle.core_soundness.proofs.Declaring.{passes_refl, constant_passes, tail_depth, declaration_declares, specs_passes, layers_pass, introduced}
-use Rattle.core_soundness.proofs.Flows.{Marks, Way, way_on, IsWay, Stands, Leads, AreEarlier, earlier_less, Fragment, anywhere, in_scope, jump_leaves, with_ways, stm_at, Targets, Placed, Flows, targets_append, targets_map, placed_left, flows_append}
+use Rattle.core_soundness.proofs.Flows.{Marks, Way, way_on, IsWay, Stands, Leads, AreEarlier, earlier_less, Fragment, anywhere, in_scope, with_ways, stm_at, Targets, Placed, Flows, targets_append, targets_map, placed_left, flows_append, agree_refl}
 use Rattle.core_soundness.proofs.Growth.{Led, led_ok, led_refused, led_after, led_unless, Stays, Passes, stays_trans, stays_beside, Counted, passes_trans, ok_same, good, never}
 use Rattle.core_soundness.proofs.Parts.{Part, part_trans, part_ways, part_closed, ways_more, one_way, looped_code, ways_of, ways, IsOutside, Fits, fits_more, fits_below, fits_delay, fits_loop, fits_switch, IsCase, HasLabel, Among, same_labels, Walks, walks_trans, passes_part, part_anywhere, walks_passes, walks_scoped, part_below, below_labels, evaluated_passes, maybe_evaluated_passes, Tests, leaves_tests, maybe_tests, out_walks, return_from_walks, switch_operand_passes, case_among, loop_rest, for_fragment, do_fragment, label_fragment, dispatch_fragment}
 use Rattle.core_soundness.proofs.Scopes.{Safe, left_safe, entered_safe, tied_refl, tied_trans, SafeTable, Named, Strict, defined_named, defined_here, pushed_named, pushed_strict}
@@ -93,7 +91,7 @@ else_walks a line c t g h fit test w v =
       pieces = Does (stm_at line (Jump l)) ∷ [];
       code = refl;
       more = omega arith;
-      fragment = ways_more (way_on (l + 1) n) xs n g.code.labels g.code.labels (Does (stm_at line (Jump l)) ∷ []) [] (jump_leaves (ways a) n g.code.labels g.code.labels line l long);
+      fragment = ways_more (way_on (l + 1) n) xs n g.code.labels g.code.labels (Does (stm_at line (Jump l)) ∷ []) [] (search (arith, agree_refl));
     } in
     let early_y : AreEarlier (l + 2) ys = (small3, (small2, early2)) in
     let both = part_trans ys n from t.code g.code [] [] early_y first second in
@@ -148,10 +146,6 @@ while_walks : (a : Around) (line : ℕ) (c t g : Context) → Fits c.code.labels
 while_walks a line c t g fit s test w =
     for_walks a line c (entered (with_labels 3 c)) t (apart t) g fit (passes_refl (entered (with_labels 3 c)) (entered_safe c.scopes s)) test (passes_refl (apart t) test.stays.safe) w
 
-do_code : (line l : ℕ) (start b c g t : List Piece) → g ≡ (start ++ (Here l ∷ [])) ++ b → t ≡ (g ++ (Here (l + 2) ∷ [])) ++ c
-    → (t ++ (Does (stm_at line (Loop l)) ∷ [])) ++ (Here (l + 1) ∷ []) ≡ start ++ looped_code line l ((b ++ (Here (l + 2) ∷ [])) ++ c)
-do_code line l start b c g t eg et = search (arith, stm_at, append_assoc)
-
 do_walks : (a : Around) (line : ℕ) (c g t : Context) → Fits c.code.labels a → Walks (in_loop (c.code.labels + 1) (c.code.labels + 2) a) (here c.code.labels (entered (with_labels 3 c))) g
     → Tests (c.code.labels + 1) (here (c.code.labels + 2) g) t → Walks a c (left (looped line c.code.labels (c.code.labels + 1) t))
 do_walks a line c g t fit w test =
@@ -164,7 +158,7 @@ do_walks a line c g t fit w test =
     walks_same a c (left last)
     (record {
       pieces = looped_code line l ((b.pieces ++ (Here (l + 2) ∷ [])) ++ p.pieces);
-      code = do_code line l c.code.pieces b.pieces p.pieces g.code.pieces t.code.pieces b.code p.code;
+      code = search (arith, stm_at, append_assoc);
       more = omega (arith, b.more, p.more);
       fragment = anywhere (ways a) n l t.code.labels (looped_code line l ((b.pieces ++ (Here (l + 2) ∷ [])) ++ p.pieces)) []
           (do_fragment n line l g.code.labels t.code.labels b.pieces p.pieces b.more p.more b.fragment p.fragment);
@@ -644,9 +638,6 @@ behind_text unit c q =
           (not_false (is_main d.value.functions (named_in (codes "main") d.value.scopes.file)) (kept_test (not (is_main d.value.functions (named_in (codes "main") d.value.scopes.file))) NoMain 1 (good d.value) c d.last)),
     )
 
-first_safe_file : SafeTable first_scopes.file
-first_safe_file x = refl
-
 -- no built-in name is one of a function that a text declares
 no_functions : (k : ℕ) (list : List BuiltIn) (name : List ℕ) (type : PlainType) (i : ℕ) → named_in name (numbered_from k list) ≡ Some (n.Function type i) → ⊥
 no_functions k [] name type i e = cc
@@ -657,7 +648,7 @@ no_functions k (b ∷ list) name type i e =
 
 pub first_sane : Sane first_context
 first_sane = record {
-  safe = record { file = first_safe_file; inner = tt };
+  safe = record { file = (λ x. refl); inner = tt };
   flat = refl;
   params = λ x. refl;
   complete = tt;

@@ -1,5 +1,5 @@
 -- What statements do to what fits (C99 6.8).
-use Rattle.std.proofs.Common.{◌≡◌, ◌≤◌, ◌+◌, ◌-◌, ℕ, ℤ, zero, suc, true, false, not, is_some, map, length, List, [], ◌∷◌, ◌++◌, Option, Some, None, Ok, refl, sym, ap, ◌∙◌, subst, arith}
+use Rattle.core_soundness.proofs.Words.Std.{◌≡◌, ◌≤◌, ◌+◌, ◌-◌, ℕ, ℤ, zero, suc, true, false, not, is_some, map, length, List, [], ◌∷◌, ◌++◌, Option, Some, None, Ok, refl, sym, ap, ◌∙◌, subst, arith}
 use Rattle.core_soundness.proofs.Words.Trees.{shape, is_scope, Tree, Trees, At, Node, none, ◌▹◌}
 use Rattle.core_soundness.proofs.Words.Types.{PlainType, Void, kind_of, IntType, line_of, promoted, unconverted, converts, Checked, then, unless, tail, Operand, Number, Neither, operand, is_void, is_scalar, LeftOut, Operands, Assignment, CaseTwice, StrayBreak}
 use Rattle.core_soundness.proofs.Words.Core.{wrapped, Sort, Integer, Atom, Jump, Zero, Case, Loop, Enter, Leave, Return}
@@ -12,13 +12,13 @@ use Rattle.core_soundness.proofs.Agreeing.{came}
 use Rattle.core_soundness.proofs.Calls.{converting_of}
 use Rattle.core_soundness.proofs.DeclaredSteps.{declaration_spoken, declaration_in_step}
 use Rattle.core_soundness.proofs.Growth.{good, bad, ok_same, never, Led, led_ok, led_after, behind_test}
-use Rattle.core_soundness.proofs.Keeping.{keeps_step, evaluated_in_step, leaves_in_step, operand_in_step, maybe_evaluated_in_step, maybe_leaves_in_step, constant_in_step, return_from_in_step, evaluated_spoken, leaves_spoken, operand_spoken, maybe_evaluated_spoken, maybe_leaves_spoken, return_from_spoken}
+use Rattle.core_soundness.proofs.Keeping.{keeps_step, evaluated_in_step, leaves_in_step, maybe_evaluated_in_step, maybe_leaves_in_step, constant_in_step, return_from_in_step, evaluated_spoken, leaves_spoken, maybe_evaluated_spoken, maybe_leaves_spoken, return_from_spoken, calm_spoken, operand_calm, calm_step, operand_keeps}
 use Rattle.core_soundness.proofs.LayersRun.{constant_runs}
 use Rattle.core_soundness.proofs.LocalsRun.{local_declaration_runs}
 use Rattle.core_soundness.proofs.Scopes.{all_refl, all_trans}
 use Rattle.core_soundness.proofs.Sitting.{Fine, Runs, runs_refl, runs_trans, goes_runs, on_runs, entered_fine, runs_left, closed_goes, Evaluates, evaluates, evaluated_goes, evaluates_unused}
 use Rattle.core_soundness.proofs.Sorting.{Grew, grew_refl, grew_trans, holds_grew, pieces_grew, pieces_joined, Goes, goes_refl, goes_trans, goes_emit, goes_here, goes_labels, converted, integer_converted, tested_value_gives, passed, kept_test, unbarred}
-use Rattle.core_soundness.proofs.Taking.{Has, Inside, InStep, Keeps, step_left, Good, ItemsGood, behind_items, as_before, empty_taken, node_good, items_of, items_good, names_good}
+use Rattle.core_soundness.proofs.Taking.{Has, Inside, InStep, step_left, Good, ItemsGood, behind_items, as_before, empty_taken, node_good, items_of, items_good, names_good}
 use Rattle.core_soundness.proofs.Choices.{not_false}
 
 -- expressions
@@ -74,9 +74,6 @@ leave_to_runs line delays (Some exit) c z l q =
 pub return_fits : (answer : Option Sort) (line : ℕ) (a : Option Atom) (c : Context) → 1 ≤ line → Fine c → FitsAnswer (world c) answer a → Runs answer c (emit line (Return a) c)
 return_fits answer line a c l g h = search (grew_refl, pieces_joined, all_refl)
 
-goes_keeps : (c d : Context) → Goes c d → Keeps c d
-goes_keeps c d g = record { more = g.more; declared = g.kept.declared; addressed = g.kept.addressed }
-
 returned_runs : (answer : Option Sort) (line delays : ℕ) (a : Option Atom) (c : Context) → 1 ≤ line → Fine c → ((w : World) → Grew (world c) w → FitsAnswer w answer a) → Runs answer c (returned line delays a c)
 returned_runs answer line delays a c l g h =
     let d = leaves line delays c in
@@ -86,9 +83,6 @@ returned_runs answer line delays a c l g h =
 
 answer_held : (w : World) (answer : Option Sort) (type : PlainType) (a : Atom) → result_sort type ≡ answer → (operand type ≡ Neither → ⊥) → Held w type a → FitsAnswer w answer (Some a)
 answer_held w answer type a e n h = search arith fits 100
-
-never_neither : (type : PlainType) (e : Rattle.c_decls.specs.Typed.PlainTyped) → unconverted type e ≡ None → operand type ≡ Neither → ⊥
-never_neither type e u o = grind arith
 
 void_answer : (w : World) (answer : Option Sort) (type : PlainType) → result_sort type ≡ answer → is_void type ≡ true → FitsAnswer w answer None
 void_answer w answer type e v = search arith fits 100
@@ -112,7 +106,7 @@ return_from_runs answer line delays (e ▹ rest) c z l p g s q =
     let r = goes_runs answer c y g gc in
     subst (Runs answer c) (ok_same (returned line delays (Some x.1) y) z k.1)
     (runs_trans answer c y _ r (returned_runs answer line delays (Some x.1) y l r.fine
-    (λ w gw. answer_held w answer c.running.answer x.1 s (never_neither c.running.answer d.value.1.typed k.0) (Rattle.core_soundness.proofs.Sorting.held_grew (world x.0) w c.running.answer x.1 (grew_trans (world x.0) (world y) w gy.grew gw) held))))
+    (λ w gw. answer_held w answer c.running.answer x.1 s (λ o. grind arith) (Rattle.core_soundness.proofs.Sorting.held_grew (world x.0) w c.running.answer x.1 (grew_trans (world x.0) (world y) w gy.grew gw) held))))
 
 -- switches
 
@@ -236,9 +230,6 @@ module _ (answer : Option Sort) (numbers : List ℕ) where
   stand_on : (t u : Taken) (c d : Context) → Stands_in answer numbers t c → InStep u d → Runs answer c d → Stands_in answer numbers u d
   stand_on t u c d s step r = record { fine = r.fine; inside = s.inside; deep = r.depth ∙ s.deep; sorted = ap result_sort r.answer ∙ s.sorted; step = step; same = r.addressed ∙ s.same }
 
-  stand_in : (t : Taken) (c : Context) → Stands_in answer numbers t c → Stands_in answer numbers t (entered c)
-  stand_in t c s = record { fine = entered_fine c s.fine; inside = length c.scopes.inner; deep = refl; sorted = s.sorted; step = (s.step.0, tt, s.step.2); same = s.same }
-
   -- the same behind what an expression or a label does
   stand_go : (t u : Taken) (c d : Context) → Stands_in answer numbers t c → InStep u d → Goes c d → Stands_in answer numbers u d
   stand_go t u c d s step g = stand_on t u c d s step (goes_runs answer c d s.fine g)
@@ -263,7 +254,7 @@ module _ (answer : Option Sort) (numbers : List ℕ) where
   led_then u v c {x} h k = led_after (Ran_on answer numbers c v) x (λ d q z e. let r = h d q in ran_behind v c d z r.runs (k d r.stands z e))
 
   goes_step : (w : Taken) (c d : Context) → Stands_in answer numbers w c → Goes c d → InStep w d
-  goes_step w c d s g = keeps_step w w c d (record { names = refl; typedef = refl; declared = refl }) (goes_keeps c d g) s.step
+  goes_step w c d s g = keeps_step w w c d (record { names = refl; typedef = refl; declared = refl }) (record { more = g.more; declared = g.kept.declared; addressed = g.kept.addressed }) s.step
 
   led_goes : (w v : Taken) (c d : Context) {x : Checked Context} → Stands_in answer numbers w c → Goes c d → (Stands_in answer numbers w d → Led (Ran_on answer numbers d v) x) → Led (Ran_on answer numbers c v) x
   led_goes w v c d s g k z q = ran_behind v c d z (goes_runs answer c d s.fine g) (k (stand_go w w c d s (goes_step w c d s g) g) z q)
@@ -276,7 +267,7 @@ module _ (answer : Option Sort) (numbers : List ℕ) where
       → Led (Ran_on answer numbers c (left_scope t u)) (then x (λ d. Ok (left d)))
   scoped_led t u c {x} s k =
       led_after (Ran_on answer numbers c (left_scope t u)) x
-      (λ d q. let r = k (stand_in t c s) d q in
+      (λ d q. let r = k (record { fine = entered_fine c s.fine; inside = length c.scopes.inner; deep = refl; sorted = s.sorted; step = (s.step.0, tt, s.step.2); same = s.same }) d q in
       led_ok (Ran_on answer numbers c (left_scope t u))
       (ran t (left_scope t u) c (left d) s (step_left t u c d s.step r.stands.step r.runs.addressed r.runs.fine.names.file r.runs.outside) (runs_left answer c d (omega (arith, s.deep)) r.runs)))
 
@@ -300,8 +291,8 @@ module _ (answer : Option Sort) (numbers : List ℕ) where
 
   operand_on : (line : ℕ) (e : Tree) (t : Taken) (c : Context) (z : Context × (IntType × Atom)) → 1 ≤ line → Good numbers t e → Stands_in answer numbers t c → switch_operand line e c ≡ Ok z → Operand_on answer numbers c (taken e t) z
   operand_on line e t c z l g s q =
-      let k = operand_runs line e c z l (operand_spoken line e t c z s.step.2 (inside_at (taken e t).addressed numbers c.running.addressed s.same g.inside) g.written g.formed q) s.fine.names q in
-      record { at = k; stands = stand_go t (taken e t) c z.0 s (operand_in_step line e t c z g.formed s.step q) k.goes }
+      let k = operand_runs line e c z l (calm_spoken e t c s.step.2 (inside_at (taken e t).addressed numbers c.running.addressed s.same g.inside) g.written (operand_calm line e c z g.formed q)) s.fine.names q in
+      record { at = k; stands = stand_go t (taken e t) c z.0 s (calm_step e t c z.0 (operand_calm line e c z g.formed q) (operand_keeps line e c z q) s.step) k.goes }
 
   -- a declaration of locals
   local_on : (line : ℕ) (words names : Tree) (t : Taken) (c z : Context) → 1 ≤ line → Good numbers t (Node f.Local (At line ▹ words ▹ names ▹ none)) → Stands_in answer numbers t c → declaration false line words names c ≡ Ok z

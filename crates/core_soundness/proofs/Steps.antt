@@ -1,12 +1,9 @@
 -- Initializers and names go in step with the walk over addresses.
-use Rattle.std.proofs.Common.{◌≡◌, ◌+◌, ℕ, pos, Bool, true, false, not, cond, length, min, List, [], ◌∷◌, Option, Some, None, Ok, refl, subst, ◌||◌, zero, suc, is_some, unwrap_or, bytes_eq, ◌++◌, sym, ap, ◌∙◌, arith}
-use Rattle.std.proofs.lemmas.Slice.Eq.{bytes_eq-Decides}
-use Rattle.std.proofs.lemmas.Bool.{and_parts}
-use Rattle.std.specs.Option.{option_or}
-use Rattle.core_soundness.proofs.Words.Trees.{shape, rows, some, commas, behind_commas, some_commas, Place, is_scope, places, name_of, name_among, first_name, leads_to_name, Tree, Trees, At, Node, none, ◌▹◌, count, Leaf}
+use Rattle.core_soundness.proofs.Words.Std.{◌≡◌, ◌+◌, ℕ, pos, Bool, true, false, not, cond, length, min, List, [], ◌∷◌, Option, Some, None, Ok, refl, subst, ◌||◌, zero, suc, is_some, unwrap_or, bytes_eq, sym, ap, ◌∙◌, arith, bytes_eq-Decides, and_parts}
+use Rattle.core_soundness.proofs.Words.Trees.{shape, rows, some, commas, behind_commas, some_commas, Place, is_scope, places, name_of, name_among, leads_to_name, Tree, Trees, At, Node, none, ◌▹◌, count, Leaf}
 use Rattle.core_soundness.proofs.Words.Types.{PlainType, Array, line_of, PlainNamed, refused, then, ScopeList, Table, named_in, found_from, found as declaration, innermost, first_or, with_name, with_name_in, after_declaration, is_scalar, Assignment, DeclaredTwice}
 use Rattle.core_soundness.proofs.Words.Core.{Atom, Off, Copy, Clear, Set}
-use Rattle.core_soundness.proofs.Words.Elaborating.{Taken, taken, left_part, all_taken, Context, emit, local_register, Found, Spot, Local, Memory, atom_in, valued, convert, write, size_or_zero, zero_of, cleared, fill_memory, fill_register, fill_at, fill_local, specs, found, Target, InRegister, InMemory, InStatic, static_scalar, member_place, store_at, fill_scalar, scalar, fill_record, is_same_place, whole, fill_text, is_character, text, by_text, by_expression, parts_of, takes_braces, is_scalar_type, all_surplus, initialize, initialize_parts, not_whole, next_is_memory, local_in, with_local, is_same_again, is_file, is_twice_in, is_twice, declared_as, with_register, with_memory, counted, with_named, memory_param, register_param, function_param, prototype_param, is_prototype, with_param, opened, with_literal}
+use Rattle.core_soundness.proofs.Words.Elaborating.{Taken, taken, left_part, all_taken, Context, emit, local_register, Found, Spot, Local, Memory, atom_in, valued, convert, write, size_or_zero, zero_of, cleared, fill_memory, fill_register, fill_at, fill_local, specs, found, Target, InRegister, InMemory, InStatic, static_scalar, member_place, store_at, fill_scalar, fill_record, is_same_place, whole, fill_text, is_character, text, by_text, by_expression, parts_of, takes_braces, is_scalar_type, all_surplus, initialize, initialize_parts, not_whole, next_is_memory, local_in, with_local, is_same_again, is_file, is_twice_in, is_twice, declared_as, with_register, with_memory, counted, with_named, memory_param, register_param, function_param, prototype_param, is_prototype, with_param, opened, with_literal}
 use Rattle.core_soundness.proofs.Words.Facts.{Spoken, AllSpoken, is_register, Written}
 use Rattle.core_tree.specs.declared.statements.Atom.TheVariants as atom
 use Rattle.c_tree.specs.Forms as f
@@ -18,7 +15,7 @@ use Rattle.elaboration.specs.Addressed.{with_local as taken_local, left}
 use Rattle.core_soundness.proofs.Agreeing.{came}
 use Rattle.core_soundness.proofs.Formed.{Shaped, Formed, AllFormed, NoNodes, behind_stars}
 use Rattle.core_soundness.proofs.Growth.{good, ok_same, never, Grows, grows_refl, grows_pointer, Reached, reached_ok, reached_refused, reached_after, reached_unless, reached_barred, grown_literal, behind_string}
-use Rattle.core_soundness.proofs.Keeping.{text_calm, unary_calm, found_calm, keeps_refl, keeps_trans, grows_keeps, emit_keeps, opened_keeps, closed_keeps, found_keeps, full_keeps, calm_spoken, valued_calm, AreNumbered, keeps_stepped, stepped_trans}
+use Rattle.core_soundness.proofs.Keeping.{text_calm, unary_calm, found_calm, keeps_refl, keeps_trans, grows_keeps, emit_keeps, opened_keeps, closed_keeps, full_keeps, calm_spoken, valued_calm, AreNumbered, keeps_stepped, stepped_trans}
 use Rattle.core_soundness.proofs.Scopes.{named_push, HasScope}
 use Rattle.core_soundness.proofs.Sorting.{passed, kept_test}
 use Rattle.core_soundness.proofs.Taking.{Inside, Keeps, Follows, Still, AllStill, Calm, some_commas_held, calm_node, among, drops, Fewer, Stepped, each, SameNames}
@@ -64,9 +61,6 @@ fill_scalar_went e line type offset b d (InMemory at mem) x q =
 fill_scalar_went e line type offset b d (InStatic start) x q =
     reached_after (Went e b) (static_scalar line type offset start d.1) (λ filled h. reached_ok (Went e b) (x, full_keeps e type b d q))
 
-scalar_went : (e : Tree) (line : ℕ) (type : PlainType) (offset : ℕ) (t : Target) (b : Context) → Formed e → Reached (Went e b) (scalar e line type offset t b)
-scalar_went e line type offset t b g = search (arith, reached_after, reached_barred, fill_scalar_went, valued_calm)
-
 fill_record_went : (e : Tree) (line : ℕ) (type : PlainType) (offset : ℕ) (b : Context) (d : Context × Found) (t : Target) → Went e b d.0 → Reached (Went e b) (fill_record e line type offset d t)
 fill_record_went e line type offset b d t x =
     search (arith, reached_ok, keeps_trans, place_keeps, emit_keeps, closed_keeps, reached_refused) fits 100
@@ -76,7 +70,7 @@ whole_went e line type offset t b g =
     let begun = opened e b in
     reached_after (Went e b) (found e type begun)
     (λ d h. reached_unless (Went e b) (not (is_same_place type d.1.typed)) (not_whole d.1.typed) line
-    (fill_record_went e line type offset b d t (found_calm e type begun d g h, keeps_trans b begun d.0 (opened_keeps e b) (found_keeps e type begun d h))))
+    (fill_record_went e line type offset b d t (found_calm e type begun d g h, keeps_trans b begun d.0 (opened_keeps e b) (grows_keeps begun d.0 (found_grows e type begun begun (grows_refl begun) d h)))))
 
 text_is_calm : (e : Tree) (bytes : List ℕ) → Formed e → text e ≡ Some bytes → Calm e
 unfolding Formed AllFormed Shaped
@@ -108,7 +102,7 @@ by_text_went e line element size offset (Some bytes) t b is g =
 
 by_expression_went : (e : Tree) (line : ℕ) (type : PlainType) (offset : ℕ) (t : Target) (b : Context) → Formed e → Reached (Went e b) (by_expression e line type offset t b)
 by_expression_went e line (Array element size) offset t b g = by_text_went e line element size offset (text e) t b refl g
-by_expression_went e line type offset t b g = search (arith, whole_went, scalar_went) fits 100
+by_expression_went e line type offset t b g = search (arith, whole_went, reached_after, reached_barred, fill_scalar_went, valued_calm) fits 100
 
 init_calm : (line : ℕ) (e : Tree) → Calm e → Calm (Node f.InitExpr (At line ▹ e ▹ none))
 unfolding shape
@@ -198,22 +192,13 @@ inits_spoken line name type inits t c z h i w g q =
 unequal : (x y : List ℕ) → bytes_eq x y ≡ false → bytes_eq y x ≡ false
 unequal x y e = grind (arith, bytes_eq, false, true, bytes_eq-Decides)
 
-or_none : (o : Option PlainNamed) → option_or o None ≡ o
-or_none o = search arith fits 100
-
 -- what is declaration under the name, and under another
 module _ (name : List ℕ) (v : PlainNamed) where
-  here_named : (t : Table) → named_in name t ≡ None → (x : List ℕ) → bytes_eq x name ≡ true → named_in x (t ++ (name, v) ∷ []) ≡ Some v
-  here_named t e x q = search (arith, bytes_eq-Decides, named_push, bytes_eq)
-
-  else_named : (t : Table) (x : List ℕ) → bytes_eq x name ≡ false → named_in x (t ++ (name, v) ∷ []) ≡ named_in x t
-  else_named t x q = search (arith, named_push, or_none)
-
   here_found : (file : Table) (inner : List Table) → named_in name (first_or file inner) ≡ None → (x : List ℕ) → bytes_eq x name ≡ true → declaration (with_name_in file inner name v) x ≡ Some v
-  here_found file inner e x q = search (arith, here_named) fits 100
+  here_found file inner e x q = search (arith, bytes_eq-Decides, named_push, bytes_eq) fits 100
 
   else_found : (file : Table) (inner : List Table) (x : List ℕ) → bytes_eq x name ≡ false → declaration (with_name_in file inner name v) x ≡ found_from file x inner
-  else_found file inner x q = search (arith, else_named) fits 100
+  else_found file inner x q = search (arith, named_push) fits 100
 
 -- what the walk knows with a name more
 abbrev pub with_one : List ℕ → Option ℕ → Taken → Taken
@@ -228,16 +213,6 @@ named_numbered s name v number t numbers e g h x r = search (arith, bytes_eq, he
 drops_same : (k : ℕ) (file : Table) → drops k (record { file = file; inner = [] }) ≡ record { file = file; inner = [] }
 drops_same zero file = refl
 drops_same (suc k) file = drops_same k file
-
-pushed_fewer : (name : List ℕ) (v : PlainNamed) (t : Table) → is_register (Some v) ≡ false → (x : List ℕ) → is_register (named_in x (t ++ (name, v) ∷ [])) ≡ true → is_register (named_in x t) ≡ true
-pushed_fewer name v t e x r = grind (arith, bytes_eq, named_push, true, false)
-
--- a name in an inner scope, and one that stands for no register
-pub inner_outside : (s : ScopeList) (name : List ℕ) (v : PlainNamed) → HasScope s.inner → (k : ℕ) → Fewer (drops k (scopes.left s)) (drops k (scopes.left (with_name s name v)))
-inner_outside s name v h k = grind arith
-
-pub plain_outside : (s : ScopeList) (name : List ℕ) (v : PlainNamed) → is_register (Some v) ≡ false → (k : ℕ) → Fewer (drops k (scopes.left s)) (drops k (scopes.left (with_name s name v)))
-plain_outside s name v p k = grind (arith, drops_same, pushed_fewer)
 
 named_depth : (file : Table) (inner : List Table) (name : List ℕ) (v : PlainNamed) → length (with_name_in file inner name v).inner ≡ length inner
 named_depth file inner name v = search arith fits 100
@@ -265,7 +240,7 @@ plain_stepped line name v t c z p h q =
           follows = (h.0, named_numbered c.scopes name v None t c.running.addressed e (λ r. let clash : true ≡ false = sym r ∙ p in cc) h.1);
           addressed = refl;
           depth = named_depth c.scopes.file c.scopes.inner name v;
-          outside = plain_outside c.scopes name v p;
+          outside = λ k. grind (arith, drops_same, bytes_eq, named_push, true, false);
         })
     by (Some x) e w = subst (λ (o : Option PlainNamed). Stepped t c (with_one name None t) (record c { scopes = cond (is_some o) c.scopes (with_name c.scopes name v) })) (sym e)
         (record {
@@ -276,12 +251,6 @@ plain_stepped line name v t c z p h q =
         })
 
 -- a parameter or local more
-
-none_twice : (inner : List Table) (v : PlainNamed) (o : Option PlainNamed) → HasScope inner → is_twice_in (is_file inner) v o ≡ false → o ≡ None
-none_twice inner v o h e = search arith fits 100
-
-pub not_twice : (c : Context) (name : List ℕ) (v : PlainNamed) → HasScope c.scopes.inner → is_twice c.scopes name v ≡ false → named_in name (innermost c.scopes) ≡ None
-not_twice c name v h e = none_twice c.scopes.inner v (named_in name (innermost c.scopes)) h e
 
 -- a name, where there is one, is not there yet
 abbrev pub IsNew : Option (List ℕ) → Context → Type 0
@@ -301,7 +270,7 @@ one_local None v t c d same e1 e2 fresh deep g h = record {
 }
 one_local (Some name) v t c d same e1 e2 fresh deep g h =
     let numbered : AreNumbered (with_name c.scopes name v) (with_one name (Some t.declared) t) c.running.addressed = named_numbered c.scopes name v (Some t.declared) t c.running.addressed fresh (λ r. (t.declared, refl, ap (λ (k : ℕ). among k c.running.addressed) h.0 ∙ g r)) h.1 in
-    search (arith, named_numbered, among, named_depth, drops, inner_outside) fits 100
+    grind (arith, named_numbered, among, named_depth, drops)
 
 pub local_stepped : (name : List ℕ) (type : PlainType) (t : Taken) (c : Context) → HasScope c.scopes.inner → named_in name (innermost c.scopes) ≡ None → Follows t c → Stepped t c (walk.with_local (Some name) t) (with_local name type c).0
 local_stepped name type t c deep fresh h = by (next_is_memory type c) refl
@@ -370,9 +339,6 @@ no_nodes_each (Node _ parts ▹ rest) t h = absurd h
 same_of : (u v : Taken) → v ≡ u → SameNames u v
 same_of u v e = (ap (λ (x : Taken). x.names) e, ap (λ (x : Taken). x.declared) e)
 
-pub same_trans : (t u v : Taken) → SameNames t u → SameNames u v → SameNames t v
-same_trans t u v x y = (y.0 ∙ x.0, y.1 ∙ x.1)
-
 -- nodes of parts in turn
 
 module _ (parts : Trees) (t : Taken) where
@@ -407,17 +373,11 @@ module _ (t : Taken) where
   unfolding taken all_taken left shape is_scope
   direct_taken base suffixes = same_of (each suffixes (taken base t)) (all_taken suffixes (places (rows p.Suffix (count suffixes))) (taken base t)) (rows_each p.Suffix refl suffixes (taken base t))
 
-first_none : (o : Option (List ℕ)) → first_name o None ≡ o
-first_none o = search arith fits 100
-
 -- specs are no name
 pub specs_unnamed : (words : Tree) (c : Context) (z : Context × PlainType) → specs words c ≡ Ok z → name_of words ≡ None
 unfolding specs name_of leads_to_name
 specs_unnamed words c z q = search (arith, never) fits 100
 
-local_names : (o : Option (List ℕ)) (u v : Taken) → SameNames u v → SameNames (taken_local o u) (taken_local o v)
-local_names o u v h = search arith fits 100
-
 pub param_taken : (line : ℕ) (words declarator : Tree) (t : Taken) → name_of words ≡ None → SameNames (taken_local (name_of declarator) (taken declarator (taken words t))) (taken (Node f.Param (At line ▹ words ▹ declarator ▹ none)) t)
 unfolding taken all_taken left shape is_scope name_among
-param_taken line words declarator t e = search (arith, first_none, same_trans, local_names, same_of)
+param_taken line words declarator t e = search (arith, same_of)

@@ -1,7 +1,7 @@
 -- Tags and the sorts by which types name them.
-use Rattle.std.proofs.Common.{◌≡◌, ℕ, true, false, List, [], ◌∷◌, ◌++◌, length, slice_get, Option, Some, None, refl, subst, zero, nat_lt, Ok, sym, arith}
+use Rattle.core_soundness.proofs.Words.Std.{◌≡◌, ℕ, true, false, List, [], ◌∷◌, ◌++◌, length, slice_get, Option, Some, None, refl, subst, zero, nat_lt, Ok, sym, arith}
 use Rattle.core_soundness.proofs.Words.Trees.{name_of, Tree, Trees, Leaf, At, Node, none, ◌▹◌, RecordSort}
-use Rattle.core_soundness.proofs.Words.Types.{TagTable, CompletedTag, PlainType, Array, Struct, Union, Int, TagInfo, named, call, line_of, Found, answered, wanted, changing, one, two, joined, string, first_literal, callee, in_new_scope, typed, values, typename, layers, suffix_layers, suffix_layer, param_types, param_type, unused, cast_operand, PlainNamed, held_place, element, dot, arrow, stepped, size, cast, choice, assigned, changed, behind_comma, Checked, ScopeList, Table, found, with_name_in, tag_name, record_type, is_union, Context, Layer, ArrayOf, word_type, same_sort, tag_named, enum_named, type_named, special_type, array_of, layered, layered_before, with_layers, specs_type, array_length, with_param_layers, adjusted, with_param, declared_param, with_new_tag, address, unary, binary, is_function, PlainTyped, read, LeftOut}
+use Rattle.core_soundness.proofs.Words.Types.{TagTable, CompletedTag, PlainType, Array, Struct, Union, Int, TagInfo, named, call, line_of, Found, answered, wanted, changing, one, two, joined, string, first_literal, callee, in_new_scope, typed, values, typename, layers, suffix_layers, suffix_layer, param_types, param_type, unused, cast_operand, PlainNamed, held_place, element, dot, arrow, stepped, size, cast, choice, assigned, changed, behind_comma, Checked, ScopeList, Table, found, with_name_in, tag_name, record_type, is_union, Context, Layer, ArrayOf, word_type, same_sort, tag_named, enum_named, type_named, special_type, layered, layered_before, with_layers, specs_type, array_length, with_param_layers, adjusted, with_param, declared_param, with_new_tag, address, unary, binary, is_function, PlainTyped, read, LeftOut}
 use Rattle.core_soundness.proofs.Words.Elaborating.{Context as TextContext, asked, given_length, with_init_layers}
 use Rattle.core_soundness.proofs.Words.Facts.{TableFits, ScopesFit}
 use Rattle.c_types.specs.Types as ct
@@ -63,12 +63,9 @@ word_sorted made words = grind (arith, true, false)
 abbrev pub ST : Context × PlainType → Type 0
 ST d = SortedType d.0.tags.made d.1
 
-same_sorted : (line : ℕ) (sort : RecordSort) (c : Context) (type : PlainType) → SortedType c.tags.made type → Led ST (same_sort line sort c type)
-same_sorted line sort c type h = search (arith, led_ok, led_refused) fits 100
-
 pub tag_sorted : (line : ℕ) (sort : RecordSort) (name : List ℕ) (c : Context) (named : Option PlainNamed) → ((type : PlainType) → named ≡ Some (n.Tag type) → SortedType c.tags.made type) → Led ST (tag_named line sort name c named)
 tag_sorted line sort name c None h = led_ok ST (new_sorted sort c.tags.made name)
-tag_sorted line sort name c (Some (n.Tag type)) h = same_sorted line sort c type (h type refl)
+tag_sorted line sort name c (Some (n.Tag type)) h = search (arith, led_ok, led_refused) fits 100
 tag_sorted line sort name c (Some other) h = led_refused ST
 
 enum_sorted : (line : ℕ) (c : Context) (named : Option PlainNamed) → Led ST (enum_named line c named)
@@ -87,11 +84,8 @@ special_sorted line tree c h = led_refused ST
 -- layers
 
 module _ (made : List TagInfo) where
-  array_sorted : (line : ℕ) (element : PlainType) (size length : Option ℕ) → SortedType made element → Led (SortedType made) (array_of line element size length)
-  array_sorted line element size length h = search (arith, led_refused, led_unless, nat_lt, led_ok) fits 100
-
   layered_sorted : (tags : TagTable) (layer : Layer) (type : PlainType) → SortedType made type → Led (SortedType made) (layered tags layer type)
-  layered_sorted tags layer type h = search (arith, led_unless, led_ok, array_sorted) fits 100
+  layered_sorted tags layer type h = search (arith, led_unless, led_ok, led_refused, nat_lt) fits 100
 
   before_sorted : (tags : TagTable) (layer : Layer) (layers : List Layer) (type : PlainType) → SortedType made type → Led (SortedType made) (layered_before tags layer layers type)
   before_sorted tags layer layers type h = search (arith, led_after, led_refused, layered_sorted) fits 100
@@ -408,7 +402,3 @@ leads_kinds c d l p q = record {
     bodies = subst (BodiesSorted d.tags.made) (sym q) (bodies_longer c.tags.completed c.tags.made d.tags.made l.made h.bodies);
   };
 }
-
--- the same scopes and tags
-pub same_kinds : (c d : TextContext) → asked d ≡ asked c → d.params ≡ c.params → Kinds c d
-same_kinds c d e p = search (arith, leads_kinds, leads_refl)

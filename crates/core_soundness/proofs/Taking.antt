@@ -1,10 +1,8 @@
 -- The walk over addresses: what it adds, and what it leaves.
-use Rattle.std.proofs.Common.{◌≡◌, ℕ, Bool, true, false, ◌||◌, nat_eq, List, [], ◌∷◌, Option, Some, None, refl, ◌≤◌, sym, ap, ◌∙◌, zero, suc, length, ⊎_elim, arith}
-use Rattle.std.specs.List.{list_any}
-use Rattle.std.specs.Option.{option_or}
-use Rattle.core_soundness.proofs.Words.Trees.{Form, shape, rows, some, commas, behind_commas, some_commas, here_rows, Place, is_scope, places, Tree, Trees, Node, none, ◌▹◌, count, Leaf, At}
+use Rattle.core_soundness.proofs.Words.Std.{◌≡◌, ℕ, Bool, true, false, nat_eq, List, [], ◌∷◌, Option, Some, None, refl, ◌≤◌, sym, ap, ◌∙◌, zero, suc, length, ⊎_elim, arith, list_any, option_or}
+use Rattle.core_soundness.proofs.Words.Trees.{Form, shape, rows, some, commas, behind_commas, some_commas, Place, is_scope, places, Tree, Trees, Node, none, ◌▹◌, count, Leaf, At}
 use Rattle.core_soundness.proofs.Words.Types.{PlainNamed, ScopeList, Table, found, named_in, found_from, tail}
-use Rattle.core_soundness.proofs.Words.Elaborating.{Taken, number_of, with_number, with_address, with_known, declare, left_part, taken, all_taken, left_scope, Context, left as left_context}
+use Rattle.core_soundness.proofs.Words.Elaborating.{Taken, number_of, left_part, taken, all_taken, left_scope, Context, left as left_context}
 use Rattle.core_soundness.proofs.Words.Facts.{is_register, World, world, FileFits, HasParts, Written, AllWritten, TableFits}
 use Rattle.c_tree.specs.Forms as f
 use Rattle.c_tree.specs.Places as p
@@ -25,24 +23,9 @@ Has numbers k = list_any (λ number. nat_eq number k) numbers ≡ true
 abbrev pub Inside : List ℕ → List ℕ → Type 0
 Inside one other = (k : ℕ) → Has one k → Has other k
 
-or_right : (x y : Bool) → y ≡ true → x || y ≡ true
-or_right x y e = search arith fits 100
-
-with_number_adds : (o : Option ℕ) (t : Taken) (k : ℕ) → Has t.addressed k → Has (with_number o t).addressed k
-with_number_adds o t k h = search (arith, or_right, nat_eq) fits 100
-
-with_address_adds : (o : Option (List ℕ)) (t : Taken) (k : ℕ) → Has t.addressed k → Has (with_address o t).addressed k
-with_address_adds o t k h = search (arith, with_number_adds) fits 100
-
-known_adds : (name : Option (List ℕ)) (number : Option ℕ) (t : Taken) (k : ℕ) → Has t.addressed k → Has (with_known name number t).addressed k
-known_adds name number t k h = search arith fits 100
-
-declare_adds : (typedef : Bool) (name : Option (List ℕ)) (t : Taken) (k : ℕ) → Has t.addressed k → Has (declare typedef name t).addressed k
-declare_adds typedef name t k h = search (arith, known_adds) fits 100
-
 pub left_adds : (form : Form) (parts : Trees) (before inner : Taken) (k : ℕ) → Has inner.addressed k → Has (left form parts before inner).addressed k
 unfolding left
-left_adds form parts before inner k h = search (arith, declare_adds, known_adds, with_address_adds) fits 100
+left_adds form parts before inner k h = search (arith, nat_eq) fits 100
 
 pub part_adds : (scope : Bool) (before inner : Taken) (k : ℕ) → Has inner.addressed k → Has (left_part scope before inner).addressed k
 part_adds scope before inner k h = search arith fits 100
@@ -74,11 +57,6 @@ pub record AllGood (numbers : List ℕ) (t : Taken) (parts : Trees) (ps : List P
   pub inside : Inside (all_taken parts ps t).addressed numbers
   pub written : AllWritten parts
   pub formed : AllFormed parts
-
--- what is asked of a declaration in front of a `for` is what is asked of one
-names_shaped : (line : ℕ) (words names : Tree) → Shaped f.ForNames (words ▹ names ▹ none) → Shaped f.Local (At line ▹ words ▹ names ▹ none)
-unfolding Shaped
-names_shaped line words names h = search arith fits 100
 
 -- the items of a block
 abbrev pub ItemsGood : List ℕ → Taken → Trees → Type 0
@@ -143,7 +121,7 @@ body_good numbers t end parts g =
 -- a declaration in front of a `for` is one
 pub names_good : (numbers : List ℕ) (t : Taken) (line : ℕ) (words names : Tree) → 1 ≤ line → Good numbers t (Node f.ForNames (words ▹ names ▹ none)) → Good numbers t (Node f.Local (At line ▹ words ▹ names ▹ none))
 unfolding taken all_taken left shape is_scope Written AllWritten Formed AllFormed Shaped HasParts
-names_good numbers t line words names l g = record { inside = g.inside; written = (tt, (l, g.written.1)); formed = (names_shaped line words names g.formed.0, (tt, g.formed.1)) }
+names_good numbers t line words names l g = record { inside = g.inside; written = (tt, (l, g.written.1)); formed = (search arith fits 100, (tt, g.formed.1)) }
 
 -- what the walk over addresses knows at a place goes with what elaboration knows there
 
@@ -288,20 +266,14 @@ pub some_commas_held : (place : Place) (parts : Trees) → Held parts (places (s
 some_commas_held place none = tt
 some_commas_held place (tree ▹ rest) = behind_held place rest
 
-pub here_held : (place : Place) (line : Tree) (parts : Trees) → Held (line ▹ parts) (places (here_rows place (suc (count parts))))
-here_held place line parts = rows_held place parts
-
 -- the same names, and as many declared
 
 abbrev pub SameNames : Taken → Taken → Type 0
 SameNames t u = (u.names ≡ t.names) × (u.declared ≡ t.declared)
 
-address_names : (o : Option (List ℕ)) (t : Taken) → SameNames t (with_address o t)
-address_names o t = search arith fits 100
-
 pub left_names : (form : Form) (parts : Trees) (before inner : Taken) → declares form ≡ false → SameNames before inner → SameNames before (left form parts before inner)
 unfolding left
-left_names form parts before inner e h = search (arith, address_names) fits 100
+left_names form parts before inner e h = search arith fits 100
 
 pub part_names : (scope : Bool) (before inner : Taken) → SameNames before inner → SameNames before (left_part scope before inner)
 part_names scope before inner h = search arith fits 100
@@ -340,21 +312,10 @@ restores f.Enumerator = false
 restores (f.Unary u.Address) = false
 restores _ = true
 
-left_typedef : (form : Form) (parts : Trees) (before inner : Taken) → restores form ≡ true → (left form parts before inner).typedef ≡ before.typedef
-unfolding left
-left_typedef form parts before inner e = search arith fits 100
-
-pub restored : (form : Form) (parts : Trees) (t : Taken) → restores form ≡ true → (taken (Node form parts) t).typedef ≡ t.typedef
-unfolding taken
-restored form parts t e = left_typedef form parts t (all_taken parts (places (shape form (count parts))) t) e
-
 pub calm_node : (form : Form) (parts : Trees) → declares form ≡ false → restores form ≡ true → Held parts (places (shape form (count parts))) → AllStill parts → Calm (Node form parts)
-unfolding Still
-calm_node form parts d r h s = record { still = (d, h, s); typedef = λ t. restored form parts t r }
-
-address_typedef : (o : Option (List ℕ)) (t : Taken) → (with_address o t).typedef ≡ t.typedef
-address_typedef o t = search arith fits 100
+unfolding Still taken left
+calm_node form parts d r h s = record { still = (d, h, s); typedef = λ t. (search arith fits 100) }
 
 pub calm_address : (line : ℕ) (e : Tree) → Calm e → Calm (Node (f.Unary u.Address) (At line ▹ e ▹ none))
 unfolding Still AllStill taken all_taken left shape is_scope
-calm_address line e h = search (arith, address_typedef)
+calm_address line e h = search arith

@@ -1,7 +1,5 @@
 -- What holds of trees that are made of those of texts.
-use Rattle.std.proofs.Common.{◌≡◌, ◌≤◌, ◌+◌, ◌*◌, ℕ, List, [], ◌∷◌, length, length-append, All, sum_by, ap, subst, arith}
-use Rattle.std.proofs.lemmas.List.Elements.{All-head, All-tail}
-use Rattle.std.proofs.lemmas.List.Sums.{sum_by-cons}
+use Rattle.core_soundness.proofs.Words.Std.{◌≡◌, ◌≤◌, ◌+◌, ◌*◌, ℕ, List, [], ◌∷◌, length, length-append, All, sum_by, ap, subst, arith, All-head, All-tail, sum_by-cons}
 use Rattle.core_soundness.proofs.Words.Trees.{IsToken, IsLexed, Token, TokenKind, HasTree, IsSuffixed, Tree, Trees, none, ◌▹◌}
 use Rattle.core_soundness.proofs.Words.Core.{IsShort}
 use Rattle.core_soundness.proofs.Words.Facts.{joined, all_joined, HaveTrees, AllNames, IsMadeOf, IsSmall, IsOfTexts, Each, AreWritten}

@@ -1,9 +1,7 @@
 -- The types of expressions are whole, where those of names are.
-use Rattle.std.proofs.Common.{◌≡◌, ◌≤◌, ◌+◌, not, ℕ, zero, Bool, true, false, cond, nat_lt, bytes_eq, length, List, [], ◌∷◌, ◌++◌, reverse, slice_get, Option, Some, None, option_map, Ok, refl, sym, subst, arith}
-use Rattle.std.proofs.lemmas.Bool.{ltb-false}
-use Rattle.std.proofs.lemmas.List.{reverse-append}
+use Rattle.core_soundness.proofs.Words.Std.{◌≡◌, ◌≤◌, ◌+◌, not, ℕ, zero, Bool, true, false, cond, nat_lt, bytes_eq, length, List, [], ◌∷◌, ◌++◌, reverse, Option, Some, None, option_map, Ok, refl, sym, subst, arith, ltb-false, reverse-append}
 use Rattle.core_soundness.proofs.Words.Trees.{name_of, Tree, Trees, Leaf, At, Node, none, ◌▹◌, AssignOp, BinaryOp, RecordSort, UnaryOp}
-use Rattle.core_soundness.proofs.Words.Types.{Known, number_layout, TagTable, CompletedTag, known, layout_in, size_in, members_in, PlainType, PlainTypes, first, Layout, built_ins, Callee, Takes, Prints, NoFunction, built_in_callee, built_in_value, built_in_named, named, no_function, function_callee, built_in_called, callee_at, called, prints, call, line_of, Found, answered, wanted, changing, one, two, joined, string, first_literal, callee, in_new_scope, out_of_scope, typed, values, typename, layers, suffix_layers, suffix_layer, param_types, param_type, unused, cast_operand, PlainNamed, cast_types, cast, chosen_pointer, choice_types, choice, size_answer, size, element_types, element, member_among, member_of, dot, arrow_of, arrow, record_assigned, scalar_assigned, assigned, changed_types, changed, stepped, held_place, behind_comma, all_convert, unconverted, Checked, found, tag_name, Context, Layer, ArrayOf, FunctionOf, word_type, record_type, with_new_tag, same_sort, tag_named, enum_named, type_named, special_type, specs_type, length_from, array_length, array_of, layered, layered_before, with_layers, with_param_layers, adjusted, with_param, declared_param, immovable, moving, beside_pointer, sum_types, difference_types, order_types, equal_types, integer_types, logical, binary, unary_of, unary_on_pointer, unary, address, PlainTyped, Operand, Number, PointerTo, Neither, operand, int, held, read, is_void, is_function, is_null_constant, wanted_value, BuiltIn, Constant, Operands, NotLvalue, DeclaredTwice, TypeTooLarge, LeftOut, Folded}
+use Rattle.core_soundness.proofs.Words.Types.{Known, number_layout, TagTable, CompletedTag, known, layout_in, size_in, PlainType, PlainTypes, first, Layout, Callee, Takes, Prints, NoFunction, built_in_callee, named, no_function, function_callee, built_in_called, callee_at, called, prints, call, line_of, Found, answered, wanted, changing, one, two, joined, string, first_literal, callee, in_new_scope, out_of_scope, typed, values, typename, layers, suffix_layers, suffix_layer, param_types, param_type, unused, cast_operand, PlainNamed, cast_types, cast, chosen_pointer, choice_types, choice, size_answer, size, element_types, element, member_of, dot, arrow_of, arrow, record_assigned, scalar_assigned, assigned, changed_types, changed, stepped, behind_comma, all_convert, unconverted, Checked, found, tag_name, Context, Layer, ArrayOf, FunctionOf, word_type, record_type, with_new_tag, same_sort, tag_named, type_named, special_type, specs_type, array_length, array_of, layered, layered_before, with_layers, with_param_layers, adjusted, with_param, declared_param, immovable, moving, beside_pointer, sum_types, difference_types, order_types, equal_types, integer_types, logical, binary, unary_of, unary_on_pointer, unary, address, PlainTyped, Operand, Number, PointerTo, Neither, operand, int, is_void, is_function, is_null_constant, wanted_value, BuiltIn, Operands, NotLvalue, DeclaredTwice, TypeTooLarge, LeftOut, Folded}
 use Rattle.core_soundness.proofs.Words.Facts.{Whole, AllWhole, AreMade, NamedWhole, NamesWhole}
 use Rattle.c_types.specs.Types as ct
 use Rattle.c_tree.specs.Forms as f
@@ -14,7 +12,7 @@ use Rattle.c_decls.specs.Named as n
 use Rattle.c_decls.specs.TypeNames as names
 use Rattle.core_soundness.proofs.Growth.{Led, led_ok, led_refused, led_after, led_unless, led_barred, wanted_unused, type_cast_unused}
 use Rattle.core_soundness.proofs.Scopes.{name_fits, named_fits, entered_fit, left_fit}
-use Rattle.core_soundness.proofs.WholeTypes.{nothing, member_whole}
+use Rattle.core_soundness.proofs.WholeTypes.{nothing, placed_whole, made_found}
 
 pub led_cond : {C : Type 0} (R : C → Type 0) (test : Bool) (x y : Checked C) → Led R x → Led R y → Led R (cond test x y)
 led_cond R test x y g h = search arith fits 100
@@ -82,21 +80,6 @@ module _ (ts : List CompletedTag) (made : AreMade nothing ts) where
   operand_whole : (type : PlainType) → Whole (known ts) type → WO (operand type)
   operand_whole type h = search arith fits 100
 
-  held_whole : (line : ℕ) (tags : TagTable) (type : PlainType) → Whole (known ts) type → Led W (held line tags type)
-  held_whole line tags type h = search (arith, led_refused, led_ok, led_cond) fits 100
-
-  pub read_whole : (line : ℕ) (tags : TagTable) (e : PlainTyped) → W e → Led W (read line tags e)
-  read_whole line tags e h = led_cond W e.is_place _ _ (held_whole line tags e.type h) (led_ok W h)
-
-  held_place_whole : (line : ℕ) (tags : TagTable) (e : PlainTyped) → W e → Led W (held_place line tags e)
-  held_place_whole line tags e h = led_after W (wanted_value line tags e) (λ x q. led_ok W h)
-
-  value_of_whole : (line : ℕ) (name : BuiltIn) (o : Option Constant) → Led W (built_in_value line name o)
-  value_of_whole line name o = search (arith, led_ok, led_refused) fits 100
-
-  built_in_whole : (line : ℕ) (o : Option BuiltIn) → Led W (built_in_named line o)
-  built_in_whole line o = search (arith, led_refused, value_of_whole) fits 100
-
   abbrev NamedBy : Option PlainNamed → Type 0
   NamedBy o = (v : PlainNamed) → o ≡ Some v → NamedWhole (known ts) v
 
@@ -104,7 +87,7 @@ module _ (ts : List CompletedTag) (made : AreMade nothing ts) where
   named_whole line (Some (n.Object type i)) h = led_ok W (h (n.Object type i) refl)
   named_whole line (Some (n.Register type i)) h = led_ok W (h (n.Register type i) refl)
   named_whole line (Some (n.Constant type x)) h = led_ok W tt
-  named_whole line (Some (n.BuiltIn i)) h = built_in_whole line (slice_get built_ins i)
+  named_whole line (Some (n.BuiltIn i)) h = search (arith, led_refused, led_ok) fits 100
   named_whole line other h = led_refused W
 
   string_whole : (line : ℕ) (bytes : List ℕ) → Led W (string line bytes)
@@ -121,11 +104,8 @@ module _ (ts : List CompletedTag) (made : AreMade nothing ts) where
   element_whole : (line : ℕ) (tags : TagTable) (s t : Operand) → WO s → WO t → Led W (element_types line tags s t)
   element_whole line tags s t h k = search (arith, moving_whole, led_refused) fits 100
 
-  tag_member_whole : (line : ℕ) (name : List ℕ) (tags : TagTable) (tag : ℕ) → tags.completed ≡ ts → Led W (member_among line name (members_in tags tag))
-  tag_member_whole line name tags tag c = search (arith, member_whole, bytes_eq, nothing)
-
   member_of_whole : (line : ℕ) (name : List ℕ) (tags : TagTable) (type : PlainType) → tags.completed ≡ ts → Led W (member_of line name tags type)
-  member_of_whole line name tags type c = search (arith, tag_member_whole, led_refused) fits 100
+  member_of_whole line name tags type c = grind (arith, option_map, placed_whole, made_found, bytes_eq, nothing, led_refused)
 
   dot_whole : (line : ℕ) (name : List ℕ) (tags : TagTable) (e : PlainTyped) → tags.completed ≡ ts → Led W (dot line name tags e)
   dot_whole line name tags e c = led_unless W (not e.is_place) Operands line (λ t. member_of_whole line name tags e.type c)
@@ -269,16 +249,13 @@ module _ (ts : List CompletedTag) (made : AreMade nothing ts) where
   answered_good c x g h = led_after Good x (λ e q. led_ok Good (g, h e q))
 
   pub unused_good : (tree : Tree) (x : Found) → Led Good x → Led Good (unused tree x)
-  unused_good tree x h = led_after Good x (λ d q. let k = h d q in answered_good d.0 _ k.0 (read_whole (line_of tree) d.0.tags d.1 k.1))
+  unused_good tree x h = led_after Good x (λ d q. let k = h d q in answered_good d.0 _ k.0 (led_cond W d.1.is_place _ _ (search (arith, led_refused, led_ok, led_cond) fits 100) (led_ok W k.1)))
 
   pub wanted_good : (tree : Tree) (x : Found) → Led Good x → Led Good (wanted tree x)
   wanted_good tree x h d q = unused_good tree x h d (wanted_unused tree x d q)
 
-  cast_good : (type : PlainType) (tree : Tree) (x : Found) → Led Good x → Led Good (cast_operand type tree x)
-  cast_good type tree x h d q = unused_good tree x h d (type_cast_unused type tree x d q)
-
   changing_good : (tree : Tree) (x : Found) → Led Good x → Led Good (changing tree x)
-  changing_good tree x h = led_after Good x (λ d q. let k = h d q in answered_good d.0 _ k.0 (held_place_whole (line_of tree) d.0.tags d.1 k.1))
+  changing_good tree x h = led_after Good x (λ d q. let k = h d q in answered_good d.0 _ k.0 (led_after W (wanted_value (line_of tree) d.0.tags d.1) (λ x q. led_ok W k.1)))
 
   one_good : (x : Found) (rule : TagTable → PlainTyped → Checked PlainTyped) → Led Good x → ((c : Context) (e : PlainTyped) → Fit c → W e → Led W (rule c.tags e)) → Led Good (one x rule)
   one_good x rule h k = led_after Good x (λ d q. let g = h d q in answered_good d.0 _ g.0 (k d.0 d.1 g.0 g.1))
@@ -312,9 +289,6 @@ module _ (ts : List CompletedTag) (made : AreMade nothing ts) where
   pub tag_good : (line : ℕ) (sort : RecordSort) (name : List ℕ) (c : Context) (o : Option PlainNamed) → Fit c → Led GoodType (tag_named line sort name c o)
   tag_good line sort name c o g = search (arith, led_ok, new_tag_good, sort_good, led_refused) fits 100
 
-  enum_good : (line : ℕ) (c : Context) (o : Option PlainNamed) → Fit c → Led GoodType (enum_named line c o)
-  enum_good line c o g = search (arith, led_ok, led_refused) fits 100
-
   type_good : (line : ℕ) (c : Context) (o : Option PlainNamed) → Fit c → NamedBy o → Led GoodType (type_named line c o)
   type_good line c (Some (n.Typedef type)) g h = led_ok GoodType (g, h (n.Typedef type) refl)
   type_good line c (Some (n.BuiltIn zero)) g h = led_ok GoodType (g, tt)
@@ -323,7 +297,7 @@ module _ (ts : List CompletedTag) (made : AreMade nothing ts) where
   pub special_good : (line : ℕ) (tree : Tree) (c : Context) → Fit c → Led GoodType (special_type line tree c)
   special_good line (Node f.TypedefName (Leaf (w.Name name) ▹ none)) c g = type_good line c (found c.scopes name) g (found_by c name g)
   special_good line (Node (f.RecordTag sort) (At at ▹ Leaf (w.Name name) ▹ none)) c g = tag_good at sort name c (found c.scopes (tag_name name)) g
-  special_good line (Node f.EnumTag (At at ▹ Leaf (w.Name name) ▹ none)) c g = enum_good at c (found c.scopes (tag_name name)) g
+  special_good line (Node f.EnumTag (At at ▹ Leaf (w.Name name) ▹ none)) c g = search (arith, led_ok, led_refused) fits 100
   special_good line (Node other (At at ▹ parts)) c g = led_refused GoodType
   special_good line tree c g = led_refused GoodType
 
@@ -339,11 +313,8 @@ module _ (ts : List CompletedTag) (made : AreMade nothing ts) where
   abbrev Some_long : ℕ → Type 0
   Some_long m = 1 ≤ m
 
-  length_from_some : (line : ℕ) (type : PlainType) (folded : Folded) → Led Some_long (length_from line type folded)
-  length_from_some line type folded = search (arith, led_ok, led_refused) fits 100
-
   pub length_some : (line : ℕ) (e : PlainTyped) → Led Some_long (array_length line e)
-  length_some line e = length_from_some line e.type e.folded
+  length_some line e = search (arith, led_ok, led_refused) fits 100
 
   param_good : (line : ℕ) (c : Context) (name : Option (List ℕ)) (type : PlainType) → Fit c → Whole (known ts) type → Led GoodType (with_param line c name type)
   param_good line c None type g h = led_ok GoodType (g, h)
@@ -352,9 +323,6 @@ module _ (ts : List CompletedTag) (made : AreMade nothing ts) where
 
   declared_good : (line : ℕ) (c : Context) (name : Option (List ℕ)) (type : PlainType) → Fit c → Whole (known ts) type → Led GoodType (declared_param line c name type)
   declared_good line c name type g h = search (arith, led_unless, param_good) fits 100
-
-  new_scope : (c : Context) → Fit c → Fit (in_new_scope c)
-  new_scope c g = record { completed = g.completed; names = entered_fit (NamedWhole (known ts)) (NamedWhole (known ts)) c.scopes g.names }
 
   old_scope : (c : Context) → Fit c → Fit (out_of_scope c)
   old_scope c g = record { completed = g.completed; names = left_fit (NamedWhole (known ts)) (NamedWhole (known ts)) c.scopes g.names }
@@ -389,7 +357,7 @@ module _ (ts : List CompletedTag) (made : AreMade nothing ts) where
         led_after Good (typename name c) (λ t q. answered_good t.0 (size line t.0.tags t.1) (typename_good name c g t q).0 (size_whole line (size_in t.0.tags t.1)))
     typed_good (Node f.Cast (At line ▹ name ▹ e ▹ none)) c g =
         led_after Good (typename name c)
-        (λ t q. let k = typename_good name c g t q in one_good (cast_operand t.1 e (typed e t.0)) (λ tags d. cast line t.1 d) (cast_good t.1 e (typed e t.0) (typed_good e t.0 k.0)) (λ d x z p. cast_whole line t.1 x k.1))
+        (λ t q. let k = typename_good name c g t q in one_good (cast_operand t.1 e (typed e t.0)) (λ tags d. cast line t.1 d) (λ d q. unused_good e (typed e t.0) (typed_good e t.0 k.0) d (type_cast_unused t.1 e (typed e t.0) d q)) (λ d x z p. cast_whole line t.1 x k.1))
     typed_good (Node (f.Binary op) (At line ▹ e ▹ h ▹ none)) c g =
         two_good (wanted e (typed e c)) (λ d. wanted h (typed h d)) (binary line op) (wanted_good e (typed e c) (typed_good e c g)) (λ d k. wanted_good h (typed h d) (typed_good h d k))
         (λ d x y k p q. binary_whole line op d.tags x y p q)
@@ -449,7 +417,7 @@ module _ (ts : List CompletedTag) (made : AreMade nothing ts) where
         (λ m z. led_ok GoodLayer ((wanted_good e (typed e c) (typed_good e c g) d q).0, length_some (line_of e) d.1 m z)))
     suffix_good (Node f.FunctionSuffix (At line ▹ Node f.Params params ▹ none)) c g =
         led_after GoodLayer (param_types params (in_new_scope c))
-        (λ p q. let k = params_good params (in_new_scope c) (new_scope c g) p q in led_ok GoodLayer (old_scope p.0 k.0, k.1))
+        (λ p q. let k = params_good params (in_new_scope c) (record { completed = g.completed; names = entered_fit (NamedWhole (known ts)) (NamedWhole (known ts)) c.scopes g.names }) p q in led_ok GoodLayer (old_scope p.0 k.0, k.1))
     suffix_good tree c g = led_ok GoodLayer (g, tt)
 
     params_good : (params : Trees) (c : Context) → Fit c → Led GoodParams (param_types params c)

@@ -1,10 +1,5 @@
 -- The functions of a text are typed.
-use Rattle.std.proofs.Common.{◌≡◌, ◌≤◌, ◌+◌, ◌&&◌, ◌||◌, ℕ, suc, Bool, true, false, not, cond, nat_lt, reverse, is_some, map, length, List, [], ◌∷◌, ◌++◌, slice_get, Option, Some, None, IsSome, Ok, refl, sym, ap, ◌∙◌, subst, inl, inr, ⊎_elim, arith, bytes_eq, ◌<◌, zero, codes, replicate, take, unwrap_or, option_map, length-append, IfSome, count_by}
-use Rattle.std.proofs.lemmas.List.{length-map}
-use Rattle.std.proofs.lemmas.Slice.Eq.{bytes_eq-Decides}
-use Rattle.std.proofs.lemmas.Bool.{and_parts}
-use Rattle.std.specs.List.{sum_by}
-use Rattle.std.specs.Option.{ForSome}
+use Rattle.core_soundness.proofs.Words.Std.{◌≡◌, ◌≤◌, ◌+◌, ◌&&◌, ◌||◌, ℕ, suc, Bool, true, false, not, cond, nat_lt, reverse, is_some, map, length, List, [], ◌∷◌, ◌++◌, slice_get, Option, Some, None, IsSome, Ok, refl, sym, ap, ◌∙◌, subst, inl, inr, ⊎_elim, arith, bytes_eq, ◌<◌, zero, codes, replicate, take, unwrap_or, option_map, length-append, IfSome, count_by, length-map, bytes_eq-Decides, and_parts, sum_by, ForSome}
 use Rattle.core_soundness.proofs.Words.Trees.{name_of, params_of, Tree, Trees, At, Node, ◌▹◌}
 use Rattle.core_soundness.proofs.Words.Types.{TagTable, PlainType, PlainTypes, Int, Function, none, built_ins, numbered_from, PlainNamed, length_of, then, unless, Table, named_in, with_name, Layer, FunctionOf, with_layers, same, is_array, is_record, is_function, BuiltIn, DeclaredTwice, ProgramTooLong, Undeclared}
 use Rattle.core_soundness.proofs.Words.Core.{Sort, sort_of, register_sort, GivesResult, TakesCall, HasRegister, EachFunc, EachReturn, answer_sort, GivesAnswer, is_main as is_main_function, first_main, main_of, IsMain, Core, Func, Reg as Register, Atom, Stm, StmKind, Return, Call}
@@ -64,11 +59,8 @@ statics_of c d g = record { variables = g.variables; literals = g.literals; call
 statics_trans : (a b c : Context) → Statics a b → Statics b c → Statics a c
 statics_trans a b c x y = search arith
 
-walked_grew : (c d : Context) (x : Walked) → Statics c d → Grew (walked_world c x) (walked_world d x)
-walked_grew c d x s = record { locals = λ k r e. e; mems = omega arith; integers = omega arith; pointers = omega arith; variables = s.variables; literals = s.literals; formats = λ k v e. e; calls = s.calls; file = s.file }
-
 walked_on : (c d : Context) (x : Walked) → Statics c d → WalkedFits c x → WalkedFits d x
-walked_on c d x s h = search (arith, pieces_grew, walked_grew)
+walked_on c d x s h = search (arith, pieces_grew)
 
 -- what holds between external declarations
 pub record Between (c : Context) : Type 0 where
@@ -90,9 +82,6 @@ record HasList (z : Context × List Layer) : Type 0 where
   some : 1 ≤ functions z.1
   params : ParamsFit z.0
 
-none_fit : (P : PlainNamed → Type 0) → TableFits P []
-none_fit P name v e = cc
-
 list_suffix : (answer : Option Sort) (tree : Tree) (c : Context) (z : Context × Layer) → IsList tree → Fine c → length c.scopes.inner ≡ 0 → suffix_layer tree c ≡ Ok z → HasList (z.0, z.1 ∷ [])
 unfolding suffix_layer
 list_suffix answer (Node f.ArraySuffix parts) c z i g flat q = absurd i
@@ -103,7 +92,7 @@ list_suffix answer (Node f.FunctionSuffix (At line ▹ Node f.Params parts ▹ t
     (record { some = omega arith; params = first_fits (InnerFits (world p.value.0)) p.value.0.scopes.inner r.fine.names.inner })
 list_suffix answer tree c z i g flat q =
     subst (λ (y : Context × Layer). HasList (y.0, y.1 ∷ [])) (ok_same (record c { params = [] }, FunctionOf (Rattle.c_decls.specs.Expressions.line_of tree) types.none) z q)
-    (record { some = omega arith; params = none_fit (InnerFits (world c)) })
+    (record { some = omega arith; params = (λ name v e. cc) })
 
 suffixes_list : (parts : Trees) (answer : Option Sort) (c : Context) (z : Context × List Layer) → HasLists parts → Fine c → length c.scopes.inner ≡ 0 → suffix_layers parts c ≡ Ok z → HasList z
 unfolding suffix_layers
@@ -152,9 +141,6 @@ layers_list tree answer c z h g flat q = absurd h
 abbrev Typed : List ℕ → PlainType → Context → Context → Type 0
 Typed name type c d = named_in name d.scopes.file ≡ Some (n.Function type (function_number name c))
 
-pushed_name : (key : List ℕ) (v : PlainNamed) (table : Table) → named_in key table ≡ None → named_in key (table ++ (key, v) ∷ []) ≡ Some v
-pushed_name key v table e = search (arith, named_push, bytes_eq, bytes_eq-Decides)
-
 function_kept : (k : Bool) (name key : List ℕ) (type : PlainType) (index : ℕ) (x : Context) → named_in key x.scopes.file ≡ Some (n.Function type index) → named_in key (cond k x (record x { functions = x.functions ++ (record { name = name; defined = None }) ∷ [] })).scopes.file ≡ Some (n.Function type index)
 function_kept k name key type index x e = search arith fits 100
 
@@ -166,7 +152,7 @@ flat_typed : (line : ℕ) (name : List ℕ) (type : PlainType) (c : Context) (fi
 flat_typed line name type c file None d e q =
     let x : Context = record c { scopes = record { file = file ++ (name, n.Function type (length c.functions)) ∷ []; inner = [] } } in
     subst (λ (y : Context). named_in name y.scopes.file ≡ Some (n.Function type (length c.functions))) (ok_same (with_function (length c.functions) name x) d q)
-    (function_kept (nat_lt (length c.functions) (length c.functions)) name name type (length c.functions) x (pushed_name name (n.Function type (length c.functions)) file e))
+    (function_kept (nat_lt (length c.functions) (length c.functions)) name name type (length c.functions) x (search (arith, named_push, bytes_eq, bytes_eq-Decides)))
 flat_typed line name type c file (Some (n.Function t j)) d e q =
     let x : Context = record c { scopes = record { file = file; inner = [] } } in
     let y = came (unless (not (true && same t type)) DeclaredTwice line (good x)) q in
@@ -184,16 +170,13 @@ function_typed line name type c d flat q =
 
 -- the end of a body
 
-last_fits : (v : World) (type : PlainType) → (is_array type || is_function type || is_record type) ≡ false → FitsAnswer v (result_sort type) (last_answer type)
-last_fits v type e = search arith fits 100
-
 -- the body of a function of a name, in front of which c stands between external declarations
 body_between : (line end : ℕ) (name : List ℕ) (answer : PlainType) (ps : PlainTypes) (index : ℕ) (more : List Sort) (c e z : Context) → IsOwn name → 1 ≤ end → Between c → Statics c e → e.walked ≡ c.walked → Fine e → CodeFits (result_sort answer) e → e.running.answer ≡ answer
     → (is_array answer || is_function answer || is_record answer) ≡ false → named_in name e.scopes.file ≡ Some (n.Function (Function answer ps) index) → map sort_of e.running.locals ≡ param_sorts ps ++ more
     → body_ended line name (Function answer ps) end e ≡ Ok z → Between z
 body_between line end name answer ps index more c e z own l h s same g fits is_answer plain there regs q =
     let x = emit end (Return (last_answer e.running.answer)) e in
-    let r = return_fits (result_sort answer) end (last_answer e.running.answer) e l g (subst (λ (type : PlainType). FitsAnswer (world e) (result_sort answer) (last_answer type)) (sym is_answer) (last_fits (world e) answer plain)) in
+    let r = return_fits (result_sort answer) end (last_answer e.running.answer) e l g (subst (λ (type : PlainType). FitsAnswer (world e) (result_sort answer) (last_answer type)) (sym is_answer) (search arith fits 100)) in
     let w : Walked = record { name = name; params = length_of ps; running = x.running; code = x.code } in
     let total = x.length + sum_by piece_length x.code.pieces in
     let made : Context = record x { scopes = record { file = x.scopes.file; inner = [] }; length = total; walked = x.walked ++ w ∷ [] } in
@@ -384,9 +367,6 @@ function_params : (c : Context) (x : Walked) (h : WalkedFits c x) → map sort_o
 unfolding temporaries_of
 function_params c x h = taken_sorts (param_sorts h.params) x.params x.running.locals (temporaries_of x) h.rest (h.count ∙ count_sorts h.params) h.sorted
 
-params_inside : (c : Context) (x : Walked) (h : WalkedFits c x) → (function_of c x).params ≤ length (function_of c x).regs
-params_inside c x h = search (arith, count_sorts, length-append, length-map)
-
 get_map : {X Y : Type 0} (g : X → Y) (xs : List X) (k : ℕ) (x : X) → slice_get xs k ≡ Some x → slice_get (map g xs) k ≡ Some (g x)
 get_map g [] k x e = cc
 get_map g (y ∷ xs) zero x e = let same : y ≡ x = some_same y x e in ap (λ z. Some (g z)) same
@@ -440,7 +420,7 @@ answers_of c x e answer kind made h q = subst (GivesAnswer (core_of c) (function
 
 function_types : (c : Context) (x : Walked) → Ended c → WalkedFits c x → HasTypes (core_of c) (function_of c x)
 function_types c x e h = record {
-  params = params_inside c x h;
+  params = search (arith, count_sorts, length-append, length-map);
   line = h.lined;
   lines = λ point stm at. (statements_resolve c x (call_resolves c x e) (result_sort h.answer) x.code.pieces point stm h.fits at).0;
   typed = λ point stm at. (statements_resolve c x (call_resolves c x e) (result_sort h.answer) x.code.pieces point stm h.fits at).1;

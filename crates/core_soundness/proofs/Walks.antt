@@ -1,10 +1,9 @@
 -- One walk over expressions, and one over specs, tags and declarators.
-use Rattle.std.proofs.Common.{◌≡◌, ◌≤◌, ◌+◌, ◌*◌, ℕ, zero, suc, List, [], ◌∷◌, refl, arith, Bool, true, false, cond, Option, Some, None, unwrap_or, Ok, subst, ltb-false, ℤ, pos, Result}
-use Rattle.std.specs.Prelude.{IfSome}
-use Rattle.core_soundness.proofs.Words.Trees.{Item, Says, Here, Part, shape, commas, behind_commas, assign_level, Place, Expression, name_of, Tree, Trees, Leaf, At, Node, none, ◌▹◌, count, BinaryOp, RecordSort}
-use Rattle.core_soundness.proofs.Words.Types.{TagTable, completion, PlainType, PlainTypes, Void, Int, TagError, IntType, Callee, Prints, NoFunction, named, called, line_of, joined, string, literal, first_literal, typed, typename, wanted, constant_from, PlainNamed, Checked, then, found as declaration, with_name, tag_name, after_declaration, special_type, array_length, with_new_tag, with_layers, with_param_layers, adjusted, address, PlainTyped, is_record, place, BuiltIn, DeclaredTwice}
+use Rattle.core_soundness.proofs.Words.Std.{◌≡◌, ◌≤◌, ◌+◌, ◌*◌, ℕ, zero, suc, List, [], ◌∷◌, refl, arith, Bool, true, false, cond, Option, Some, None, unwrap_or, Ok, subst, ltb-false, ℤ, pos, IfSome}
+use Rattle.core_soundness.proofs.Words.Trees.{Item, Says, Here, Part, shape, commas, behind_commas, assign_level, Place, Expression, name_of, Tree, Trees, Leaf, At, Node, none, ◌▹◌, count, RecordSort}
+use Rattle.core_soundness.proofs.Words.Types.{TagTable, PlainType, PlainTypes, Void, Int, IntType, Callee, Prints, NoFunction, named, called, line_of, joined, string, literal, first_literal, typed, typename, wanted, constant_from, PlainNamed, Checked, found as declaration, with_name, tag_name, after_declaration, special_type, array_length, with_new_tag, with_layers, with_param_layers, adjusted, address, PlainTyped, is_record, place, BuiltIn}
 use Rattle.core_soundness.proofs.Words.Core.{IsShort, Atom}
-use Rattle.core_soundness.proofs.Words.Elaborating.{record_assigned, scalar_assigned, old_value, Argument, first_type, rest_types, argument_from, built_in_at, Context, With, asked, told, new_label, entered, Found, valued, unused, Spot, read_spot, convert_integer, convert, tested, write, constant, with_type, maybe_name, begun_as, completed_by, complete, ended, member, enumerator, enum_named, param, left_params, specs, words_type, tag_type, members, member_names, enumerators, layers, suffix_layers, suffix_layer, params, name_answer, literal_answer, unevaluated, address_answer, changing, callee_name, callee, parameters, format_argument, is_printf, call_answer, found, arguments, cast_operand, with_param, combined, member_address, with_literal, left_operand, and_then, or_else, choose, type_ahead, choose_first}
+use Rattle.core_soundness.proofs.Words.Elaborating.{record_assigned, scalar_assigned, old_value, Argument, first_type, rest_types, argument_from, built_in_at, Context, With, asked, told, new_label, entered, Found, valued, unused, Spot, convert_integer, convert, tested, write, constant, with_type, maybe_name, begun_as, ended, member, enumerator, enum_named, param, left_params, specs, words_type, tag_type, members, member_names, enumerators, layers, suffix_layers, suffix_layer, params, name_answer, literal_answer, unevaluated, address_answer, changing, callee_name, callee, parameters, format_argument, is_printf, call_answer, found, arguments, cast_operand, with_param, with_literal, left_operand, and_then, or_else, choose, type_ahead, choose_first}
 use Rattle.core_soundness.proofs.Words.Facts.{Names, AllNames}
 use Rattle.c_types.specs.declared.types.IntType.TheVariants as i
 use Rattle.c_tree.specs.Forms as f
@@ -19,8 +18,8 @@ use Rattle.c_decls.specs.declared.built_in.BuiltIn.TheVariants as bi
 use Rattle.elaboration.specs.Declarators as d
 use Rattle.elaboration.specs.Declarators.{begun}
 use Rattle.core_soundness.proofs.Agreeing.{came}
-use Rattle.core_soundness.proofs.CodeWalk.{Writes, PrintsShort, and_keeps, applied_keeps, argument_keeps, between_keeps, call_keeps, cast_keeps, changed_keeps, choice_keeps, dotted_keeps, indexed_keeps, left_keeps, old_keeps, or_keeps, pointed_keeps, record_keeps, scalar_assigned_keeps, stepped_keeps, unused_keeps, valued_keeps, read_keeps, convert_integer_keeps, convert_keeps, tested_keeps, write_keeps, combined_keeps, member_keeps}
-use Rattle.core_soundness.proofs.Growth.{good, ok_same, Reached, reached_ok, reached_refused, reached_after, reached_then, cast_unused, reached_unless, Led, led_ok, led_refused, led_unless, Grows, grows_refl, grows_trans, grows_emit, grows_integer, grows_pointer, grows_forgotten, grows_told, Grown, grows_fork, grows_format, grows_calls, grows_free, grown_literal}
+use Rattle.core_soundness.proofs.CodeWalk.{Writes, PrintsShort, and_keeps, applied_keeps, argument_keeps, between_keeps, call_keeps, cast_keeps, changed_keeps, choice_keeps, dotted_keeps, indexed_keeps, left_keeps, old_keeps, or_keeps, pointed_keeps, record_keeps, scalar_assigned_keeps, stepped_keeps, unused_keeps, valued_keeps, convert_integer_keeps, convert_keeps, tested_keeps, write_keeps}
+use Rattle.core_soundness.proofs.Growth.{ok_same, Reached, reached_ok, reached_refused, reached_after, reached_then, cast_unused, reached_unless, Led, led_ok, led_refused, led_unless, Grows, grows_refl, grows_trans, grows_emit, grows_integer, grows_pointer, grows_forgotten, grows_told, Grown, grows_fork, grows_format, grows_calls, grows_free, grown_literal}
 use Rattle.core_soundness.proofs.Scopes.{some_short, More, with_tag_more, name_named}
 use Rattle.core_soundness.proofs.TagSorts.{typed_after, typename_after, After, wanted_after, special_after}
 
@@ -54,12 +53,9 @@ commas_said place k = search (arith, behind_said) fits 100
 
 -- formats are no longer than objects
 
-string_short : (line : ℕ) (bytes : List ℕ) (known : names.Context) (z : names.Context × PlainTyped) → then (string line bytes) (λ e. good (known, e)) ≡ Ok z → IsShort bytes
-string_short line bytes known z h = grind (arith, true, false, ltb-false)
-
 text_short : (e : Tree) (known : names.Context) (z : names.Context × PlainTyped) → typed e known ≡ Ok z → IfSome (literal e) IsShort
 unfolding typed
-text_short (Node f.Str (At line ▹ Node f.Strings parts ▹ none)) known z h = string_short line (joined parts) known z h
+text_short (Node f.Str (At line ▹ Node f.Strings parts ▹ none)) known z h = grind (arith, true, false, ltb-false)
 text_short (Node f.Paren (At line ▹ e ▹ none)) known z h = text_short e known z h
 text_short e known z h = tt
 
@@ -289,14 +285,8 @@ module _ (R : Context → Context → Type 0) (tag : Tagging R) where
   pub begun_keeps : (sort : RecordSort) (name : Option (List ℕ)) (c : Context) → R c (begun sort name c).0
   begun_keeps sort name c = search (arith, begun_as_keeps) fits 100
 
-  completed_keeps : (line : ℕ) (c : Context) (type : PlainType) (o : Result TagTable TagError) → Reached (R c) (completed_by line c type o)
-  completed_keeps line c type o = search (arith, reached_ok, reached_refused) fits 100
-
-  complete_keeps : (line number : ℕ) (type : PlainType) (c : Context) (list : d.Members) → Reached (R c) (complete line number type c list)
-  complete_keeps line number type c list = reached_unless (R c) _ DeclaredTwice line (completed_keeps line c type (completion c.tags number list))
-
   pub ended_keeps : (line : ℕ) (sort : RecordSort) (type : PlainType) (c : Context) (list : d.Members) → Reached (R c) (ended line sort type c list)
-  ended_keeps line sort type c list = search (arith, complete_keeps, reached_refused) fits 100
+  ended_keeps line sort type c list = search (arith, reached_unless, reached_ok, reached_refused) fits 100
 
   pub members_keep_one : (line : ℕ) (name : Option (List ℕ)) (type : PlainType) (list : d.Members) (c : Context) → Reached (R c) (member line name type list c)
   members_keep_one line name type list c = search (arith, reached_unless, reached_after, reached_ok)
@@ -454,15 +444,12 @@ module _ (W : List ℕ → Type 0) (R : Bool → ℕ → Context → Context →
 -- what elaborating an expression does to what is known
 
 -- however much is made
-abbrev Made : ℕ → Context → Context → Type 0
+abbrev pub Made : ℕ → Context → Context → Type 0
 Made n c d = Grows c d
 
-grows_writes : Writes Made
+pub grows_writes : Writes Made
 grows_writes =
     search (arith, grows_refl, grows_trans, grows_emit, grows_integer, grows_pointer, grows_forgotten, grows_fork, grows_format, grows_calls, grows_free) fits 100
-
-pub grows_read : (line : ℕ) (type : PlainType) (spot : Spot) (c : Context) → Grows c (read_spot line type spot c).0
-grows_read line type spot c = read_keeps Made grows_writes line type spot c
 
 pub grown_unused : (tree : Tree) (b : Context) (answer : With Found) → Grown b answer → Grown b (unused tree answer)
 grown_unused tree b answer g = unused_keeps Made grows_writes 0 tree b answer g
@@ -483,17 +470,5 @@ grows_tested line type a c = tested_keeps Made grows_writes line type a c
 pub grows_write : (line : ℕ) (type : PlainType) (spot : Spot) (a : Atom) (c : Context) → Grows c (write line type spot a c)
 grows_write line type spot a c = write_keeps Made grows_writes line type spot a c
 
-pub grows_combined : (line : ℕ) (op : BinaryOp) (b : Context) (x y : Found) (c : Context) → Grows b c → Grows b (combined line op b.code x y c).0
-grows_combined line op b x y c g = combined_keeps Made grows_writes 0 line op b x y c g
-
-pub grows_member : (line offset : ℕ) (p : Atom) (c : Context) → Grows c (member_address line offset p c).0
-grows_member line offset p c = member_keeps Made grows_writes line offset p c
-
-pub grows_left : (op : BinaryOp) (b : Context) (right : Tree) (d : Context × Found) → Grows b d.0 → Grows b (left_operand op b.code right d).0
-grows_left op b right d g = left_keeps Made grows_writes 0 op b right d g
-
-grows_walk : Walks Made
-grows_walk = record { writes = grows_writes; tells = λ t c m. grows_told t c m; literals = λ line bytes c. grown_literal line bytes c c (grows_refl c) }
-
 pub found_grows : (tree : Tree) (wanted : PlainType) (c0 c : Context) → Grows c0 c → Grown c0 (found tree wanted c)
-found_grows tree wanted c0 c g z q = grows_trans c0 c z.0 g (found_keeps Made grows_walk tree wanted c z q)
+found_grows tree wanted c0 c g z q = grows_trans c0 c z.0 g (found_keeps Made (record { writes = grows_writes; tells = λ t c m. grows_told t c m; literals = λ line bytes c. grown_literal line bytes c c (grows_refl c) }) tree wanted c z q)

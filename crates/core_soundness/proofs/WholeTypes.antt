@@ -1,11 +1,8 @@
 -- Types that are whole stay so, and have sizes from 1 to that of the largest object.
-use Rattle.std.proofs.Common.{◌≡◌, ◌≤◌, ◌*◌, ◌==◌, ℕ, Bool, true, false, cond, is_some, List, [], ◌∷◌, ◌++◌, map, fold, zip, Option, Some, None, IsSome, IfSome, option_map, unwrap_or, refl, sym, ap, ◌∙◌, subst, arith}
-use Rattle.std.proofs.lemmas.List.Sums.{fold_push}
-use Rattle.std.specs.List.{find}
-use Rattle.std.specs.Option.{option_or}
-use Rattle.core_soundness.proofs.Words.Types.{Known, ArraysFit, Placed, none_placed, placed, layout_of, no_layout, members_layout, CompletedTag, TagTable, PlainMember, learn, known, tag_layout, members_in, PlainType, PlainTypes, Pointer, Array, Function, none, first, width_of, Layout, IntType, PlainNamed}
+use Rattle.core_soundness.proofs.Words.Std.{◌≡◌, ◌≤◌, ◌*◌, ◌==◌, ℕ, Bool, true, false, cond, is_some, List, [], ◌∷◌, ◌++◌, map, fold, zip, Option, Some, None, IsSome, IfSome, unwrap_or, refl, sym, ap, ◌∙◌, subst, arith, fold_push, find, option_or}
+use Rattle.core_soundness.proofs.Words.Types.{Known, ArraysFit, Placed, none_placed, placed, layout_of, no_layout, CompletedTag, PlainMember, learn, known, tag_layout, PlainType, PlainTypes, Pointer, Array, Function, none, first, width_of, Layout, IntType, PlainNamed}
 use Rattle.core_soundness.proofs.Words.Core.{IsCompleted, AreCompleted, IsLayoutOfType}
-use Rattle.core_soundness.proofs.Words.Facts.{IsRow, Whole, AllWhole, MembersWhole, AreMade, NamedWhole}
+use Rattle.core_soundness.proofs.Words.Facts.{Whole, AllWhole, MembersWhole, AreMade, NamedWhole}
 use Rattle.c_types.specs.TagTableEquations.{Extends, some_array, layout_stays}
 use Rattle.c_types.specs.TagTableEquations.{stays_known}
 use Rattle.c_types.specs.LayoutsEquations.{rounded_le}
@@ -17,13 +14,10 @@ nothing = λ tag. None
 
 -- with more tags
 
-row_stays : (j k : Known) (element : PlainType) (n : ℕ) → Extends j k → IsRow j element n → IsRow k element n
-row_stays j k element n x h = (h.0, layout_stays j k x element h.0 h.1, h.2, h.3)
-
 mutual
   pub whole_stays : (type : PlainType) (j k : Known) → Extends j k → Whole j type → Whole k type
   whole_stays (Pointer target) j k x h = whole_stays target j k x h
-  whole_stays (Array element n) j k x h = (whole_stays element j k x h.0, row_stays j k element n x h.1)
+  whole_stays (Array element n) j k x h = (whole_stays element j k x h.0, (h.1.0, layout_stays j k x element h.1.0 h.1.1, h.1.2, h.1.3))
   whole_stays (Function answer params) j k x h = (whole_stays answer j k x h.0, all_stay params j k x h.1)
   whole_stays other j k x h = tt
 
@@ -52,12 +46,9 @@ push_extends tags new tag l e = ap (λ (k : Known). k tag) (fold_push learn noth
 
 -- a tag more
 
-made_on : (k : Known) (tags : List CompletedTag) (new : CompletedTag) → AreMade k tags → IsCompleted (fold learn k tags) new → MembersWhole (fold learn k tags) new.members → AreMade k (tags ++ new ∷ [])
+pub made_on : (k : Known) (tags : List CompletedTag) (new : CompletedTag) → AreMade k tags → IsCompleted (fold learn k tags) new → MembersWhole (fold learn k tags) new.members → AreMade k (tags ++ new ∷ [])
 made_on k [] new h c m = ((c, m), tt)
 made_on k (t ∷ tags) new h c m = (h.0, made_on (learn k t) tags new h.1 c m)
-
-pub made_push : (tags : List CompletedTag) (new : CompletedTag) → AreMade nothing tags → IsCompleted (known tags) new → MembersWhole (known tags) new.members → AreMade nothing (tags ++ new ∷ [])
-made_push tags new h c m = made_on nothing tags new h c m
 
 pub made_completed : (k : Known) (tags : List CompletedTag) → AreMade k tags → AreCompleted k tags
 made_completed k [] h = tt
@@ -97,15 +88,12 @@ placed_far u p (l ∷ ls) = let rest = placed_far u (place u p l) ls in omega (a
 first_far : (u : Bool) (l : Layout) (ls : List Layout) → 1 ≤ l.size → 1 ≤ (placed u (l ∷ ls)).end
 first_far u l ls h = let rest = placed_far u (place u none_placed l) ls in omega (arith, rest, h)
 
-body_some : (u : Bool) (l : Layout) (ls : List Layout) → 1 ≤ l.size → 1 ≤ (members_layout u (l ∷ ls)).size
-body_some u l ls h = search (arith, first_far, rounded_le)
-
 pub some_layout : (o : Option Layout) → is_some o ≡ true → o ≡ Some (unwrap_or o no_layout)
 some_layout o e = search arith fits 100
 
 tag_some : (k : Known) → AllSized k → (new : CompletedTag) (ms : List (List ℕ × PlainType)) → new.members ≡ ms → ((new.members ≡ []) → ⊥) → MembersWhole k ms → 1 ≤ (tag_layout k new).size
 tag_some k a new [] e s w = absurd (s e)
-tag_some k a new (m ∷ ms) e s w = search (arith, layout_some, some_layout, body_some)
+tag_some k a new (m ∷ ms) e s w = search (arith, layout_some, some_layout, first_far, rounded_le)
 
 learn_some : (k : Known) (new : CompletedTag) → AllSized k → 1 ≤ (tag_layout k new).size → AllSized (learn k new)
 learn_some k new a h tag l e = grind (arith, true, false)
@@ -119,7 +107,7 @@ made_sized tags type l m h e = (layout_some (known tags) (learns_some nothing ta
 
 -- members that are found
 
-placed_whole : (k : Known) (ms : List (List ℕ × PlainType)) (ps : List (ℕ × Layout)) (p : PlainMember → Bool) (m : PlainMember) → MembersWhole k ms
+pub placed_whole : (k : Known) (ms : List (List ℕ × PlainType)) (ps : List (ℕ × Layout)) (p : PlainMember → Bool) (m : PlainMember) → MembersWhole k ms
     → find p (map (λ (x : (List ℕ × PlainType) × (ℕ × Layout)). record { name = x.0.0; type = x.0.1; offset = x.1.0 }) (zip ms ps)) ≡ Some m → Whole k m.type
 placed_whole k [] ps p m h e = cc
 placed_whole k (x ∷ ms) [] p m h e = cc
@@ -132,7 +120,7 @@ placed_whole k (x ∷ ms) (y ∷ ps) p m h e = by (p (record { name = x.0; type 
     by true again q = let same : x.1 ≡ m.type = ap (λ (o : Option PlainMember). (unwrap_or o m).type) q in subst (Whole k) same h.0.0
     by false again q = again q
 
-made_found : (j : Known) (tags : List CompletedTag) (test : CompletedTag → Bool) (done : CompletedTag) → AreMade j tags → find test tags ≡ Some done → MembersWhole (fold learn j tags) done.members
+pub made_found : (j : Known) (tags : List CompletedTag) (test : CompletedTag → Bool) (done : CompletedTag) → AreMade j tags → find test tags ≡ Some done → MembersWhole (fold learn j tags) done.members
 made_found j [] test done m e = cc
 made_found j (t ∷ tags) test done m e = by (test t) (made_found (learn j t) tags test done m.1) e
   where
@@ -141,6 +129,3 @@ made_found j (t ∷ tags) test done m e = by (test t) (made_found (learn j t) ta
         let same : t ≡ done = ap (λ (o : Option CompletedTag). unwrap_or o done) q in
         members_stay done.members j (fold learn (learn j t) tags) (λ tag l h. stays_known (learn j t) tags tag l (learn_extends j t tag l h)) (subst (λ (x : CompletedTag). MembersWhole j x.members) same m.0.1)
     by false again q = again q
-
-pub member_whole : (table : TagTable) (tag : ℕ) (members : List PlainMember) (p : PlainMember → Bool) (m : PlainMember) → AreMade nothing table.completed → members_in table tag ≡ Some members → find p members ≡ Some m → Whole (known table.completed) m.type
-member_whole table tag members p m made e f = grind (arith, option_map, placed_whole, made_found)
