@@ -1,4 +1,4 @@
-#error "not for this machine"
+#include <math.h>
 int main(void) {
   return 0;
 }

@@ -20,7 +20,7 @@ use Rattle.c_lexer.specs.Bytes.{is_space}
 use Rattle.std.specs.List.{list_all, prefix_len}
 use Rattle.c_pre.specs.Groups.{is_live, is_read, is_over, first_line, opened, turned, branched, closed, skipped}
 use Rattle.c_pre.specs.Conditions.{condition_asked}
-use Rattle.c_pre.specs.Directives.{is_name, is_sign, is_among, is_path_byte, path_of, included_name, is_string_kind, names_from, signature_of, with_signature, function_behind, macro_behind, takes_arguments, define_of, include_of, only_name, named_by, alone, directive_by, directive_of}
+use Rattle.c_pre.specs.Directives.{is_name, is_sign, is_among, is_path_byte, path_of, included_name, is_string_kind, names_from, signature_of, with_signature, function_behind, macro_behind, takes_arguments, define_of, include_of, only_name, named_by, alone, is_line_number, line_of, directive_by, directive_of}
 use Rattle.c_pre.specs.Macros.{found, with_entry, same_macro, defined_by, defined}
 use Rattle.c_pre.specs.Expansion.{expanded, fresh, most_work}
 use Rattle.c_pre.specs.Reading.{lexed, rest_lexed, moved, plain, with_expanded, with_run, run_ended, behind_line, at_header, Step, step, with_groups, with_macros, obeyed, of_form, of_tokens, directive_on, directed_from, directed, passed, line_by, line_read, balanced, text_ended}
@@ -36,7 +36,7 @@ use Rattle.c_pre.specs.declared.directive.Naming.TheVariants as naming
 use Rattle.c_pre.specs.declared.directive.Directive.{Directive}
 use Rattle.c_pre.specs.declared.directive.Directive.TheVariants.{Empty, Include, Define, Undefine, Group as GroupOf, If, ElseIf, Else, EndIf}
 use Rattle.c_pre.specs.declared.answer.PreKind.{PreKind}
-use Rattle.c_pre.specs.declared.answer.PreKind.TheVariants.{Redefined}
+use Rattle.c_pre.specs.declared.answer.PreKind.TheVariants.{Redefined, Error}
 use Rattle.c_pre.specs.declared.answer.Refusal.{Refusal}
 use Rattle.c_pre.specs.declared.answer.Refusal.TheVariants.{Bad, Lex, NoMemory}
 use Rattle.c_pre.specs.declared.here.Here.{Here}
@@ -212,6 +212,12 @@ alone_on : (d : Directive) (args : List Token) → OnDirective d → OnOption (a
 alone_on d [] h = h
 alone_on d (token ∷ tokens) h = tt
 
+line_on : (args : List Token) → OnOption (line_of args)
+line_on [] = tt
+line_on (number ∷ []) = pick (is_line_number number) (Some Empty) None tt tt
+line_on (number ∷ name ∷ []) = pick (is_line_number number && is_string_kind name.kind) (Some Empty) None tt tt
+line_on (number ∷ name ∷ other ∷ tokens) = tt
+
 directive_by_formed : (word rest : List ℕ) (args : List Token) → All IsFormed args → OnOption (directive_by word rest args)
 unfolding directive_by
 directive_by_formed word rest args h =
@@ -223,7 +229,8 @@ directive_by_formed word rest args h =
     (pick (bytes_eq word (codes "if")) (Some (If args)) _ h
     (pick (bytes_eq word (codes "elif")) (Some (ElseIf args)) _ h
     (pick (bytes_eq word (codes "else")) _ _ (alone_on Else args tt)
-    (pick (bytes_eq word (codes "endif")) (alone EndIf args) None (alone_on EndIf args tt) tt))))))))
+    (pick (bytes_eq word (codes "endif")) _ _ (alone_on EndIf args tt)
+    (pick (bytes_eq word (codes "line")) (line_of args) None (line_on args) tt)))))))))
 
 directive_formed : (rest : List ℕ) (tokens : List Token) → All IsFormed tokens → OnOption (directive_of rest tokens)
 directive_formed rest [] h = tt
@@ -246,10 +253,15 @@ pragma_by : (b : Bool) (r : Result Directive Refusal) → OnResult r → OnResul
 pragma_by true r h = tt
 pragma_by false r h = h
 
+error_by : (b : Bool) (e : Refusal) (r : Result Directive Refusal) → OnResult r → OnResult (cond b (Err e) r)
+error_by true e r h = tt
+error_by false e r h = h
+
 directive_on_formed : Cuts → (line : ℕ) (rest : List ℕ) → length rest ≤ most_bytes → OnResult (directive_on line rest)
 directive_on_formed cuts line rest low =
-    pragma_by (bytes_eq (first_word rest) (codes "pragma")) (of_tokens line rest (rest_lexed rest))
-    (tokens_formed line (length rest) rest (rest_lexed rest) (rest_by cuts (begins_with 35 (behind_spaces rest)) rest low))
+    pragma_by (bytes_eq (first_word rest) (codes "pragma")) _
+    (error_by (bytes_eq (first_word rest) (codes "error")) (Bad Error line) (of_tokens line rest (rest_lexed rest))
+    (tokens_formed line (length rest) rest (rest_lexed rest) (rest_by cuts (begins_with 35 (behind_spaces rest)) rest low)))
 
 -- the tokens so far and those of the run are no more than this
 abbrev pub Holds : ℕ → ℕ → Here → Progress → Type 0

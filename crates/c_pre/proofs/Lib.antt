@@ -16,3 +16,4 @@ pub mod Ends
 pub mod Unreplaced
 pub mod Keys
 pub mod Trees
+pub mod Joining

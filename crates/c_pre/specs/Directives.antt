@@ -2,7 +2,7 @@
 use Rattle.std.specs.Prelude.{ℕ, ◌-◌, Bool, true, false, not, ◌==◌, ◌||◌, ◌&&◌, bytes_eq, if◌then◌else◌, List, [], ◌∷◌, ◌++◌, length, take, drop, Option, Some, None, option_map, codes}
 use Rattle.std.specs.Borrow.{Bor}
 use Rattle.std.specs.List.{list_all, list_any}
-use Rattle.c_lexer.specs.Bytes.{is_name_byte}
+use Rattle.c_lexer.specs.Bytes.{is_name_byte, is_digit}
 use Rattle.c_lexer.specs.declared.token.Token.{Token}
 use Rattle.c_lexer.specs.declared.token.TokenKind.{TokenKind}
 use Rattle.c_lexer.specs.declared.token.TokenKind.TheVariants.{Keyword, Name, Int, Char, Str, Sign}
@@ -121,6 +121,18 @@ abbrev pub alone : Directive → List Token → Option Directive
 alone directive [] = Some directive
 alone directive (token ∷ tokens) = None
 
+-- a token is decimal digits alone
+abbrev pub is_line_number : Token → Bool
+is_line_number token = list_all is_digit token.bytes
+
+-- a `#line` with these tokens behind it: a number of a line, and the name of a text or none. It is nothing, since what is
+-- said of a line names the text that it stands in (C99 6.10.4)
+abbrev pub line_of : List Token → Option Directive
+line_of [] = None
+line_of (number ∷ []) = if is_line_number number then Some Empty else None
+line_of (number ∷ name ∷ []) = if is_line_number number && is_string_kind name.kind then Some Empty else None
+line_of (number ∷ name ∷ other ∷ tokens) = None
+
 -- the directive of this word, by the tokens behind it and the whole rest of the line
 unfoldable pub directive_by : List ℕ → List ℕ → List Token → Option Directive
 directive_by word rest args =
@@ -132,7 +144,8 @@ directive_by word rest args =
     if bytes_eq word (codes "if") then Some (If args) else
     if bytes_eq word (codes "elif") then Some (ElseIf args) else
     if bytes_eq word (codes "else") then alone Else args else
-    if bytes_eq word (codes "endif") then alone EndIf args else None
+    if bytes_eq word (codes "endif") then alone EndIf args else
+    if bytes_eq word (codes "line") then line_of args else None
 
 -- the directive of a line, by the tokens behind its `#` and that rest of the line itself; nothing is the empty directive
 abbrev pub directive_of : List ℕ → List Token → Option Directive

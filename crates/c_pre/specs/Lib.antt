@@ -13,6 +13,7 @@ pub mod Lines
 pub mod Macros
 pub mod Reading
 pub mod Rows
+pub mod Splices
 pub mod Splitting
 pub mod Taking
 pub mod Steps

@@ -134,10 +134,12 @@ of_tokens line rest (Ok tokens) = of_form line (directive_of rest tokens)
 of_tokens line rest (Err (lex.Bad kind at)) = Err (Lex kind line)
 of_tokens line rest (Err lex.NoMemory) = Err NoMemory
 
--- the directive of a line, by what stands behind its `#`; a `#pragma` is nothing, and its rest is not looked at (C99 6.10.6)
+-- the directive of a line, by what stands behind its `#`; a `#pragma` is nothing and an `#error` is refused, and the rest of
+-- neither is looked at (C99 6.10.5 and 6.10.6)
 abbrev pub directive_on : ℕ → List ℕ → Result Directive Refusal
 directive_on line rest =
-    if bytes_eq (first_word rest) (codes "pragma") then Ok directive.Empty else of_tokens line rest (rest_lexed rest)
+    if bytes_eq (first_word rest) (codes "pragma") then Ok directive.Empty else
+    if bytes_eq (first_word rest) (codes "error") then Err (Bad kind.Error line) else of_tokens line rest (rest_lexed rest)
 
 -- behind a directive that is read, behind the run before it
 abbrev pub directed_from : List ℕ → List ℕ → Here → Progress → Result Step Refusal

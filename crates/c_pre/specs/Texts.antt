@@ -4,6 +4,7 @@ use Rattle.c_lexer.specs.declared.token.Token.{Token}
 use Rattle.c_lexer.specs.declared.token.LexKind.TheVariants.{OpenComment}
 use Rattle.c_pre.specs.Comments.{blanked, open_comment}
 use Rattle.c_pre.specs.Lines.{lines_of}
+use Rattle.c_pre.specs.Splices.{joined, unmarked}
 use Rattle.c_pre.specs.After.{and_then}
 use Rattle.c_pre.specs.Macros.{no_macros}
 use Rattle.c_pre.specs.Reading.{first_of, line_read, text_ended}
@@ -28,9 +29,13 @@ most_bytes = 1048576
 abbrev pub line_count : List ℕ → ℕ
 line_count text = count_by (λ b. b == 10) text + 1
 
+-- the bytes of a text that are read: comments and a byte order mark are spaces, and lines that go on are joined
+abbrev pub plain_of : List ℕ → List ℕ
+plain_of text = joined 0 (lines_of (unmarked (blanked Code text)))
+
 -- a text that is read, behind so many lines of the texts that were opened before
 abbrev pub source : List ℕ → List ℕ → ℕ → Source
-source name text base = record { name = name; text = text; plain = blanked Code text; base = base }
+source name text base = record { name = name; text = text; plain = plain_of text; base = base }
 
 -- a line of a text
 abbrev pub place : Source → ℕ → Place

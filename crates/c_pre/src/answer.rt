@@ -16,6 +16,8 @@ use thiserror::Error;
 pub enum PreKind {
     /// A directive that has none of the forms.
     Directive,
+    /// An `#error` (C99 6.10.5).
+    Error,
     /// An `#if` or `#elif` whose rest is no condition, or one that has no number.
     Condition,
     /// An `#elif`, `#else` or `#endif` without its group, an `#elif` or `#else` behind an `#else`, or a group that the end of its
@@ -38,6 +40,7 @@ impl PreKind {
     {
         match self {
             PreKind::Directive => "bad directive",
+            PreKind::Error => "error",
             PreKind::Condition => "bad condition",
             PreKind::Unbalanced => "unbalanced",
             PreKind::Redefined => "redefined",

@@ -62,7 +62,7 @@ fn behind_quoted(quote: u8, byte: u8) -> Mode
 }
 
 /// Where the byte behind this one stands.
-fn next_mode(mode: Mode, byte: u8, rest: &[u8]) -> Mode
+pub(crate) fn next_mode(mode: Mode, byte: u8, rest: &[u8]) -> Mode
     ensures { result ≡ next_mode mode byte rest.now }
 {
     match mode {

@@ -2,7 +2,8 @@
 
 ghost use Rattle.std.specs.Prelude.{◌≡◌, [], true, option_map, IfOk, IfSome};
 ghost use Rattle.std.specs.List.{list_all};
-ghost use Rattle.c_pre.specs.Directives.{is_name, is_sign, only_name, is_path_byte, path_of, included_name, include_of, takes_arguments, names_from, signature_of, macro_behind, define_of, named_by, bytes_now, alone, directive_by, directive_of};
+ghost use Rattle.c_lexer.specs.Bytes.{is_digit};
+ghost use Rattle.c_pre.specs.Directives.{is_name, is_sign, only_name, is_path_byte, path_of, included_name, include_of, takes_arguments, names_from, signature_of, macro_behind, define_of, named_by, bytes_now, alone, is_line_number, line_of, directive_by, directive_of};
 
 use crate::comments::begins_with;
 use crate::copies::{copied, copied_tokens};
@@ -251,6 +252,34 @@ fn alone(directive: Directive, args: &[Token]) -> Option<Directive>
     }
 }
 
+/// Whether a byte is a decimal digit.
+#[tactic(auto, unfolding(c_lexer::specs::Bytes::is_digit))]
+fn is_digit(byte: u8) -> bool
+    ensures { result ≡ is_digit byte }
+{
+    (b'0'..=b'9').contains(&byte)
+}
+
+/// Whether a token is decimal digits alone.
+fn is_line_number(token: &Token) -> bool
+    ensures { result ≡ is_line_number token.now }
+{
+    token.bytes.as_slice().iter().all(|byte| is_digit(*byte))
+}
+
+/// Reads what stands behind `line`: a number, and the name of a text or none.
+fn line_of(args: &[Token]) -> Option<Directive>
+    ensures { result ≡ line_of args.now }
+{
+    match args {
+        [number] if is_line_number(number) => Some(Directive::Empty),
+        [number, name] if is_line_number(number) && name.kind == TokenKind::Str => {
+            Some(Directive::Empty)
+        }
+        _ => None,
+    }
+}
+
 /// Reads the directive of this word, by the tokens behind it and the whole rest of the line.
 #[tactic(auto, unfolding(crate::specs::Directives::directive_by))]
 fn read_by_word(
@@ -279,6 +308,8 @@ fn read_by_word(
         Ok(alone(Directive::Else, args))
     } else if word == b"endif".as_slice() {
         Ok(alone(Directive::EndIf, args))
+    } else if word == b"line".as_slice() {
+        Ok(line_of(args))
     } else {
         Ok(None)
     }

@@ -35,6 +35,7 @@ mod queue;
 mod rest;
 mod row;
 mod scan;
+mod splices;
 mod stack;
 mod substitute;
 mod text_name;

@@ -33,7 +33,7 @@ fn visible_length(text: &[u8]) -> usize
 }
 
 /// How many bytes the first line of a text has, with its byte 10.
-pub(crate) fn line_length(text: &[u8]) -> usize
+fn line_length(text: &[u8]) -> usize
     ensures count { result ≡ line_length text.now }
     ensures bound { result ≤ length text.now }
     ensures some { 0 < length text.now → 0 < result }
@@ -44,6 +44,16 @@ pub(crate) fn line_length(text: &[u8]) -> usize
     } else {
         visible
     }
+}
+
+/// The first line of a text, with its byte 10.
+pub(crate) fn first_line(text: &[u8]) -> &[u8]
+    ensures line { result.now ≡ take (line_length text.now) text.now }
+    ensures len { length result.now ≡ line_length text.now }
+    ensures bound { length result.now ≤ length text.now }
+    ensures some { 0 < length text.now → 0 < length result.now }
+{
+    &text[..line_length(text)]
 }
 
 /// A text without the white space at its front.

@@ -1,8 +1,7 @@
 //! Texts, and the texts that they include.
 
-ghost use Rattle.std.specs.Prelude.{◌≡◌, ℕ, ◌+◌, ◌*◌, ◌<◌, ◌≤◌, ◌^◌, List, Some, length, take, All, IfOk, IfErr, OnOk};
+ghost use Rattle.std.specs.Prelude.{◌≡◌, ℕ, ◌+◌, ◌*◌, ◌<◌, ◌≤◌, ◌^◌, List, Some, length, All, IfOk, IfErr, OnOk};
 ghost use Rattle.c_pre.specs.Formed.{IsFormed, Formed};
-ghost use Rattle.c_pre.specs.Lines.{line_length};
 ghost use Rattle.c_pre.specs.Texts.{most_bytes, line_count, refused, with_text, opened};
 ghost use Rattle.c_pre.specs.Answering.{Gives, EntersTold, ComesTold, GivesBehind, GivesTold, CountsFault, FailsAt, FailsBelow};
 ghost use Rattle.c_pre.specs.Bounds.{Adds, Opens, Grows, Lengthens, most_tokens};
@@ -11,9 +10,10 @@ use crate::answer::{Opened, Place, Pre, PreError, PreKind, Refusal, Sources};
 use crate::comments::{blanked, open_comment};
 use crate::copies::copied;
 use crate::here::Here;
-use crate::lines::line_length;
+use crate::lines::first_line;
 use crate::macros::Macros;
 use crate::progress::Progress;
+use crate::splices::{joined, unmark};
 use crate::text_name::TextName;
 use c_lexer::{LexKind, Token, pieces_are_the_cut};
 use hs_base::{Items, Line, NoMemory, ReadError, Texts, read_all};
@@ -31,7 +31,7 @@ pub(crate) struct Source {
     name: Items<u8>,
     /// Its bytes as they were read.
     text: Items<u8>,
-    /// Its bytes with spaces in place of comments.
+    /// Its bytes with spaces in place of comments, and its lines joined where they go on.
     plain: Items<u8>,
     /// The number of lines of the texts that were opened before.
     base: Line,
@@ -57,16 +57,6 @@ impl Source {
     }
 }
 
-/// The first line of a text, with its byte 10.
-fn first_line(text: &[u8]) -> &[u8]
-    ensures line { result.now ≡ take (line_length text.now) text.now }
-    ensures len { length result.now ≡ line_length text.now }
-    ensures bound { length result.now ≤ length text.now }
-    ensures some { 0 < length text.now → 0 < length result.now }
-{
-    &text[..line_length(text)]
-}
-
 /// How many lines a text has: one more than its bytes 10.
 fn line_count(text: &[u8]) -> Line
     requires { length text.now ≤ most_bytes }
@@ -76,7 +66,7 @@ fn line_count(text: &[u8]) -> Line
     text.iter().filter(|byte| **byte == b'\n').count() as Line + 1
 }
 
-/// Opens a text: its comments become spaces.
+/// Opens a text: its comments become spaces, and lines that go on are joined.
 #[tactic(auto, unfolding(crate::specs::Texts::opened))]
 fn open_source(
     alloc: Global,
@@ -91,7 +81,9 @@ fn open_source(
     ensures len { IfOk result (λ s. (length s.plain ≡ length text) × (s.base ≡ base)) }
 {
     let comment = open_comment(text.as_slice());
-    let plain = Items::from(blanked(alloc, text.as_slice())?);
+    let mut blank = blanked(alloc, text.as_slice())?;
+    unmark(&mut blank);
+    let plain = Items::from(joined(alloc, blank.as_slice())?);
     let source = Source {
         name,
         text,

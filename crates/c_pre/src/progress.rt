@@ -66,8 +66,15 @@ fn find_directive(alloc: Global, line: Line, rest: &[u8]) -> Result<Directive, R
     requires { length rest.now < 2 ^ 32 }
     ensures { Answers (directive_on line rest.now) result }
 {
-    if first_word(rest) == b"pragma".as_slice() {
+    let word = first_word(rest);
+    if word == b"pragma".as_slice() {
         return Ok(Directive::Empty);
+    }
+    if word == b"error".as_slice() {
+        return Err(Refusal::Bad {
+            kind: PreKind::Error,
+            line,
+        });
     }
     let tokens = match read_rest(alloc, rest) {
         Ok(tokens) => tokens,

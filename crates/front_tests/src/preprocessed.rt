@@ -134,11 +134,59 @@ fn nested_groups(rt: HostRuntime) -> Result<(), Fail> {
     agree(&rt, rt.alloc(), &NESTED_GROUPS)
 }
 
+/// Lines that a backslash joins with the next one (C99 5.1.1.2), and a byte order mark.
+static SPLICES: [(&str, &str); 8] = [
+    ("#define A \\\n  1\nA\n", "3:1 | a.c:0 |"),
+    ("#define A(x) x; \\\n\\\n", "bad byte a.c:1"),
+    ("#define A(x) x +\\\n x\nA(2)\n", "3:2 3:+ 3:2 | a.c:0 |"),
+    ("#define A(x) {\\\nx;\\\n}\nA(2)\n", "4:{ 4:2 4:; 4:} | a.c:0 |"),
+    ("x \\\n y\nz\n", "1:x 1:y 3:z | a.c:0 |"),
+    ("// x \\\ny\n", "2:y | a.c:0 |"),
+    ("#ifdef A\n it \\\n#endif\ny\n", "4:y | a.c:0 |"),
+    ("\u{FEFF}#define A 1\nA\n", "2:1 | a.c:0 |"),
+];
+
+#[test]
+fn splices(rt: HostRuntime) -> Result<(), Fail> {
+    agree(&rt, rt.alloc(), &SPLICES)
+}
+
+/// Backslashes that join nothing: a token would stand on both lines, a directive or nothing follows, or they stand in a literal.
+static NO_SPLICES: [(&str, &str); 7] = [
+    ("x\\\ny\n", "bad byte a.c:1"),
+    ("y\nx +\\\n+ y\n", "bad byte a.c:2"),
+    ("x \\\n#define A\n", "bad byte a.c:1"),
+    ("x \\\n", "bad byte a.c:1"),
+    ("x \\", "bad byte a.c:1"),
+    ("#ifdef A\n# \\\nendif\n#endif\ny\n", "5:y | a.c:0 |"),
+    ("\"a \\\n b\"\n", "literal a.c:1"),
+];
+
+#[test]
+fn no_splices(rt: HostRuntime) -> Result<(), Fail> {
+    agree(&rt, rt.alloc(), &NO_SPLICES)
+}
+
+/// Lines of errors, and what says where a line comes from (C99 6.10.4 and 6.10.5).
+static LINES_AND_ERRORS: [(&str, &str); 8] = [
+    ("#error no\n", "error a.c:1"),
+    ("x\n# error don't\n", "error a.c:2"),
+    ("#ifdef A\n#error no\n#endif\ny\n", "4:y | a.c:0 |"),
+    ("#line 7\nx\n", "2:x | a.c:0 |"),
+    ("#line 7 \"b.y\"\nx\n", "2:x | a.c:0 |"),
+    ("#line\n", "bad directive a.c:1"),
+    ("#line 0x7\n", "bad directive a.c:1"),
+    ("#line 7 b\n", "bad directive a.c:1"),
+];
+
+#[test]
+fn lines_and_errors(rt: HostRuntime) -> Result<(), Fail> {
+    agree(&rt, rt.alloc(), &LINES_AND_ERRORS)
+}
+
 /// Directives of no form.
-static BAD_DIRECTIVES: [(&str, &str); 9] = [
+static BAD_DIRECTIVES: [(&str, &str); 7] = [
     // Directives of no form.
-    ("#line 1\n", "bad directive a.c:1"),
-    ("#error no\n", "bad directive a.c:1"),
     ("#ifdef\n#endif\n", "bad directive a.c:1"),
     ("#ifdef A B\n#endif\n", "bad directive a.c:1"),
     ("#ifdef A\n#endif A\n", "bad directive a.c:2"),
