@@ -37,7 +37,7 @@ int main(void) {
 }
 """
 
-EXPLAINED = (b"    help: ", b"    limit: ")
+EXPLAINED = (b"    freed: ", b"    help: ", b"    limit: ")
 REFUSALS = {136: b"bad code", 137: b"unverified"}
 
 

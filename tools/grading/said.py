@@ -9,6 +9,7 @@ MEMBERS = {
     "line": int | None,
     "source": str | None,
     "holder": dict | None,
+    "freed": dict | None,
     "help": str | None,
     "limit": dict | None,
     "leaks": list,
@@ -41,6 +42,13 @@ def holder_words(holder: dict) -> str:
     return words + (f" at {holder['offset']}" if holder.get("offset") is not None else "")
 
 
+def freed_words(freed: dict) -> str:
+    """The block that was freed, as `freed: block of line 4, 12 bytes`, or of how many it is one."""
+    if freed.get("line") is not None:
+        return f"freed: block of line {freed['line']}, {freed.get('bytes')} bytes"
+    return f"freed: one of {freed.get('blocks')} blocks, {freed.get('bytes')} bytes together"
+
+
 def leak_words(leak: dict) -> str:
     return f"leak: line {leak.get('line')}: {leak.get('blocks')} blocks, {leak.get('bytes')} bytes"
 
@@ -55,6 +63,7 @@ def plain(value: object) -> str:
 def further(report: dict) -> list[str]:
     """What HeapSafe says behind its first line and the source line."""
     told = [holder_words(report["holder"])] if report["holder"] else []
+    told += [freed_words(report["freed"])] if report["freed"] else []
     told += [f"{name}: {plain(value)}" for name, value in report.items() if name not in MEMBERS and value not in (None, [], {}, "")]
     told += [f"help: {report['help']}"] if report["help"] else []
     if limit := report["limit"]:

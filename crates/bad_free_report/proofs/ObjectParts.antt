@@ -5,7 +5,7 @@ use Rattle.std.proofs.lemmas.List.{append-nil}
 use Rattle.hs_base.specs.declared.ends.Leak.{Leak}
 use Rattle.bad_free_report.specs.declared.form.Form.TheVariants as form
 use Rattle.bad_free_report.specs.Json.{Truth, comma_if, items_of, items_written, number_or_null, quoted, text_or_null, written}
-use Rattle.bad_free_report.specs.Notice.{Facts, end_lines, facts_of, leak_json, limit_json, object_line, place_json}
+use Rattle.bad_free_report.specs.Notice.{Facts, end_lines, facts_of, freed_json, leak_json, limit_json, object_line, place_json}
 use Rattle.bad_free_report.specs.Parts.{AreParts, front, leaks_said}
 use Rattle.bad_free_report.specs.Report.{leak_text}
 
@@ -24,19 +24,19 @@ leak_items later (leak ∷ rest) =
     ∙ sym (append_assoc (comma_if later ++ one) (leaks_said form.Json true rest) (codes "]"))
 
 -- the members of an object, one behind the other: what stands before each value, the values, and how it ends
-members : (a b c d e f g h i j k kind word status own file line source holder help limit leaks items bracket closing brace feed : List ℕ) → items ≡ leaks ++ closing
-    → (a ++ (kind ++ (b ++ (word ++ (c ++ (status ++ (d ++ (own ++ (e ++ (file ++ (f ++ (line ++ (g ++ (source ++ (h ++ (holder ++ (i ++ (help ++ (j ++ (limit ++ (k ++ ((bracket ++ items) ++ brace)))))))))))))))))))))) ++ feed
+members : (a b c d e f g h m i j k kind word status own file line source holder freed help limit leaks items bracket closing brace feed : List ℕ) → items ≡ leaks ++ closing
+    → (a ++ (kind ++ (b ++ (word ++ (c ++ (status ++ (d ++ (own ++ (e ++ (file ++ (f ++ (line ++ (g ++ (source ++ (h ++ (holder ++ (m ++ (freed ++ (i ++ (help ++ (j ++ (limit ++ (k ++ ((bracket ++ items) ++ brace)))))))))))))))))))))))) ++ feed
     ≡ ((a ++ (kind ++ (b ++ (word ++ (c ++ (status ++ (d ++ (own ++ (e ++ (file ++ (f ++ (line ++ (g ++ (source ++ h))))))))))))))
-    ++ ((holder ++ i) ++ ((help ++ j) ++ (limit ++ (k ++ bracket)))))
+    ++ ((holder ++ m) ++ ((freed ++ i) ++ ((help ++ j) ++ (limit ++ (k ++ bracket))))))
     ++ (leaks ++ (closing ++ (brace ++ feed)))
-members a b c d e f g h i j k kind word status own file line source holder help limit leaks items bracket closing brace feed same =
+members a b c d e f g h m i j k kind word status own file line source holder freed help limit leaks items bracket closing brace feed same =
     rw same (simp append_assoc)
 
 pub object_parts : (f : Facts) (leaks : List Leak) → object_line f leaks ≡ front f ++ (leaks_said form.Json false leaks ++ codes "]}\n")
 object_parts f leaks =
     members (codes "{\"kind\":") (codes ",\"word\":") (codes ",\"status\":") (codes ",\"own\":") (codes ",\"file\":") (codes ",\"line\":") (codes ",\"source\":")
-    (codes ",\"holder\":") (codes ",\"help\":") (codes ",\"limit\":") (codes ",\"leaks\":") (quoted f.kind) (written (text_or_null f.word)) (decimal f.status) (written (Truth f.own)) (written (text_or_null f.file))
-    (written (number_or_null f.line)) (written (text_or_null f.source)) (written (place_json f.holder)) (written (text_or_null f.help))
+    (codes ",\"holder\":") (codes ",\"freed\":") (codes ",\"help\":") (codes ",\"limit\":") (codes ",\"leaks\":") (quoted f.kind) (written (text_or_null f.word)) (decimal f.status) (written (Truth f.own)) (written (text_or_null f.file))
+    (written (number_or_null f.line)) (written (text_or_null f.source)) (written (place_json f.holder)) (written (freed_json f.freed)) (written (text_or_null f.help))
     (written (limit_json f.limit)) (leaks_said form.Json false leaks) (items_written false (items_of (map leak_json leaks)))
     (codes "[") (codes "]") (codes "}") (codes "\n") (leak_items false leaks)
 

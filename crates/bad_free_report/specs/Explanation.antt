@@ -1,4 +1,4 @@
--- The lines that explain how a run ended, behind those of its report: what to mend, and the limit that was in force.
+-- The lines that explain how a run ended, behind those of its report: what was freed, what to mend, and the limit that was in force.
 use Rattle.std.specs.Prelude.{List, [], ◌++◌, ℕ, Option, Some, None, codes, decimal}
 use Rattle.hs_base.specs.declared.ends.TrapKind.{TrapKind}
 use Rattle.hs_base.specs.declared.ends.TrapKind.TheVariants.{Null, Bounds, Align, Layout, Range, Objects, Divide, Shift, Abort}
@@ -8,7 +8,9 @@ use Rattle.hs_base.specs.declared.ends.Holder.{Holder}
 use Rattle.hs_base.specs.declared.ends.Holder.TheVariants.{Global, Memory, Block, Register}
 use Rattle.hs_base.specs.declared.ends.End.{End}
 use Rattle.hs_base.specs.declared.ends.End.TheVariants.{Exit, Trap, BadFree, Escape, Spent, OutOfStack, InputFault, OutputFault}
+use Rattle.bad_free_report.specs.declared.explanation.Freed.{Freed}
 use Rattle.bad_free_report.specs.declared.explanation.InForce.{InForce}
+use Rattle.bad_free_report.specs.declared.explanation.Known.{Known}
 
 -- the line that says what to mend
 abbrev pub help_line : List ℕ → List ℕ
@@ -58,23 +60,50 @@ steps_help = codes "look for a loop or a recursion that does not end, or allow m
 abbrev pub stack_help : List ℕ
 stack_help = codes "look for a recursion that does not end, take large arrays from malloc, or allow more stack"
 
+-- the line that says which block was freed, where it is one, and of which it is one, where they are several
+abbrev pub freed_block : ℕ → ℕ → List ℕ
+freed_block line bytes =
+    codes "    freed: block of line " ++ (decimal line ++ (codes ", " ++ (decimal bytes ++ codes " bytes\n")))
+
+abbrev pub freed_one_of : ℕ → ℕ → List ℕ
+freed_one_of blocks bytes =
+    codes "    freed: one of " ++ (decimal blocks ++ (codes " blocks, " ++ (decimal bytes ++ codes " bytes together\n")))
+
+abbrev pub freed_line : Option ℕ → Freed → List ℕ
+freed_line (Some line) freed = freed_block line freed.bytes
+freed_line None freed = freed_one_of freed.blocks freed.bytes
+
+abbrev pub freed_lines : Option Freed → List ℕ
+freed_lines None = []
+freed_lines (Some freed) = freed_line freed.line freed
+
+-- what was freed, and what to mend
+abbrev pub bad_free_lines : Option Freed → List ℕ → List ℕ
+bad_free_lines freed words = freed_lines freed ++ help_line words
+
+-- what to mend, and the limit that was in force
+abbrev pub spent_lines : InForce → List ℕ
+spent_lines limits = help_line steps_help ++ limit_line limits.steps (codes " steps, raised by --steps")
+
+abbrev pub stack_lines : InForce → List ℕ
+stack_lines limits = help_line stack_help ++ limit_line limits.stack (codes " bytes of stack, raised by --stack")
+
 -- the lines for each kind of end; none of an exit, and none where the input or the output failed, since nothing of the program is
 -- to be mended
-abbrev pub explained : InForce → End → List ℕ
-explained limits (Exit code) = []
-explained limits (Trap kind line) = help_line (trap_help kind)
-explained limits (BadFree free holder) = help_line (free_help free.reason holder)
-explained limits (Escape f index line) = help_line escape_help
-explained limits Spent = help_line steps_help ++ limit_line limits.steps (codes " steps, raised by --steps")
-explained limits (OutOfStack line) =
-    help_line stack_help ++ limit_line limits.stack (codes " bytes of stack, raised by --stack")
-explained limits InputFault = []
-explained limits OutputFault = []
+abbrev pub explained : Known → End → List ℕ
+explained known (Exit code) = []
+explained known (Trap kind line) = help_line (trap_help kind)
+explained known (BadFree free holder) = bad_free_lines known.freed (free_help free.reason holder)
+explained known (Escape f index line) = help_line escape_help
+explained known Spent = spent_lines known.limits
+explained known (OutOfStack line) = stack_lines known.limits
+explained known InputFault = []
+explained known OutputFault = []
 
 -- the lines, where they are asked for
-abbrev pub explanation : End → Option InForce → List ℕ
+abbrev pub explanation : End → Option Known → List ℕ
 explanation (Exit code) asked = []
 explanation InputFault asked = []
 explanation OutputFault asked = []
 explanation e None = []
-explanation e (Some limits) = explained limits e
+explanation e (Some known) = explained known e

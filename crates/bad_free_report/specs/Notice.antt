@@ -11,7 +11,9 @@ use Rattle.hs_base.specs.declared.ends.End.TheVariants.{Exit, Trap, BadFree, Esc
 use Rattle.core_tree.specs.declared.program.Core.{Core}
 use Rattle.bad_free_report.specs.declared.form.Form.{Form}
 use Rattle.bad_free_report.specs.declared.form.Form.TheVariants as form
+use Rattle.bad_free_report.specs.declared.explanation.Freed.{Freed}
 use Rattle.bad_free_report.specs.declared.explanation.InForce.{InForce}
+use Rattle.bad_free_report.specs.declared.explanation.Known.{Known}
 use Rattle.bad_free_report.specs.Explanation.{escape_help, explanation, free_help, stack_help, steps_help, trap_help}
 use Rattle.bad_free_report.specs.Json.{Json, Null, Truth, Number, Text, Array, Object, items_of, members_of, number_or_null, text_or_null, written}
 use Rattle.bad_free_report.specs.Report.{complaint, complaint_at, end_report, func_name, leak_text, local_name, reason_words, register_name, shown_part, static_name, trap_word, whole_line}
@@ -21,13 +23,13 @@ pub record Spot : Type 0 where
   pub line : ℕ
   pub text : List ℕ
 
--- how a program ended that has this core: its end, with the name and the bytes of the text in which its line stands; and the limits
--- that were in force, where it is to be explained
+-- how a program ended that has this core: its end, with the name and the bytes of the text in which its line stands; and what is
+-- known of its run, where it is to be explained
 pub record Ending : Type 0 where
   pub core : Core
   pub name : List ℕ
   pub text : List ℕ
-  pub limits : Option InForce
+  pub known : Option Known
   pub how : End
 
 -- nothing; a refusal or a failure: what it is, perhaps with a word for why, perhaps of a file and at a line of it, and its status; or
@@ -54,7 +56,7 @@ refusal_lines name words (Some spot) = complaint_at name spot.line words spot.te
 
 -- by lines: behind the report of an end stands what explains it, and then a line for each leak
 abbrev pub end_lines : Ending → List ℕ
-end_lines e = end_report e.core e.name e.text e.how ++ explanation e.how e.limits
+end_lines e = end_report e.core e.name e.text e.how ++ explanation e.how e.known
 
 abbrev pub lines : Notice → List ℕ
 lines Nothing = []
@@ -86,6 +88,7 @@ pub record Facts : Type 0 where
   pub line : Option ℕ
   pub source : Option (List ℕ)
   pub holder : Option Place
+  pub freed : Option Freed
   pub help : Option (List ℕ)
   pub limit : Option Limit
 
@@ -155,6 +158,11 @@ abbrev pub holder_of : Core → End → Option Place
 holder_of core (BadFree free holder) = first_place core free.reason holder
 holder_of core e = None
 
+-- what was freed at a bad free, where that is known
+abbrev pub freed_of : Option Known → End → Option Freed
+freed_of known (BadFree free holder) = option_and_then (λ (k : Known). k.freed) known
+freed_of known e = None
+
 -- what to mend
 abbrev pub help_of : End → Option (List ℕ)
 help_of (Trap kind line) = Some (trap_help kind)
@@ -181,8 +189,9 @@ facts_of e status = record {
   line = line_of e.how;
   source = source_of e.text (line_of e.how);
   holder = holder_of e.core e.how;
+  freed = freed_of e.known e.how;
   help = help_of e.how;
-  limit = option_and_then (λ limits. limit_of limits e.how) e.limits;
+  limit = option_and_then (λ (known : Known). limit_of known.limits e.how) e.known;
 }
 
 -- what it says of a refusal
@@ -202,6 +211,7 @@ refusal_facts kind word file spot status = record {
   line = spot_line spot;
   source = spot_source spot;
   holder = None;
+  freed = None;
   help = None;
   limit = None;
 }
@@ -215,6 +225,16 @@ place_json (Some place) =
     ∷ (codes "function", text_or_null place.func)
     ∷ (codes "line", number_or_null place.line)
     ∷ (codes "offset", number_or_null place.offset)
+    ∷ []
+    ))
+
+abbrev pub freed_json : Option Freed → Json
+freed_json None = Null
+freed_json (Some freed) =
+    Object (members_of (
+    (codes "blocks", Number freed.blocks)
+    ∷ (codes "bytes", Number freed.bytes)
+    ∷ (codes "line", number_or_null freed.line)
     ∷ []
     ))
 
@@ -249,6 +269,7 @@ object f leaks =
     ∷ (codes "line", number_or_null f.line)
     ∷ (codes "source", text_or_null f.source)
     ∷ (codes "holder", place_json f.holder)
+    ∷ (codes "freed", freed_json f.freed)
     ∷ (codes "help", text_or_null f.help)
     ∷ (codes "limit", limit_json f.limit)
     ∷ (codes "leaks", Array (items_of (map leak_json leaks)))

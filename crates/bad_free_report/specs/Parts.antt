@@ -1,10 +1,11 @@
 -- What is said of an end in three parts: before its leaks, each leak, and behind them.
 use Rattle.std.specs.Prelude.{◌≡◌, ℕ, Bool, true, false, List, [], ◌∷◌, ◌++◌, Option, codes, decimal}
 use Rattle.hs_base.specs.declared.ends.Leak.{Leak}
+use Rattle.bad_free_report.specs.declared.explanation.Freed.{Freed}
 use Rattle.bad_free_report.specs.declared.form.Form.{Form}
 use Rattle.bad_free_report.specs.declared.form.Form.TheVariants as form
 use Rattle.bad_free_report.specs.Json.{Truth, comma_if, number_or_null, quoted, text_or_null, written}
-use Rattle.bad_free_report.specs.Notice.{Ended, Ending, Facts, Limit, Place, end_lines, facts_of, leak_json, limit_json, place_json, said}
+use Rattle.bad_free_report.specs.Notice.{Ended, Ending, Facts, Limit, Place, end_lines, facts_of, freed_json, leak_json, limit_json, place_json, said}
 use Rattle.bad_free_report.specs.Report.{leak_text}
 
 -- the members of an object that say what happened and where, up to the first holder
@@ -19,9 +20,12 @@ members_before f =
     ++ (codes ",\"source\":" ++ (written (text_or_null f.source)
     ++ codes ",\"holder\":")))))))))))))
 
--- that holder, what to mend, and the limit, each up to what follows
+-- that holder, what was freed, what to mend, and the limit, each up to what follows
 abbrev pub place_text : Option Place → List ℕ
-place_text place = written (place_json place) ++ codes ",\"help\":"
+place_text place = written (place_json place) ++ codes ",\"freed\":"
+
+abbrev pub freed_text : Option Freed → List ℕ
+freed_text freed = written (freed_json freed) ++ codes ",\"help\":"
 
 abbrev pub help_text : Option (List ℕ) → List ℕ
 help_text help = written (text_or_null help) ++ codes ",\"limit\":"
@@ -31,7 +35,8 @@ limit_text limit = written (limit_json limit) ++ codes ",\"leaks\":["
 
 -- an object up to its leaks
 abbrev pub front : Facts → List ℕ
-front f = members_before f ++ (place_text f.holder ++ (help_text f.help ++ limit_text f.limit))
+front f =
+    members_before f ++ (place_text f.holder ++ (freed_text f.freed ++ (help_text f.help ++ limit_text f.limit)))
 
 abbrev pub before_leaks : Form → Ending → ℕ → List ℕ
 before_leaks form.Lines e status = end_lines e

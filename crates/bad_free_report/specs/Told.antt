@@ -13,7 +13,7 @@ abbrev pub told_spot : Spot → notice.Spot
 told_spot spot = record { line = spot.line; text = spot.text.now }
 
 abbrev pub ending_of : Ending → notice.Ending
-ending_of e = record { core = e.core.now; name = e.name.now; text = e.text.now; limits = e.limits; how = e.how }
+ending_of e = record { core = e.core.now; name = e.name.now; text = e.text.now; known = e.known; how = e.how }
 
 abbrev pub refused_of : code.Refused → Notice
 refused_of r =
@@ -39,6 +39,7 @@ told_facts f = record {
   line = f.line;
   source = option_copied f.source;
   holder = option_map told_place f.holder;
+  freed = f.freed;
   help = option_copied f.help;
   limit = option_map told_limit f.limit;
 }

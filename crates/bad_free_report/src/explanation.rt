@@ -2,11 +2,11 @@
 
 ghost use Rattle.std.specs.Prelude.{◌≡◌, ◌+◌, ◌<◌, ◌^◌};
 ghost use Rattle.hs_base.specs.Outside.{CountsFaults};
-ghost use Rattle.bad_free_report.specs.Explanation.{explained, explanation, free_help, help_line, holder_help, limit_line, trap_help};
+ghost use Rattle.bad_free_report.specs.Explanation.{bad_free_lines, explanation, free_help, freed_block, freed_line, freed_lines, freed_one_of, help_line, holder_help, limit_line, spent_lines, stack_lines, trap_help};
 ghost use Rattle.bad_free_report.specs.Putting.{Puts};
 
 use crate::parts::put_parts;
-use hs_base::{End, Failed, Holder, Reason, Sink, TrapKind};
+use hs_base::{End, Failed, Holder, Line, Reason, Sink, TrapKind};
 use itoa::Buffer;
 
 /// What to mend at an escape.
@@ -26,6 +26,22 @@ pub(crate) const STACK_HELP: &[u8] =
 pub struct InForce {
     pub steps: u64,
     pub stack: u32,
+}
+
+/// The block of the heap that was freed, or several of which it is one: how many they are, the sum of their sizes in bytes, and the
+/// line that made it, where it is one.
+#[derive(Clone, Copy)]
+pub struct Freed {
+    pub blocks: u32,
+    pub bytes: u64,
+    pub line: Option<Line>,
+}
+
+/// What is known of a run, by which its end is explained: the limits that it was under and, at a bad free, what was freed.
+#[derive(Clone, Copy)]
+pub struct Known {
+    pub limits: InForce,
+    pub freed: Option<Freed>,
 }
 
 /// What to mend where an object is held.
@@ -85,6 +101,82 @@ fn put_help<E: Sink>(err: &mut E, words: &[u8]) -> Result<(), Failed>
     put_parts(err, &[b"    help: ", words, b"\n"])
 }
 
+/// Writes the line that says which block was freed, where it is one.
+fn put_one_freed<E: Sink>(err: &mut E, line: Line, bytes: u64) -> Result<(), Failed>
+    requires { E.faults err.old + 1 < 2 ^ 64 }
+    ensures bytes { Puts E.Sink err.old err.new (freed_block line bytes) result }
+    ensures cause { CountsFaults (E.faults err.old) (E.faults err.new) result }
+{
+    let (mut line_digits, mut byte_digits) = (Buffer::new(), Buffer::new());
+    let line = line_digits.format(line).as_bytes();
+    let bytes = byte_digits.format(bytes).as_bytes();
+    put_parts(
+        err,
+        &[
+            b"    freed: block of line ",
+            line,
+            b", ",
+            bytes,
+            b" bytes\n",
+        ],
+    )
+}
+
+/// Writes the line that says of which blocks one was freed.
+fn put_some_freed<E: Sink>(err: &mut E, blocks: u32, bytes: u64) -> Result<(), Failed>
+    requires { E.faults err.old + 1 < 2 ^ 64 }
+    ensures bytes { Puts E.Sink err.old err.new (freed_one_of blocks bytes) result }
+    ensures cause { CountsFaults (E.faults err.old) (E.faults err.new) result }
+{
+    let (mut block_digits, mut byte_digits) = (Buffer::new(), Buffer::new());
+    let blocks = block_digits.format(blocks).as_bytes();
+    let bytes = byte_digits.format(bytes).as_bytes();
+    put_parts(
+        err,
+        &[
+            b"    freed: one of ",
+            blocks,
+            b" blocks, ",
+            bytes,
+            b" bytes together\n",
+        ],
+    )
+}
+
+/// Writes the line that says what was freed.
+fn put_freed_line<E: Sink>(err: &mut E, freed: Freed) -> Result<(), Failed>
+    requires { E.faults err.old + 1 < 2 ^ 64 }
+    ensures bytes { Puts E.Sink err.old err.new (freed_line freed.line freed) result }
+    ensures cause { CountsFaults (E.faults err.old) (E.faults err.new) result }
+{
+    match freed.line {
+        Some(line) => put_one_freed(err, line, freed.bytes),
+        None => put_some_freed(err, freed.blocks, freed.bytes),
+    }
+}
+
+/// Writes the line that says what was freed, where that is known.
+fn put_freed<E: Sink>(err: &mut E, freed: Option<Freed>) -> Result<(), Failed>
+    requires { E.faults err.old + 1 < 2 ^ 64 }
+    ensures bytes { Puts E.Sink err.old err.new (freed_lines freed) result }
+    ensures cause { CountsFaults (E.faults err.old) (E.faults err.new) result }
+{
+    match freed {
+        Some(freed) => put_freed_line(err, freed),
+        None => Ok(()),
+    }
+}
+
+/// Writes what was freed, and what to mend at a bad free.
+fn put_bad_free<E: Sink>(err: &mut E, freed: Option<Freed>, words: &[u8]) -> Result<(), Failed>
+    requires { E.faults err.old + 1 < 2 ^ 64 }
+    ensures bytes { Puts E.Sink err.old err.new (bad_free_lines freed words.now) result }
+    ensures cause { CountsFaults (E.faults err.old) (E.faults err.new) result }
+{
+    put_freed(err, freed)?;
+    put_help(err, words)
+}
+
 /// Writes the line that says a limit, and what raises it.
 fn put_limit<E: Sink>(err: &mut E, limit: u64, words: &[u8]) -> Result<(), Failed>
     requires { E.faults err.old + 1 < 2 ^ 64 }
@@ -99,7 +191,7 @@ fn put_limit<E: Sink>(err: &mut E, limit: u64, words: &[u8]) -> Result<(), Faile
 /// Writes what to mend where a run made all of its steps.
 fn put_spent<E: Sink>(err: &mut E, limits: InForce) -> Result<(), Failed>
     requires { E.faults err.old + 1 < 2 ^ 64 }
-    ensures bytes { Puts E.Sink err.old err.new (explained limits End.Spent) result }
+    ensures bytes { Puts E.Sink err.old err.new (spent_lines limits) result }
     ensures cause { CountsFaults (E.faults err.old) (E.faults err.new) result }
 {
     put_help(err, STEPS_HELP)?;
@@ -109,7 +201,7 @@ fn put_spent<E: Sink>(err: &mut E, limits: InForce) -> Result<(), Failed>
 /// Writes what to mend where the stack had no room for a call.
 fn put_out_of_stack<E: Sink>(err: &mut E, limits: InForce) -> Result<(), Failed>
     requires { E.faults err.old + 1 < 2 ^ 64 }
-    ensures bytes { Puts E.Sink err.old err.new (explained limits (End.OutOfStack 0)) result }
+    ensures bytes { Puts E.Sink err.old err.new (stack_lines limits) result }
     ensures cause { CountsFaults (E.faults err.old) (E.faults err.new) result }
 {
     put_help(err, STACK_HELP)?;
@@ -120,24 +212,26 @@ fn put_out_of_stack<E: Sink>(err: &mut E, limits: InForce) -> Result<(), Failed>
     )
 }
 
-/// Writes the lines that explain how a run ended, where its limits are given, since they are asked for; each begins with four
-/// spaces. One says what to mend, and behind a want of stack and the end of the steps another the limit that was in force and
-/// the option that raises it. Of an exit nothing is written, nor where the input or the output failed. After a failure, which is
-/// the last call on the sink, a prefix was taken.
-pub(crate) fn explain<E: Sink>(end: &End, asked: Option<InForce>, err: &mut E) -> Result<(), Failed>
+/// Writes the lines that explain how a run ended, where what is known of it is given, since they are asked for; each begins with four
+/// spaces. One says what to mend. Before it stands at a bad free what was freed, and behind it, where the stack or the steps were used
+/// up, the limit that was in force and the option that raises it. Of an exit nothing is written, nor where the input or the output
+/// failed. After a failure, which is the last call on the sink, a prefix was taken.
+pub(crate) fn explain<E: Sink>(end: &End, asked: Option<Known>, err: &mut E) -> Result<(), Failed>
     requires { E.faults err.old + 1 < 2 ^ 64 }
     ensures bytes { Puts E.Sink err.old err.new (explanation end.now asked) result }
     ensures cause { CountsFaults (E.faults err.old) (E.faults err.new) result }
 {
-    let Some(limits) = asked else {
+    let Some(known) = asked else {
         return Ok(());
     };
     match *end {
         End::Trap(kind, _) => put_help(err, trap_help(kind)),
-        End::BadFree(free, holder) => put_help(err, free_help(free.reason, holder)),
+        End::BadFree(free, holder) => {
+            put_bad_free(err, known.freed, free_help(free.reason, holder))
+        }
         End::Escape { .. } => put_help(err, ESCAPE_HELP),
-        End::Spent => put_spent(err, limits),
-        End::OutOfStack(_) => put_out_of_stack(err, limits),
+        End::Spent => put_spent(err, known.limits),
+        End::OutOfStack(_) => put_out_of_stack(err, known.limits),
         End::Exit(_) | End::InputFault | End::OutputFault => Ok(()),
     }
 }

@@ -1,10 +1,10 @@
 //! What an object of JSON says of a refusal or of an end.
 
 ghost use Rattle.std.specs.Prelude.{◌≡◌, option_and_then, option_copied, option_map};
-ghost use Rattle.bad_free_report.specs.Notice.{facts_of, file_of, first_place, help_of, holder_of, is_own, kind_of, limit_of, line_of, place_of, register_kind, source_of, spot_line, spot_source, word_of};
+ghost use Rattle.bad_free_report.specs.Notice.{facts_of, file_of, first_place, freed_of, help_of, holder_of, is_own, kind_of, limit_of, line_of, place_of, register_kind, source_of, spot_line, spot_source, word_of};
 ghost use Rattle.bad_free_report.specs.Told.{ending_of, told_facts, told_limit, told_place, told_refusal_facts, told_spot};
 
-use crate::explanation::{ESCAPE_HELP, InForce, STACK_HELP, STEPS_HELP, free_help, trap_help};
+use crate::explanation::{ESCAPE_HELP, Freed, Known, STACK_HELP, STEPS_HELP, free_help, trap_help};
 use crate::lines::shown_part;
 use crate::names::{func_name, local_name, register_name, static_name};
 use crate::words::{reason_words, trap_word};
@@ -29,13 +29,13 @@ pub struct Spot<'a> {
 }
 
 /// How a program ended that has this core: its end, with the name and the bytes of the text in which its line stands; and the
-/// limits that were in force, where it is to be explained.
+/// what is known of its run, where it is to be explained.
 #[derive(Clone, Copy)]
 pub struct Ending<'a> {
     pub core: &'a Core,
     pub name: &'a [u8],
     pub text: &'a [u8],
-    pub limits: Option<InForce>,
+    pub known: Option<Known>,
     pub how: End,
 }
 
@@ -69,6 +69,7 @@ pub(crate) struct Facts<'a> {
     pub(crate) line: Option<Line>,
     pub(crate) source: Option<&'a [u8]>,
     pub(crate) holder: Option<Place<'a>>,
+    pub(crate) freed: Option<Freed>,
     pub(crate) help: Option<&'static [u8]>,
     pub(crate) limit: Option<Limit>,
 }
@@ -228,11 +229,23 @@ fn help_of(end: End) -> Option<&'static [u8]>
     }
 }
 
-/// The limit at which a program ended.
-fn limit_of(limits: Option<InForce>, end: End) -> Option<Limit>
-    ensures { option_map told_limit result ≡ option_and_then (λ l. limit_of l end) limits }
+/// What was freed at a bad free, where that is known.
+fn freed_of(known: Option<Known>, end: End) -> Option<Freed>
+    ensures { result ≡ freed_of known end }
 {
-    let limits = limits?;
+    let known = known?;
+    match end {
+        End::BadFree(..) => known.freed,
+        _ => None,
+    }
+}
+
+/// The limit at which a program ended.
+fn limit_of(known: Option<Known>, end: End) -> Option<Limit>
+    ensures { option_map told_limit result ≡ option_and_then (λ k. limit_of k.limits end) known }
+{
+    let known = known?;
+    let limits = known.limits;
     match end {
         End::Spent => Some(Limit {
             value: limits.steps,
@@ -262,8 +275,9 @@ pub(crate) fn facts_of<'a>(ending: &Ending<'a>, status: u8) -> Facts<'a>
         line,
         source: source_of(ending.text, line),
         holder: holder_of(ending.core, ending.how),
+        freed: freed_of(ending.known, ending.how),
         help: help_of(ending.how),
-        limit: limit_of(ending.limits, ending.how),
+        limit: limit_of(ending.known, ending.how),
     }
 }
 
@@ -292,6 +306,7 @@ pub(crate) fn refusal_facts<'a>(refused: &Refused<'a>) -> Facts<'a>
         line,
         source,
         holder: None,
+        freed: None,
         help: None,
         limit: None,
     }

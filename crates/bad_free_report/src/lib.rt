@@ -21,7 +21,7 @@ mod parts;
 mod said;
 mod words;
 
-pub use explanation::InForce;
+pub use explanation::{Freed, InForce, Known};
 pub use facts::{Ending, Refused, Spot};
 pub use form::Form;
 pub use said::{

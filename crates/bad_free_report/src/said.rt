@@ -4,12 +4,12 @@ ghost use Rattle.std.specs.Prelude.{◌≡◌, ◌+◌, ◌<◌, ◌^◌, [], op
 ghost use Rattle.hs_base.specs.Outside.{CountsFaults};
 ghost use Rattle.bad_free_report.specs.Json.{comma_if};
 ghost use Rattle.bad_free_report.specs.Notice.{Ended, as_object, end_lines, said};
-ghost use Rattle.bad_free_report.specs.Parts.{AreParts, before_leaks, behind_leaks, front, help_text, leak_said, limit_text, members_before, place_text};
+ghost use Rattle.bad_free_report.specs.Parts.{AreParts, before_leaks, behind_leaks, freed_text, front, help_text, leak_said, limit_text, members_before, place_text};
 ghost use Rattle.bad_free_report.specs.Told.{ending_of, refused_of, told_facts, told_limit, told_place};
 ghost use Rattle.bad_free_report.specs.Putting.{Puts};
 
 use crate::ends::report;
-use crate::explanation::explain;
+use crate::explanation::{Freed, explain};
 use crate::facts::{Ending, Facts, Limit, Place, Refused, facts_of, refusal_facts};
 use crate::form::Form;
 use crate::json::{Piece, number_or_null, put_pieces, text_or_null};
@@ -50,7 +50,7 @@ fn put_before<E: Sink>(err: &mut E, facts: &Facts<'_>) -> Result<(), Failed>
     )
 }
 
-/// Writes the first holder, up to what to mend.
+/// Writes the first holder, up to what was freed.
 fn put_place<E: Sink>(err: &mut E, place: Option<Place<'_>>) -> Result<(), Failed>
     requires { E.faults err.old + 1 < 2 ^ 64 }
     ensures bytes { Puts E.Sink err.old err.new
@@ -58,7 +58,7 @@ fn put_place<E: Sink>(err: &mut E, place: Option<Place<'_>>) -> Result<(), Faile
     ensures cause { CountsFaults (E.faults err.old) (E.faults err.new) result }
 {
     let Some(place) = place else {
-        return put_all(err, b"null,\"help\":");
+        return put_all(err, b"null,\"freed\":");
     };
     let name = text_or_null(place.name);
     let func = text_or_null(place.func);
@@ -77,6 +77,31 @@ fn put_place<E: Sink>(err: &mut E, place: Option<Place<'_>>) -> Result<(), Faile
             line,
             Piece::Between(b",\"offset\":"),
             offset,
+            Piece::Between(b"},\"freed\":"),
+        ],
+    )
+}
+
+/// Writes what was freed, up to what to mend.
+fn put_freed<E: Sink>(err: &mut E, freed: Option<Freed>) -> Result<(), Failed>
+    requires { E.faults err.old + 1 < 2 ^ 64 }
+    ensures bytes { Puts E.Sink err.old err.new
+        (freed_text freed) result }
+    ensures cause { CountsFaults (E.faults err.old) (E.faults err.new) result }
+{
+    let Some(freed) = freed else {
+        return put_all(err, b"null,\"help\":");
+    };
+    let line = number_or_null(freed.line);
+    put_pieces(
+        err,
+        &[
+            Piece::Between(b"{\"blocks\":"),
+            Piece::Number(u64::from(freed.blocks)),
+            Piece::Between(b",\"bytes\":"),
+            Piece::Number(freed.bytes),
+            Piece::Between(b",\"line\":"),
+            line,
             Piece::Between(b"},\"help\":"),
         ],
     )
@@ -126,6 +151,7 @@ fn put_front<E: Sink>(err: &mut E, facts: &Facts<'_>) -> Result<(), Failed>
 {
     put_before(err, facts)?;
     put_place(err, facts.holder)?;
+    put_freed(err, facts.freed)?;
     put_help(err, facts.help)?;
     put_limit(err, facts.limit)
 }
@@ -155,7 +181,7 @@ pub fn say_refused<E: Sink>(err: &mut E, form: Form, refused: &Refused<'_>) -> R
     }
 }
 
-/// Writes the report of an end, and behind it what explains it, where its limits are given.
+/// Writes the report of an end, and behind it what explains it, where what is known of its run is given.
 fn put_end_lines<E: Sink>(err: &mut E, ending: &Ending<'_>) -> Result<(), Failed>
     requires { E.faults err.old + 1 < 2 ^ 64 }
     ensures bytes { Puts E.Sink err.old err.new
@@ -163,7 +189,7 @@ fn put_end_lines<E: Sink>(err: &mut E, ending: &Ending<'_>) -> Result<(), Failed
     ensures cause { CountsFaults (E.faults err.old) (E.faults err.new) result }
 {
     report(&ending.how, ending.core, ending.name, ending.text, err)?;
-    explain(&ending.how, ending.limits, err)
+    explain(&ending.how, ending.known, err)
 }
 
 /// Writes what is said of an end before its leaks. After a failure, which is the last call on the sink, a prefix was taken.

@@ -6,6 +6,7 @@ ghost use Rattle.meaning_laws.specs.code.Laws.{HoldsBytes};
 ghost use Rattle.flat_machine.specs.Machined.{IsOf, steps_made, AnswersMeaning, LeavesImageOf, MakesStepsOf};
 ghost use Rattle.flat_machine.specs.Running.{RunCounts};
 ghost use Rattle.flat_objects.specs.Leaks.{KeepsSome, leak_after};
+ghost use Rattle.flat_objects.specs.Waiting.{waiting_of};
 ghost use Rattle.flat_objects.specs.Keeping.{ForKept};
 
 use crate::loaded::Loaded;
@@ -13,6 +14,7 @@ use crate::running::whole_run;
 use crate::state::State;
 use byte_memory::CountRight;
 use flat_code::Code;
+use flat_objects::Waiting;
 use hs_base::{End, Leak, Line, Sink, Source};
 use std::marker::{Brand, Model};
 use std::sync::ledger::Blank;
@@ -61,7 +63,8 @@ impl Machine {
     /// the machine agrees with the last state of the meaning, which for a call that does not fit is the one before it: objects
     /// with their bytes, pointers and headers, the queue and the open scopes, the calls with their registers, each at its instruction, births and steps; and
     /// the counts are the numbers of that state, unless the end is a bad free or an escape. Of what is left then
-    /// [`Machine::leak`] tells. A machine that has ended answers the same end again, and touches nothing.
+    /// [`Machine::leak`] tells, and [`Machine::waiting_blocks`] of what waits to be freed. A machine that has ended answers the same
+    /// end again, and touches nothing.
     pub fn run<I: Source, O: Sink>(
         &mut self,
         code: &Code,
@@ -118,5 +121,16 @@ impl Machine {
         ensures { ForKept self.now.kept.memory (λ _ all. result ≡ leak_after after all) }
     {
         self.state.leak::<Brand>(after, &self.right, Blank::new(1))
+    }
+
+    /// The heap objects that wait and were freed at a line, or all that wait where none is asked for: how many they are, the sum of
+    /// their sizes in bytes, and the line of birth, where it is one. That they are told is this language's own (C99 7.20.3.2 leaves
+    /// a pointer to a freed object indeterminate). Behind a run these are objects of its last state.
+    pub fn waiting_blocks(&self, asked: Option<Line>) -> Waiting
+        requires { KeepsSome self.now.kept.memory }
+        ensures { ForKept self.now.kept.memory (λ _ all. result ≡ waiting_of asked all) }
+    {
+        self.state
+            .waiting_blocks::<Brand>(asked, &self.right, Blank::new(1))
     }
 }

@@ -36,21 +36,25 @@ pub record IsBornBelow (places : ℕ → ℕ) (objects : List Object) (below lin
   pub born : line_of_birth (object_at objects birth).sort ≡ line
 
 -- the line in a header of such an object is that of its birth
-line_in : (s : Sort) (line : ℕ) → is_heap s ≡ true → IsLineOf s line → line ≡ line_of_birth s
+pub line_in : (s : Sort) (line : ℕ) → is_heap s ≡ true → IsLineOf s line → line ≡ line_of_birth s
 line_in (object.Static index) line heap is = absurd (cc)
 line_in (object.Local func index) line heap is = absurd (cc)
 line_in (object.Heap born) line heap is = is
 
--- Sums over the objects of a line
+-- Sums over the objects that are left and pass a test
 
--- what an object weighs, if it is left and was born at a line
-abbrev pub weigh : (Object → ℕ) → ℕ → Object → ℕ
-weigh f line o = cond (is_left o) (cond (nat_eq (line_of_birth o.sort) line) (f o) 0) 0
+-- was an object born at a line?
+abbrev pub of_line : ℕ → Object → Bool
+of_line line o = nat_eq (line_of_birth o.sort) line
+
+-- what an object weighs, if it is left and passes a test
+abbrev pub weigh : (Object → ℕ) → (Object → Bool) → Object → ℕ
+weigh f test o = cond (is_left o) (cond (test o) (f o) 0) 0
 
 -- the same, of those that start below an address
-abbrev pub sum_below : (ℕ → ℕ) → List Object → (Object → ℕ) → ℕ → ℕ → ℕ
-sum_below places objects f line below =
-    sum_to (λ b. cond (nat_lt (places b) below) (weigh f line (object_at objects b)) 0) (length objects)
+abbrev pub sum_below : (ℕ → ℕ) → List Object → (Object → ℕ) → (Object → Bool) → ℕ → ℕ
+sum_below places objects f test below =
+    sum_to (λ b. cond (nat_lt (places b) below) (weigh f test (object_at objects b)) 0) (length objects)
 
 abbrev pub one_each : Object → ℕ
 one_each o = 1
@@ -80,11 +84,10 @@ sum_passed f p (x ∷ xs) =
           omega arith
     ]
 
--- the sum over what is left of a line
-sum_left : (objects : List Object) (f : Object → ℕ) (line : ℕ) → sum_by f (left_of objects line) ≡ sum_by (weigh f line) objects
-sum_left objects f line =
-    sum_passed f (λ (o : Object). nat_eq (line_of_birth o.sort) line) (all_left objects)
-    ∙ sum_passed (λ (o : Object). cond (nat_eq (line_of_birth o.sort) line) (f o) 0) is_left objects
+-- the sum over what is left and passes a test
+sum_left : (objects : List Object) (f : Object → ℕ) (test : Object → Bool) → sum_by f (filter test (all_left objects)) ≡ sum_by (weigh f test) objects
+sum_left objects f test =
+    sum_passed f test (all_left objects) ∙ sum_passed (λ (o : Object). cond (test o) (f o) 0) is_left objects
 
 blocks_are : (t : Bool) (leak : Leak) (header : Header) → (let more : Leak = record leak { blocks = leak.blocks + 1; bytes = leak.bytes + header.size } in (cond t more leak).blocks ≡ cond t (leak.blocks + 1) leak.blocks)
 blocks_are true leak header = refl
@@ -233,9 +236,9 @@ module _ (locals heap : ℕ) (memory : Memory) (shape : IsMemory locals heap mem
 
   -- Sums
 
-  module _ (f : Object → ℕ) (line : ℕ) where
+  module _ (f : Object → ℕ) (test : Object → Bool) where
     abbrev weight : ℕ → ℕ
-    weight b = weigh f line (object_at objects b)
+    weight b = weigh f test (object_at objects b)
 
     abbrev part : ℕ → ℕ → ℕ
     part below b = cond (nat_lt (places b) below) (weight b) 0
@@ -243,9 +246,9 @@ module _ (locals heap : ℕ) (memory : Memory) (shape : IsMemory locals heap mem
     -- what is not left weighs nothing
     no_weight : (b : ℕ) → is_left (object_at objects b) ≡ false → weight b ≡ 0
     no_weight b out =
-        cond-false (is_left (object_at objects b)) (cond (nat_eq (line_of_birth (object_at objects b).sort) line) (f (object_at objects b)) 0) 0 out
+        cond-false (is_left (object_at objects b)) (cond (test (object_at objects b)) (f (object_at objects b)) 0) 0 out
 
-    pub no_sum_yet : (n : ℕ) → 16 * n ≤ memory.heap.base → sum_below places objects f line (16 * n) ≡ 0
+    pub no_sum_yet : (n : ℕ) → 16 * n ≤ memory.heap.base → sum_below places objects f test (16 * n) ≡ 0
     no_sum_yet n low =
         sum_to_same (part (16 * n)) (λ b. 0) (length objects) (λ b less. each b) ∙ sum_to_none (length objects) where
           each : (b : ℕ) → part (16 * n) b ≡ 0
@@ -279,16 +282,16 @@ module _ (locals heap : ℕ) (memory : Memory) (shape : IsMemory locals heap mem
               ]
         ]
 
-    pub sum_none : (n : ℕ) → (IsHeapStart places objects (16 * n) → ⊥) → sum_below places objects f line (16 * (n + 1)) ≡ sum_below places objects f line (16 * n)
+    pub sum_none : (n : ℕ) → (IsHeapStart places objects (16 * n) → ⊥) → sum_below places objects f test (16 * (n + 1)) ≡ sum_below places objects f test (16 * n)
     sum_none n none =
         sum_to_same (part (16 * (n + 1))) (part (16 * n)) (length objects)
         (λ b less. part_beside n b (λ l e. none (record { birth = b; there = l.there; heap = l.heap_sort; address = sym e })))
 
-    pub sum_some : (n : ℕ) (start : IsHeapStart places objects (16 * n)) → sum_below places objects f line (16 * (n + 1)) ≡ sum_below places objects f line (16 * n) + weight start.birth
+    pub sum_some : (n : ℕ) (start : IsHeapStart places objects (16 * n)) → sum_below places objects f test (16 * (n + 1)) ≡ sum_below places objects f test (16 * n) + weight start.birth
     sum_some n start =
         sum_to_same (part (16 * (n + 1))) (λ b. part (16 * n) b + cond (nat_eq start.birth b) (weight b) 0) (length objects) (λ b less. each b)
         ∙ sum_to_both (part (16 * n)) (λ b. cond (nat_eq start.birth b) (weight b) 0) (length objects)
-        ∙ ap (λ m. sum_below places objects f line (16 * n) + m) (met_value weight start.birth (length objects) (there_below objects start.birth start.there)) where
+        ∙ ap (λ m. sum_below places objects f test (16 * n) + m) (met_value weight start.birth (length objects) (there_below objects start.birth start.there)) where
           each : (b : ℕ) → part (16 * (n + 1)) b ≡ part (16 * n) b + cond (nat_eq start.birth b) (weight b) 0
           each b =
               elim (cases_eq start.birth b) [
@@ -304,29 +307,22 @@ module _ (locals heap : ℕ) (memory : Memory) (shape : IsMemory locals heap mem
                     omega arith
               ]
 
-    -- what the object of a header weighs
-    pub weight_is : (n : ℕ) (header : Header) (start : IsHeapStart places objects (16 * n)) → IsHeaderOf header start.birth (object_at objects start.birth) → weight start.birth ≡ cond (nat_eq header.line line) (f (object_at objects start.birth)) 0
-    weight_is n header start is_header =
-        let o = object_at objects start.birth in
-        let same = own_line n header start is_header in
-        cond-true (is_left o) (cond (nat_eq (line_of_birth o.sort) line) (f o) 0) 0 (left_from start.birth start.there start.heap)
-        ∙ ap (λ l. cond (nat_eq l line) (f o) 0) (sym same)
-
     -- the sum with what was met next
-    pub sum_met : (n : ℕ) (header : Header) (start : IsHeapStart places objects (16 * n)) → IsHeaderOf header start.birth (object_at objects start.birth) → (so_far : ℕ) → so_far ≡ sum_below places objects f line (16 * n)
-        → cond (nat_eq header.line line) (so_far + f (object_at objects start.birth)) so_far ≡ sum_below places objects f line (16 * (n + 1))
-    sum_met n header start is_header so_far is =
+    pub sum_met : (n : ℕ) (start : IsHeapStart places objects (16 * n)) (passes : Bool) → passes ≡ test (object_at objects start.birth) → (so_far : ℕ) → so_far ≡ sum_below places objects f test (16 * n)
+        → cond passes (so_far + f (object_at objects start.birth)) so_far ≡ sum_below places objects f test (16 * (n + 1))
+    sum_met n start passes tested so_far is =
+        let o = object_at objects start.birth in
         let some = sum_some n start in
-        let own = weight_is n header start is_header in
-        added (nat_eq header.line line) own ∙ sym some where
-          added : (t : Bool) → weight start.birth ≡ cond t (f (object_at objects start.birth)) 0 → cond t (so_far + f (object_at objects start.birth)) so_far ≡ sum_below places objects f line (16 * n) + weight start.birth
+        let own : weight start.birth ≡ cond passes (f o) 0 = cond-true (is_left o) (cond (test o) (f o) 0) 0 (left_from start.birth start.there start.heap) ∙ ap (λ t. cond t (f o) 0) (sym tested) in
+        added passes own ∙ sym some where
+          added : (t : Bool) → weight start.birth ≡ cond t (f (object_at objects start.birth)) 0 → cond t (so_far + f (object_at objects start.birth)) so_far ≡ sum_below places objects f test (16 * n) + weight start.birth
           added true own = omega arith
           added false own = omega arith
 
     -- all objects of the heap start below its end
-    pub sum_is : (n : ℕ) → end_of memory.heap / 16 ≤ n → sum_below places objects f line (16 * n) ≡ sum_by f (left_of objects line)
+    pub sum_is : (n : ℕ) → end_of memory.heap / 16 ≤ n → sum_below places objects f test (16 * n) ≡ sum_by f (filter test (all_left objects))
     sum_is n past =
-        sum_to_same (part (16 * n)) weight (length objects) (λ b less. each b) ∙ sym (sum_placed (weigh f line) objects no_object) ∙ sym (sum_left objects f line) where
+        sum_to_same (part (16 * n)) weight (length objects) (λ b less. each b) ∙ sym (sum_placed (weigh f test) objects no_object) ∙ sym (sum_left objects f test) where
           each : (b : ℕ) → part (16 * n) b ≡ weight b
           each b =
               elim (cases_Bool (is_left (object_at objects b))) [
@@ -339,15 +335,19 @@ module _ (locals heap : ℕ) (memory : Memory) (shape : IsMemory locals heap mem
 
   -- A leak with what was met next
 
-  pub blocks_met : (line n : ℕ) (leak : Leak) (found : Option Header) → IsHeaderAt places objects (16 * n) found → leak.line ≡ line → leak.blocks ≡ sum_below places objects one_each line (16 * n) → (with_object leak found).blocks ≡ sum_below places objects one_each line (16 * (n + 1))
-  blocks_met line n leak None none own is = is ∙ sym (sum_none one_each line n none)
-  blocks_met line n leak (Some header) met own is =
-      blocks_are (nat_eq header.line leak.line) leak header ∙ ap (λ l. cond (nat_eq header.line l) (leak.blocks + 1) leak.blocks) own ∙ sum_met one_each line n header met.0 met.1 leak.blocks is
+  -- a header tells whether its object was born at a line
+  line_tested : (line n : ℕ) (header : Header) (start : IsHeapStart places objects (16 * n)) → IsHeaderOf header start.birth (object_at objects start.birth) → nat_eq header.line line ≡ of_line line (object_at objects start.birth)
+  line_tested line n header start is_header = ap (λ l. nat_eq l line) (own_line n header start is_header)
 
-  pub bytes_met : (line n : ℕ) (leak : Leak) (found : Option Header) → IsHeaderAt places objects (16 * n) found → leak.line ≡ line → leak.bytes ≡ sum_below places objects size_each line (16 * n) → (with_object leak found).bytes ≡ sum_below places objects size_each line (16 * (n + 1))
-  bytes_met line n leak None none own is = is ∙ sym (sum_none size_each line n none)
+  pub blocks_met : (line n : ℕ) (leak : Leak) (found : Option Header) → IsHeaderAt places objects (16 * n) found → leak.line ≡ line → leak.blocks ≡ sum_below places objects one_each (of_line line) (16 * n) → (with_object leak found).blocks ≡ sum_below places objects one_each (of_line line) (16 * (n + 1))
+  blocks_met line n leak None none own is = is ∙ sym (sum_none one_each (of_line line) n none)
+  blocks_met line n leak (Some header) met own is =
+      blocks_are (nat_eq header.line leak.line) leak header ∙ ap (λ l. cond (nat_eq header.line l) (leak.blocks + 1) leak.blocks) own ∙ sum_met one_each (of_line line) n met.0 (nat_eq header.line line) (line_tested line n header met.0 met.1) leak.blocks is
+
+  pub bytes_met : (line n : ℕ) (leak : Leak) (found : Option Header) → IsHeaderAt places objects (16 * n) found → leak.line ≡ line → leak.bytes ≡ sum_below places objects size_each (of_line line) (16 * n) → (with_object leak found).bytes ≡ sum_below places objects size_each (of_line line) (16 * (n + 1))
+  bytes_met line n leak None none own is = is ∙ sym (sum_none size_each (of_line line) n none)
   bytes_met line n leak (Some header) met own is =
-      bytes_are (nat_eq header.line leak.line) leak header ∙ (λ i. cond (nat_eq header.line (own i)) (leak.bytes + met.1.size i) leak.bytes) ∙ sum_met size_each line n header met.0 met.1 leak.bytes is
+      bytes_are (nat_eq header.line leak.line) leak header ∙ (λ i. cond (nat_eq header.line (own i)) (leak.bytes + met.1.size i) leak.bytes) ∙ sum_met size_each (of_line line) n met.0 (nat_eq header.line line) (line_tested line n header met.0 met.1) leak.bytes is
 
   pub small_met : (n : ℕ) (leak : Leak) (found : Option Header) → IsHeaderAt places objects (16 * n) found → leak.bytes ≤ 2 ^ 32 * n → (with_object leak found).bytes ≤ 2 ^ 32 * (n + 1)
   small_met n leak None none small = omega arith
@@ -359,8 +359,8 @@ module _ (locals heap : ℕ) (memory : Memory) (shape : IsMemory locals heap mem
         one_more true size = omega arith
         one_more false size = omega arith
 
-  pub leak_is : (line n : ℕ) (leak : Leak) → end_of memory.heap / 16 ≤ n → leak.line ≡ line → leak.blocks ≡ sum_below places objects one_each line (16 * n) → leak.bytes ≡ sum_below places objects size_each line (16 * n) → leak ≡ leak_of objects line
+  pub leak_is : (line n : ℕ) (leak : Leak) → end_of memory.heap / 16 ≤ n → leak.line ≡ line → leak.blocks ≡ sum_below places objects one_each (of_line line) (16 * n) → leak.bytes ≡ sum_below places objects size_each (of_line line) (16 * n) → leak ≡ leak_of objects line
   leak_is line n leak past own blocks bytes =
-      let all_blocks = blocks ∙ sum_is one_each line n past ∙ sum_ones (left_of objects line) in
-      let all_bytes = bytes ∙ sum_is size_each line n past in
+      let all_blocks = blocks ∙ sum_is one_each (of_line line) n past ∙ sum_ones (left_of objects line) in
+      let all_bytes = bytes ∙ sum_is size_each (of_line line) n past in
       λ i. record { line = own i; blocks = all_blocks i; bytes = all_bytes i }

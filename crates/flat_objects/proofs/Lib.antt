@@ -34,6 +34,7 @@ mod Storages
 mod HeapStarts
 mod Least
 mod Leaking
+mod Waited
 pub mod Tallies
 mod Counted
 mod Tracked

@@ -17,6 +17,7 @@ pub mod Starting
 pub mod Ranges
 pub mod Tries
 pub mod Leaks
+pub mod Waiting
 pub mod Ending
 pub mod EndingEquations
 pub mod EndingSteps

@@ -42,7 +42,7 @@ fn with_object(leak: Leak, found: Option<Header>) -> Leak
 
 impl FlatObjects {
     /// The header of the object of the heap that starts at an address, if one does. At most eleven steps.
-    fn heap_header<L: Ledger>(&self, addr: u32, steps: &mut Steps<L>) -> Option<Header>
+    pub(crate) fn heap_header<L: Ledger>(&self, addr: u32, steps: &mut Steps<L>) -> Option<Header>
         requires { KeepsSome self.now }
         ensures header { ForKept self.now (λ places all. IsHeaderAt places all addr result) }
         ensures work { steps.new ≤ steps.old + 11 }

@@ -24,7 +24,7 @@
 //! objects. Every call that changes objects keeps this (`Tracks`). `specs/Freeing.antt` says what a free and the end of a
 //! scope answer and leave, `specs/Holders.antt` which pointer inside an object is the first that holds another,
 //! `specs/Tries.antt` what a try of a free tells, `specs/Ending.antt` what the end of the memory locals of a call answers and
-//! leaves, and `specs/Leaks.antt` which objects of the heap are left, by their lines of birth. Copies and sets of ranges of
+//! leaves, `specs/Leaks.antt` which objects of the heap are left, by their lines of birth, and `specs/Waiting.antt` which wait. Copies and sets of ranges of
 //! bytes (`specs/Ranges.antt`) go through `typed_copies`, where the counts follow the pointers.
 #![tactic(auto)]
 
@@ -44,8 +44,10 @@ mod ranges;
 mod statics;
 mod strings;
 mod tries;
+mod waiting;
 mod words;
 
 pub use holders::{Holding, Storage};
 pub use memory::FlatObjects;
+pub use waiting::Waiting;
 pub use words::Word;

@@ -41,7 +41,7 @@ module _ (core : Core) (limits : Limits) (steps : ℕ) (left : Option (List ℕ)
     events : List Event
     events = (run_within limits core [] steps false).events
 
-    one_answer : (other : Shown) → Ended [] (alone [] text) core None (run_within limits core [] steps false) other → (length other.out ≡ ran.output) × (other.status ≡ ran.status)
+    one_answer : (other : Shown) → Ended [] (alone [] text) core (λ e. None) (run_within limits core [] steps false) other → (length other.out ≡ ran.output) × (other.status ≡ ran.status)
     one_answer other e =
         let same : x ≡ e.how = one_end x e.how (sym w.end ∙ e.ends) in (
           ap (λ (s : Shown). length s.out) e.is ∙ sym (output ∙ ap length (kept_is kept (bytes_out events) w.is_taken)),

@@ -9,7 +9,7 @@ use Rattle.hs_base.specs.Object.{Object}
 use Rattle.hs_base.specs.Trace.{Event, In}
 use Rattle.c_pre.specs.declared.answer.Opened.{Opened}
 use Rattle.core_tree.specs.declared.program.Core.{Core}
-use Rattle.bad_free_report.specs.declared.explanation.InForce.{InForce}
+use Rattle.bad_free_report.specs.declared.explanation.Known.{Known}
 use Rattle.meaning_run.specs.Meant.{MeanCounts}
 use Rattle.flat_machine.specs.Running.{RunCounts}
 use Rattle.heapsafe.specs.Program.{Done, AnswersProgram, AreTold, TellsNone, ended, status_of}
@@ -21,16 +21,16 @@ pub same_some : (a b : List ℕ) → Some a ≡ Some b → a ≡ b
 same_some a b e = cc
 
 -- a program that ended, where the input did not fail
-pub whole_is : (file : List ℕ) (opened : List Opened) (core : Core) (asked : Option InForce) (done : Done) (x : End) (leaks : List Leak) (i i' : ℕ) → i' ≡ i → done.ends ≡ Some x → AreTold done.left x leaks → AnswersProgram file opened core asked (nat_lt i i') done (ended file opened core asked done.events x leaks)
-whole_is file opened core asked done x leaks i i' same is told =
-    let s = ended file opened core asked done.events x leaks in
-    subst (λ b. AnswersProgram file opened core asked b done s) (sym (le-ltb i i' (omega arith))) (record { how = x; leaks = leaks; ends = is; told = told; is = refl })
+pub whole_is : (file : List ℕ) (opened : List Opened) (core : Core) (knows : End → Option Known) (done : Done) (x : End) (leaks : List Leak) (i i' : ℕ) → i' ≡ i → done.ends ≡ Some x → AreTold done.left x leaks → AnswersProgram file opened core knows (nat_lt i i') done (ended file opened core (knows x) done.events x leaks)
+whole_is file opened core knows done x leaks i i' same is told =
+    let s = ended file opened core (knows x) done.events x leaks in
+    subst (λ b. AnswersProgram file opened core knows b done s) (sym (le-ltb i i' (omega arith))) (record { how = x; leaks = leaks; ends = is; told = told; is = refl })
 
 -- a program that stopped where the input failed
-pub stopped_is : (file : List ℕ) (opened : List Opened) (core : Core) (asked : Option InForce) (done : Done) (before : List Event) (byte : Option ℕ) (rest : List Event) (i i' : ℕ) → i' ≡ i + 1 → done.events ≡ before ++ In byte ∷ rest → AnswersProgram file opened core asked (nat_lt i i') done (ended file opened core asked before end.InputFault [])
-stopped_is file opened core asked done before byte rest i i' more is =
-    let s = ended file opened core asked before end.InputFault [] in
-    subst (λ b. AnswersProgram file opened core asked b done s) (sym (lt-ltb i i' (omega arith))) (record { before = before; byte = byte; rest = rest; stops = is; is = refl })
+pub stopped_is : (file : List ℕ) (opened : List Opened) (core : Core) (knows : End → Option Known) (done : Done) (before : List Event) (byte : Option ℕ) (rest : List Event) (i i' : ℕ) → i' ≡ i + 1 → done.events ≡ before ++ In byte ∷ rest → AnswersProgram file opened core knows (nat_lt i i') done (ended file opened core (knows end.InputFault) before end.InputFault [])
+stopped_is file opened core knows done before byte rest i i' more is =
+    let s = ended file opened core (knows end.InputFault) before end.InputFault [] in
+    subst (λ b. AnswersProgram file opened core knows b done s) (sym (lt-ltb i i' (omega arith))) (record { before = before; byte = byte; rest = rest; stops = is; is = refl })
 
 -- an end that is no exit
 abbrev pub IsNoExit : End → Type 0

@@ -1,7 +1,7 @@
 -- What is said of a place in a text, and of an end of the input or of the output.
 use Rattle.std.proofs.Common.{◌≡◌, ℕ, List, [], Option, Some, None, refl, ap, ◌∙◌}
 use Rattle.bad_free_report.specs.Notice.{said}
-use Rattle.bad_free_report.specs.declared.explanation.InForce.{InForce}
+use Rattle.bad_free_report.specs.declared.explanation.Known.{Known}
 use Rattle.bad_free_report.specs.declared.form.Form.{Form}
 use Rattle.bad_free_report.specs.declared.form.Form.TheVariants.{Lines, Json}
 use Rattle.c_pre.specs.declared.answer.Opened.{Opened}
@@ -21,15 +21,15 @@ refused_in opened opened' kind words words' line status e f =
     ap (λ (os : List Opened). refusal_at (line_in os line) kind (Some words) status) e ∙ ap (λ (ws : List ℕ). refusal_at (line_in opened' line) kind (Some ws) status) f
 
 -- where the input or the output failed, what is said of the end is what is said of that
-pub input_said : (f : Form) (file : List ℕ) (opened : List Opened) (core : Core) (asked : Option InForce) → said f (told_notice file opened core asked InputFault []) ≡ said f input_fault.err
+pub input_said : (f : Form) (file : List ℕ) (opened : List Opened) (core : Core) (asked : Option Known) → said f (told_notice file opened core asked InputFault []) ≡ said f input_fault.err
 input_said Lines file opened core asked = refl
 input_said Json file opened core None = refl
-input_said Json file opened core (Some limits) = refl
+input_said Json file opened core (Some known) = refl
 
-pub output_said : (f : Form) (file : List ℕ) (opened : List Opened) (core : Core) (asked : Option InForce) → said f (told_notice file opened core asked OutputFault []) ≡ said f output_fault.err
+pub output_said : (f : Form) (file : List ℕ) (opened : List Opened) (core : Core) (asked : Option Known) → said f (told_notice file opened core asked OutputFault []) ≡ said f output_fault.err
 output_said Lines file opened core asked = refl
 output_said Json file opened core None = refl
-output_said Json file opened core (Some limits) = refl
+output_said Json file opened core (Some known) = refl
 
 -- an exit has one code
 pub one_exit : (code other : ℕ) → Exit code ≡ Exit other → code ≡ other

@@ -8,7 +8,7 @@ use Rattle.c_decls.specs.declared.refusal.TypeError.{TypeError}
 use Rattle.c_decls.specs.declared.refusal.TypeError.TheVariants as type
 use Rattle.c_pre.specs.declared.answer.Opened.{Opened}
 use Rattle.core_tree.specs.declared.program.Core.{Core}
-use Rattle.bad_free_report.specs.declared.explanation.InForce.{InForce}
+use Rattle.bad_free_report.specs.declared.explanation.Known.{Known}
 use Rattle.hs_base.specs.declared.reading.ReadError.{ReadError}
 use Rattle.hs_base.specs.declared.reading.ReadError.TheVariants.{Fault, TooLong, NoMemory}
 use Rattle.hs_base.specs.ReadAll.{ReadCounts}
@@ -91,7 +91,7 @@ module _ {I O E : Type 0} (before after : Sight I O E) (result : ℕ) where
   counts_of status notice said = ⊎_elim (λ h. inl (h.0, h.1)) (λ h. inr (h.0, h.1)) said
 
   -- behind an exit no more is said than of one
-  pub own_of : (file : List ℕ) (opened : List Opened) (core : Core) (asked : Option InForce) (x : End) → Says before after (told_notice file opened core asked x []) (status_of x) result → SaysOwn x before after
+  pub own_of : (file : List ℕ) (opened : List Opened) (core : Core) (asked : Option Known) (x : End) → Says before after (told_notice file opened core asked x []) (status_of x) result → SaysOwn x before after
   own_of file opened core asked x said = λ code exits same.
       let plain = subst (λ (y : End). Says before after (told_notice file opened core asked y []) (status_of y) result) exits said in
       ⊎_elim

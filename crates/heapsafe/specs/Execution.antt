@@ -58,7 +58,8 @@ IsWithin asked = (asked.limits.heap ≤ 268435456) × (asked.limits.stack ≤ 67
 -- code that is well formed is run, and what is said of it has the names of its file
 abbrev pub AnswersCode : List ℕ → CodeFile → Input → Asked → Shown → Type 0
 AnswersCode name file input asked a =
-    AnswersProgram name (code_text name) file.names (explains_run asked.explain asked.steps asked.limits) input.fails (code_within asked.limits file.code input.bytes asked.steps asked.leaks) a
+    let objects = (meaning file.code input.bytes asked.steps asked.limits.heap).state.state.objects in
+    AnswersProgram name (code_text name) file.names (explains_run asked.explain asked.steps asked.limits objects) input.fails (code_within asked.limits file.code input.bytes asked.steps asked.leaks) a
 
 -- other code is not
 pub record AnswersVerified (name : List ℕ) (file : CodeFile) (input : Input) (asked : Asked) (a : Shown) : Type 0 where

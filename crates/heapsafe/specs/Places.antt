@@ -8,7 +8,8 @@ use Rattle.hs_base.specs.declared.ends.Holder.{Holder}
 use Rattle.hs_base.specs.declared.ends.Holder.TheVariants.{Global, Memory, Block, Register}
 use Rattle.hs_base.specs.declared.ends.Leak.{Leak}
 use Rattle.bad_free_report.specs.Notice.{Ending}
-use Rattle.bad_free_report.specs.declared.explanation.InForce.{InForce}
+use Rattle.bad_free_report.specs.declared.explanation.Freed.{Freed}
+use Rattle.bad_free_report.specs.declared.explanation.Known.{Known}
 use Rattle.c_pre.specs.declared.answer.Opened.{Opened}
 use Rattle.c_pre.specs.declared.answer.Place.{Place}
 use Rattle.core_tree.specs.declared.program.Core.{Core}
@@ -71,11 +72,20 @@ abbrev pub named_place : List ℕ → List Opened → Option ℕ → Place
 named_place file opened None = record { name = file; line = 0; text = [] }
 named_place file opened (Some line) = line_in opened line
 
+-- what is known of a run, with the line of its text
+abbrev pub told_freed : List Opened → Freed → Freed
+told_freed opened freed =
+    record { blocks = freed.blocks; bytes = freed.bytes; line = option_map (told_line opened) freed.line }
+
+abbrev pub told_known : List Opened → Known → Known
+told_known opened known =
+    record { limits = known.limits; freed = option_map (told_freed opened) known.freed }
+
 -- how a program ended, with the lines of their texts
-abbrev pub told_ending : Core → List ℕ → List Opened → Option InForce → End → Ending
+abbrev pub told_ending : Core → List ℕ → List Opened → Option Known → End → Ending
 told_ending core file opened asked e =
     let at = named_place file opened (line_of_end e) in
-    record { core = core; name = at.name; text = at.text; limits = asked; how = told_end opened e }
+    record { core = core; name = at.name; text = at.text; known = option_map (told_known opened) asked; how = told_end opened e }
 
 -- leaks with them
 abbrev pub told_leaks : List Opened → List Leak → List Leak

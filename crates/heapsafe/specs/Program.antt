@@ -3,17 +3,22 @@ use Rattle.std.specs.Prelude.{◌≡◌, ◌⊎◌, ◌++◌, ◌≤◌, ℕ, Bo
 use Rattle.hs_base.specs.declared.ends.End.{End}
 use Rattle.hs_base.specs.declared.ends.Leak.{Leak}
 use Rattle.hs_base.specs.declared.ends.Limits.{Limits}
+use Rattle.hs_base.specs.declared.ends.Reason.{Reason}
+use Rattle.hs_base.specs.declared.ends.Reason.TheVariants.{Held, Again, NotStart}
 use Rattle.hs_base.specs.declared.ends.End.TheVariants as end
 use Rattle.hs_base.specs.Object.{Object}
 use Rattle.hs_base.specs.Trace.{Event, In, bytes_in, bytes_out}
 use Rattle.hs_base.specs.Cut.{cut, ending_of}
 use Rattle.bad_free_report.specs.Notice.{Notice}
 use Rattle.bad_free_report.specs.Notice as notice
-use Rattle.bad_free_report.specs.declared.explanation.InForce.{InForce}
+use Rattle.bad_free_report.specs.declared.explanation.Freed.{Freed}
+use Rattle.bad_free_report.specs.declared.explanation.Known.{Known}
 use Rattle.core_tree.specs.declared.program.Core.{Core}
 use Rattle.object_meaning.specs.objects.Meaning.{meaning}
 use Rattle.meaning_run.specs.Meant.{end_in}
 use Rattle.flat_codegen.specs.Lasting.{cut_run}
+use Rattle.flat_objects.specs.Waiting.{waiting_of}
+use Rattle.flat_objects.specs.declared.waiting.Waiting.{Waiting}
 use Rattle.heapsafe.specs.declared.program.Way.{Way}
 use Rattle.heapsafe.specs.declared.program.Way.TheVariants.{Run, Mean}
 use Rattle.heapsafe.specs.Leaks.{AreLeaks}
@@ -77,20 +82,37 @@ abbrev pub TellsNone : Bool → End → Type 0
 TellsNone true (end.Exit code) = ⊥
 TellsNone leaks e = Unit {0}
 
--- the limits by which an end is explained, where that is asked for; the evaluator has no limit of stack, and no run of it ends by one
-abbrev pub explains_run : Bool → ℕ → Limits → Option InForce
-explains_run explain steps limits = cond explain (Some (record { steps = steps; stack = limits.stack })) None
+-- what was freed at a bad free, among the objects of the last state: where one is held, what waits and was freed at the line of that
+-- free; where one is freed again, what waits
+abbrev pub freed_of : Waiting → Freed
+freed_of w = record { blocks = w.blocks; bytes = w.bytes; line = w.line }
 
-abbrev pub explains_mean : Bool → ℕ → Option InForce
-explains_mean explain steps = cond explain (Some (record { steps = steps; stack = 0 })) None
+abbrev pub freed_by : Reason → ℕ → List Object → Option Freed
+freed_by Held line objects = Some (freed_of (waiting_of (Some line) objects))
+freed_by Again line objects = Some (freed_of (waiting_of None objects))
+freed_by NotStart line objects = None
+
+abbrev pub freed_at : List Object → End → Option Freed
+freed_at objects (end.BadFree why holder) = freed_by why.reason why.line objects
+freed_at objects e = None
+
+-- what is known of a run that left these objects, by which an end is explained, where that is asked for; the evaluator has no limit of
+-- stack, no run of it ends by one, and what it leaves is not known
+abbrev pub explains_run : Bool → ℕ → Limits → List Object → End → Option Known
+explains_run explain steps limits objects e =
+    cond explain (Some (record { limits = record { steps = steps; stack = limits.stack }; freed = freed_at objects e })) None
+
+abbrev pub explains_mean : Bool → ℕ → Option Known
+explains_mean explain steps =
+    cond explain (Some (record { limits = record { steps = steps; stack = 0 }; freed = None })) None
 
 -- what is said of how a program ended
-abbrev pub told_notice : List ℕ → List Opened → Core → Option InForce → End → List Leak → Notice
+abbrev pub told_notice : List ℕ → List Opened → Core → Option Known → End → List Leak → Notice
 told_notice file opened core asked e leaks =
     notice.Ended (told_ending core file opened asked e) (told_leaks opened leaks) (status_of e)
 
 -- the bytes that events read and write, with what is said of an end and of leaks, and its status
-abbrev pub ended : List ℕ → List Opened → Core → Option InForce → List Event → End → List Leak → Shown
+abbrev pub ended : List ℕ → List Opened → Core → Option Known → List Event → End → List Leak → Shown
 ended file opened core asked events e leaks =
     record { read = bytes_in events; out = bytes_out events; err = told_notice file opened core asked e leaks; status = status_of e }
 
@@ -99,38 +121,39 @@ abbrev pub unfinished : List Event → Shown
 unfinished events =
     record { read = bytes_in events; out = bytes_out events; err = no_memory.err; status = 134 }
 
--- a program made all of its events and ended
-pub record Ended (file : List ℕ) (opened : List Opened) (core : Core) (asked : Option InForce) (done : Done) (a : Shown) : Type 0 where
+-- a program made all of its events and ended; what is known of its run at each end is given
+pub record Ended (file : List ℕ) (opened : List Opened) (core : Core) (knows : End → Option Known) (done : Done) (a : Shown) : Type 0 where
   pub how : End
   pub leaks : List Leak
   pub ends : done.ends ≡ Some how
   pub told : AreTold done.left how leaks
-  pub is : a ≡ ended file opened core asked done.events how leaks
+  pub is : a ≡ ended file opened core (knows how) done.events how leaks
 
 -- a program made its events before one that reads, and stopped there since the input failed
-pub record Starved (file : List ℕ) (opened : List Opened) (core : Core) (asked : Option InForce) (done : Done) (a : Shown) : Type 0 where
+pub record Starved (file : List ℕ) (opened : List Opened) (core : Core) (knows : End → Option Known) (done : Done) (a : Shown) : Type 0 where
   pub before : List Event
   pub byte : Option ℕ
   pub rest : List Event
   pub stops : done.events ≡ before ++ In byte ∷ rest
-  pub is : a ≡ ended file opened core asked before end.InputFault []
+  pub is : a ≡ ended file opened core (knows end.InputFault) before end.InputFault []
 
 -- which of the two it is goes by whether the input fails
-abbrev pub AnswersProgram : List ℕ → List Opened → Core → Option InForce → Bool → Done → Shown → Type 0
-AnswersProgram file opened core asked fails done a =
-    MatchBool fails (Starved file opened core asked done a) (Ended file opened core asked done a)
+abbrev pub AnswersProgram : List ℕ → List Opened → Core → (End → Option Known) → Bool → Done → Shown → Type 0
+AnswersProgram file opened core knows fails done a =
+    MatchBool fails (Starved file opened core knows done a) (Ended file opened core knows done a)
 
 -- all of what a program does, or want of memory after a first part
-abbrev pub AnswersMeant : List ℕ → List Opened → Core → Option InForce → Bool → Done → Shown → Type 0
-AnswersMeant file opened core asked fails done a =
-    AnswersProgram file opened core asked fails done a ⊎ ((before : List Event) × (rest : List Event) × (done.events ≡ before ++ rest) × (a ≡ unfinished before))
+abbrev pub AnswersMeant : List ℕ → List Opened → Core → (End → Option Known) → Bool → Done → Shown → Type 0
+AnswersMeant file opened core knows fails done a =
+    AnswersProgram file opened core knows fails done a ⊎ ((before : List Event) × (rest : List Event) × (done.events ≡ before ++ rest) × (a ≡ unfinished before))
 
 -- `run` does what the meaning does while the stack has room; `mean` does all of it, or wants memory after a first part
 abbrev pub AnswersWay : List ℕ → List Opened → Core → Input → Way → Shown → Type 0
 AnswersWay file opened core input (Run limits steps leaks explain) a =
-    AnswersProgram file opened core (explains_run explain steps limits) input.fails (run_within limits core input.bytes steps leaks) a
+    let objects = (cut_run core input.bytes steps limits).state.objects in
+    AnswersProgram file opened core (explains_run explain steps limits objects) input.fails (run_within limits core input.bytes steps leaks) a
 AnswersWay file opened core input (Mean heap steps explain) a =
-    AnswersMeant file opened core (explains_mean explain steps) input.fails (meant core input.bytes steps heap) a
+    AnswersMeant file opened core (λ e. explains_mean explain steps) input.fails (meant core input.bytes steps heap) a
 
 -- a program is run on a machine
 abbrev pub OnMachine : Way → Type 0

@@ -4,7 +4,7 @@ use Rattle.c_pre.specs.Directives.{is_path_byte}
 use Rattle.std.specs.Prelude.{◌≡◌, ◌≢◌, ◌⊎◌, ◌<◌, ◌≤◌, ◌+◌, ℕ, Bool, IsTrue, true, false, nat_lt, cond, List, [], ◌∷◌, ◌++◌, Contains, Option, Some, None, Result, IfOk, codes}
 use Rattle.command_words.specs.Commands.{Command, OnFiles, Execute}
 use Rattle.core_tree.specs.declared.program.Core.{Core}
-use Rattle.bad_free_report.specs.declared.explanation.InForce.{InForce}
+use Rattle.bad_free_report.specs.declared.explanation.Known.{Known}
 use Rattle.bad_free_report.specs.declared.form.Form.{Form}
 use Rattle.bad_free_report.specs.Notice.{Ending, Notice, said}
 use Rattle.bad_free_report.specs.Notice as notice
@@ -128,12 +128,13 @@ abbrev pub SaysIn : {I O E : Type 0} → List Opened → ℕ → List ℕ → Op
 SaysIn opened line kind word status before after result =
     SaysOnly (refusal_at (line_in opened line) kind word status) before after result
 
--- how a program is told of: the file and the texts that are named, its core, and the limits by which its end is explained
+-- how a program is told of: the file and the texts that are named, its core, and what is known of its run, by which its end is
+-- explained
 pub record Telling : Type 0 where
   pub file : List ℕ
   pub opened : List Opened
   pub core : Core
-  pub asked : Option InForce
+  pub asked : Option Known
 
 -- the code's as the definition has it
 abbrev pub telling_of : code.Telling → Telling

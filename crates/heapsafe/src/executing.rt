@@ -86,7 +86,7 @@ fn run_verified<I: Source, O: Sink, E: Sink>(
                 file,
                 opened,
                 core: &code.names,
-                asked: explains_run(asked.explain, asked.steps, asked.limits),
+                asked: explains_run(asked.explain, asked.steps, asked.limits, &machine, &end),
             };
             finish_run(&end, &machine, asked.leaks, &telling, io)
         }

@@ -2,8 +2,9 @@
 //! counts in it.
 
 ghost use Rattle.std.specs.Prelude.{◌≡◌, option_copied, option_map};
-ghost use Rattle.heapsafe.specs.Places.{named_place, text_of, told_line, told_holder, told_free, told_end, told_leak, line_of_end};
+ghost use Rattle.heapsafe.specs.Places.{named_place, text_of, told_line, told_holder, told_free, told_end, told_freed, told_known, told_leak, line_of_end};
 
+use bad_free_report::{Freed, Known};
 use c_pre::Opened;
 use hs_base::{BadFree, End, Holder, Leak, Line};
 
@@ -79,6 +80,43 @@ pub(crate) fn told_end(opened: &[Opened], end: End) -> End
         },
         End::OutOfStack(line) => End::OutOfStack(told_line(opened, line)),
         _ => end,
+    }
+}
+
+/// What was freed, with the line of its text.
+fn told_freed(opened: &[Opened], freed: Freed) -> Freed
+    ensures { result ≡ told_freed opened.now freed }
+{
+    Freed {
+        blocks: freed.blocks,
+        bytes: freed.bytes,
+        line: match freed.line {
+            Some(line) => Some(told_line(opened, line)),
+            None => None,
+        },
+    }
+}
+
+/// What was freed, if that is known, with the line of its text.
+fn told_some_freed(opened: &[Opened], freed: Option<Freed>) -> Option<Freed>
+    ensures { result ≡ option_map (told_freed opened.now) freed }
+{
+    match freed {
+        Some(freed) => Some(told_freed(opened, freed)),
+        None => None,
+    }
+}
+
+/// What is known of a run, if anything is, with the line of its text.
+pub(crate) fn told_known(opened: &[Opened], known: Option<Known>) -> Option<Known>
+    ensures { result ≡ option_map (told_known opened.now) known }
+{
+    match known {
+        Some(known) => Some(Known {
+            limits: known.limits,
+            freed: told_some_freed(opened, known.freed),
+        }),
+        None => None,
     }
 }
 

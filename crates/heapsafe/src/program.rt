@@ -5,28 +5,31 @@ ghost use Rattle.c_tree.specs.StatementView.{unit_view};
 ghost use Rattle.c_elab.specs.Core.{core_in};
 ghost use Rattle.core_soundness.specs.Texts.{IsOfTexts};
 ghost use Rattle.core_tree.specs.Sound.{IsSound};
+ghost use Rattle.flat_objects.specs.Keeping.{ForKept};
 ghost use Rattle.flat_objects.specs.Leaks.{KeepsSome};
 ghost use Rattle.hs_base.specs.Outside.{CountsFaults};
-ghost use Rattle.heapsafe.specs.Program.{IsBounded, explains_mean, explains_run, status_of};
+ghost use Rattle.heapsafe.specs.Program.{IsBounded, explains_mean, explains_run, freed_at, freed_by, freed_of, status_of};
 ghost use Rattle.bad_free_report.specs.Told.{ending_of};
 ghost use Rattle.heapsafe.specs.Saying.{PutsExit, SaysCounts, SaysEnd, SaysExit, SaysLeft, SaysOwn, SaysPlain, TakesExit, TellsLeaks, ending_told, telling_of};
 ghost use Rattle.heapsafe.specs.Serving.{RunsOn, RunsTyped, RunsWay};
 ghost use Rattle.heapsafe.specs.Sight.{HasRoom, KeepsBoth};
 
 use crate::leaks::write_leaks;
-use crate::places::{line_of_end, named_text, told_end};
+use crate::places::{line_of_end, named_text, told_end, told_known};
 use crate::refusal::{OUTPUT_FAULT, Refusal, refuse, refuse_types};
 use crate::running::{evaluate, run_code};
 use crate::streams::Streams;
 use bad_free_report::{
-    Ending, Form, InForce, ends_are_said_in_parts, say_before_leaks, say_behind_leaks, say_ended,
+    Ending, Form, Freed, InForce, Known, ends_are_said_in_parts, say_before_leaks,
+    say_behind_leaks, say_ended,
 };
 use c_elab::elab;
 use c_pre::Opened;
 use c_tree::Unit;
 use core_tree::Core;
 use flat_machine::Machine;
-use hs_base::{End, Failed, Limits, Sink, Source};
+use flat_objects::Waiting;
+use hs_base::{End, Failed, Limits, Line, Reason, Sink, Source};
 use std::alloc::Global;
 
 /// How a program is run, and with how many steps.
@@ -49,26 +52,73 @@ pub(crate) enum Way {
     },
 }
 
-/// The limits by which the end of a run is explained, where that is asked for.
-pub(crate) fn explains_run(explain: bool, steps: u64, limits: Limits) -> Option<InForce>
-    ensures { result ≡ explains_run explain steps limits }
+/// What waits, as what was freed.
+fn freed_of(waiting: Waiting) -> Freed
+    ensures { result ≡ freed_of waiting }
+{
+    Freed {
+        blocks: waiting.blocks,
+        bytes: waiting.bytes,
+        line: waiting.line,
+    }
+}
+
+/// What was freed at a bad free with this reason and line, among the objects that a machine keeps.
+fn freed_by(machine: &Machine, reason: Reason, line: Line) -> Option<Freed>
+    requires { KeepsSome machine.now.kept.memory }
+    ensures { ForKept machine.now.kept.memory (λ _ all. result ≡ freed_by reason line all) }
+{
+    match reason {
+        Reason::Held => Some(freed_of(machine.waiting_blocks(Some(line)))),
+        Reason::Again => Some(freed_of(machine.waiting_blocks(None))),
+        Reason::NotStart => None,
+    }
+}
+
+/// What was freed at an end, among the objects that a machine keeps: nothing but at a bad free.
+fn freed_at(machine: &Machine, end: &End) -> Option<Freed>
+    requires { KeepsSome machine.now.kept.memory }
+    ensures { ForKept machine.now.kept.memory (λ _ all. result ≡ freed_at all end.now) }
+{
+    match *end {
+        End::BadFree(free, _) => freed_by(machine, free.reason, free.line),
+        _ => None,
+    }
+}
+
+/// What is known of a run by which its end is explained, where that is asked for, from the machine behind it.
+pub(crate) fn explains_run(
+    explain: bool,
+    steps: u64,
+    limits: Limits,
+    machine: &Machine,
+    end: &End,
+) -> Option<Known>
+    requires { KeepsSome machine.now.kept.memory }
+    ensures { ForKept machine.now.kept.memory (λ _ all. result ≡ explains_run explain steps limits all end.now) }
 {
     if explain {
-        Some(InForce {
-            steps,
-            stack: limits.stack,
+        Some(Known {
+            limits: InForce {
+                steps,
+                stack: limits.stack,
+            },
+            freed: freed_at(machine, end),
         })
     } else {
         None
     }
 }
 
-/// The same for the evaluator, which has no limit of stack.
-fn explains_mean(explain: bool, steps: u64) -> Option<InForce>
+/// The same for the evaluator, which has no limit of stack, and of which no state is known.
+fn explains_mean(explain: bool, steps: u64) -> Option<Known>
     ensures { result ≡ explains_mean explain steps }
 {
     if explain {
-        Some(InForce { steps, stack: 0 })
+        Some(Known {
+            limits: InForce { steps, stack: 0 },
+            freed: None,
+        })
     } else {
         None
     }
@@ -90,14 +140,14 @@ pub(crate) fn status_of(end: &End) -> u8
     }
 }
 
-/// How a program is told of: the file and the texts that are named, its core, and the limits by which its end is explained, where
-/// that is asked for.
+/// How a program is told of: the file and the texts that are named, its core, and what is known of its run, where its end is to be
+/// explained.
 #[derive(Clone, Copy)]
 pub(crate) struct Telling<'a> {
     pub(crate) file: &'a str,
     pub(crate) opened: &'a [Opened],
     pub(crate) core: &'a Core,
-    pub(crate) asked: Option<InForce>,
+    pub(crate) asked: Option<Known>,
 }
 
 /// How a program ended, with the lines of their texts.
@@ -110,7 +160,7 @@ fn told_ending<'a>(telling: &Telling<'a>, end: &End) -> Ending<'a>
         core: telling.core,
         name,
         text,
-        limits: telling.asked,
+        known: told_known(telling.opened, telling.asked),
         how,
     }
 }
@@ -225,7 +275,7 @@ fn run_core<I: Source, O: Sink, E: Sink>(
                 file,
                 opened,
                 core,
-                asked: explains_run(explain, steps, limits),
+                asked: explains_run(explain, steps, limits, &machine, &end),
             };
             finish_run(&end, &machine, leaks, &telling, io)
         }

@@ -5,14 +5,41 @@ use heapsafe::heapsafe;
 use hs_base::{FileTexts, NoMemory, StdSink, StdSource};
 use std::alloc::Global;
 use std::env;
+use std::env::{Env, FillError};
 use std::io::ErrorKind;
 use std::process::ExitCode;
 
 /// The status where there is no memory for the words.
 const NO_MEMORY: u8 = 134;
 
-/// The words of the command line, without the program's name. Where one is not UTF-8 there are none, which is a
-/// refused command line.
+/// Says whether one of the words of the command line asks for an object of JSON.
+fn asks_for_json(rt: &HostRuntime) -> bool {
+    let mut word = [0; 6];
+    for i in 1..usize::MAX {
+        match rt.arg(i, &mut word) {
+            Ok(length) => {
+                if length == 6 && word == *b"--json" {
+                    return true;
+                }
+            }
+            Err(FillError::TooLong) => {}
+            Err(FillError::NotPresent) => return false,
+        }
+    }
+    false
+}
+
+/// The words that stand for those of a command line of which one is not UTF-8: such a line is refused, in the form that it asks
+/// for, and so are these.
+fn refused_words(rt: &HostRuntime) -> Result<Vec<String>, NoMemory> {
+    let mut words = Vec::new(rt.alloc());
+    if asks_for_json(rt) {
+        words.push(String::from_str(rt.alloc(), "--json")?)?;
+    }
+    Ok(words)
+}
+
+/// The words of the command line, without the program's name.
 fn words(rt: &HostRuntime) -> Result<Vec<String>, NoMemory> {
     let mut words = Vec::new(rt.alloc());
     match env::args(rt) {
@@ -23,7 +50,7 @@ fn words(rt: &HostRuntime) -> Result<Vec<String>, NoMemory> {
             Ok(words)
         }
         Err(error) if error.kind() == ErrorKind::OutOfMemory => Err(NoMemory),
-        Err(_) => Ok(words),
+        Err(_) => refused_words(rt),
     }
 }
 

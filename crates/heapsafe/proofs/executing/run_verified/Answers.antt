@@ -1,17 +1,13 @@
-use Rattle.std.proofs.Common.{ℕ, List, Option, None, Some, [], ap, refl, subst, sym}
+use Rattle.std.proofs.Common.{ℕ, List, Option, None, ap, refl}
 use Rattle.std.specs.Prelude.{⊤}
 use Rattle.hs_base.specs.declared.ends.End.{End}
 use Rattle.hs_base.specs.Object.{Object}
 use Rattle.hs_base.specs.Trace.{Event}
-use Rattle.object_meaning.specs.code.CodeState.{CodeState}
 use Rattle.object_meaning.specs.code.CodeMeaning.{meaning}
-use Rattle.flat_machine.specs.Lasting.{LeavesImage}
-use Rattle.flat_machine.specs.Running.{RunAnswers, cut_of}
-use Rattle.flat_objects.specs.Keeping.{Keeps}
 use Rattle.heapsafe.specs.Execution.{AnswersCode, code_within}
-use Rattle.heapsafe.specs.Program.{Input}
+use Rattle.heapsafe.specs.Program.{Input, explains_run}
 use Rattle.heapsafe.specs.Serving.{Runs}
-use Rattle.heapsafe.proofs.Executed.{Makes, code_ends, code_events, code_makes, exit_whole, kept_counts, kept_puts, serves_alike, serves_done}
+use Rattle.heapsafe.proofs.Executed.{Makes, code_ends, code_events, code_makes, kept_bad_free, kept_counts, kept_exit, kept_puts, known_at, serves_alike, serves_done}
 use Rattle.heapsafe.proofs.Served.{seen_from, said_behind, serves_none}
 use Rattle.heapsafe.proofs.executing.run_verified.Goals as goal
 
@@ -29,8 +25,10 @@ returns-in-Ok g c =
     let ends : List ℕ → Option End = λ left. code_ends code left asked.steps asked.limits none none in
     let objects : List ℕ → List Object = λ left. (meaning code left asked.steps asked.limits.heap).state.state.objects in
     seen_from (λ b a r. Runs ⊤ (λ i s. AnswersCode file c.args.code.now i asked s) b a r) _ _ _ _ c.io.view_is
-    (serves_alike file names _ after result ⊤ (λ (i : Input). code_within asked.limits code i.bytes asked.steps asked.leaks) _ _ _ _ c.requires.text c.explains_run.ensures
-    (serves_done file c.args.opened.now names c.explains_run.result _ after result ⊤ c.in-Ok.end asked.leaks events ends objects
+    (serves_alike file names _ after result ⊤ (λ (i : Input). code_within asked.limits code i.bytes asked.steps asked.leaks) (λ (i : Input). explains_run asked.explain asked.steps asked.limits (objects i.bytes)) _ _ c.requires.text
+    (serves_done file c.args.opened.now names c.explains_run.result _ after result ⊤ c.in-Ok.end asked.leaks events ends objects (λ left. explains_run asked.explain asked.steps asked.limits (objects left))
+    (λ left k. known_at asked.explain asked.steps asked.limits c.in-Ok.machine.kept.memory c.in-Ok.ensures.kept c.explains_run.result (objects left) c.in-Ok.end c.explains_run.ensures (λ why holder is.
+    kept_bad_free c.whole_runs_are_whole.ensures code left asked.steps asked.limits _ _ c.in-Ok.machine.kept c.in-Ok.end why holder is (c.in-Ok.ensures.ran left k).told.is (c.in-Ok.ensures.ran left k).image))
     (kept_counts _ _ keeps c.in-Ok.end _ _ c.in-Ok.ensures.faults)
     (λ left k.
     let p = (c.in-Ok.ensures.ran left k).told in
@@ -38,14 +36,8 @@ returns-in-Ok g c =
     (λ left k. record {
       none = c.finish_run.ensures.says;
       some = λ status asks is.
-          let last = meaning code left asked.steps asked.limits.heap in
-          let p = (c.in-Ok.ensures.ran left k).told in
-          let image = subst (λ (x : End). LeavesImage code left asked.steps asked.limits x c.in-Ok.machine.kept) is (c.in-Ok.ensures.ran left k).image in
-          let ran = subst (λ (x : End). RunAnswers code left asked.steps asked.limits [] x (g.I.Source.left c.run_file.new.input) (Some p.put)) is p.is in
-          let whole = exit_whole (cut_of code left asked.steps asked.limits).refused last.ended status ran.end in
-          let same = c.whole_runs_are_whole.ensures code left asked.steps asked.limits image.0 whole.1 image.1 whole.0 whole.2 in
-          let told = c.finish_run.ensures.leaks status asks is image.2.places (objects left)
-          (subst (λ (s : CodeState). Keeps c.in-Ok.machine.kept.memory image.2.places s.state.objects) (sym same) image.2.agrees.keeps) in
+          let kept = kept_exit c.whole_runs_are_whole.ensures code left asked.steps asked.limits _ _ c.in-Ok.machine.kept c.in-Ok.end status is (c.in-Ok.ensures.ran left k).told.is (c.in-Ok.ensures.ran left k).image in
+          let told = c.finish_run.ensures.leaks status asks is kept.0 (objects left) kept.1 in
           record { says = told.says; all = told.all };
     })
     c.finish_run.ensures.says c.finish_run.ensures.counts c.finish_run.ensures.own keeps.form))

@@ -1,12 +1,13 @@
 use Rattle.std.proofs.Common.{ℕ, List, Option, None, ap, refl, subst}
 use Rattle.std.specs.Prelude.{⊤}
 use Rattle.hs_base.specs.declared.ends.End.{End}
+use Rattle.hs_base.specs.Object.{Object}
 use Rattle.hs_base.specs.Trace.{Event}
 use Rattle.flat_codegen.specs.Lasting.{LeavesImage, cut_run}
 use Rattle.heapsafe.specs.declared.program.Way.TheVariants.{Run}
-use Rattle.heapsafe.specs.Program.{AnswersWay, Input, run_within}
+use Rattle.heapsafe.specs.Program.{AnswersWay, explains_run}
 use Rattle.heapsafe.specs.Serving.{Runs}
-use Rattle.heapsafe.proofs.Executed.{Makes, core_ends, core_events, core_makes, kept_counts, kept_puts, serves_alike, serves_done}
+use Rattle.heapsafe.proofs.Executed.{Makes, core_ends, core_events, core_makes, kept_counts, kept_puts, known_at, serves_done}
 use Rattle.heapsafe.proofs.Served.{seen_from, said_behind, serves_none}
 use Rattle.heapsafe.proofs.program.run_core.Goals as goal
 
@@ -18,12 +19,15 @@ returns-in-Ok g c =
     let none : Option (List ℕ) = None in
     let events : List ℕ → List Event = λ left. core_events core left steps limits none none in
     let ends : List ℕ → Option End = λ left. core_ends core left steps limits none none in
+    let objects : List ℕ → List Object = λ left. (cut_run core left steps limits).state.objects in
     let keeps = c.finish_run.ensures.keeps in
     let after = c.finish_run.new.io in
     let result = c.finish_run.result in
     seen_from (λ b a r. Runs ⊤ (λ i s. AnswersWay c.args.file.now c.args.opened.now core i (Run limits steps c.args.leaks c.args.explain) s) b a r) _ _ _ _ c.io.view_is
-    (serves_alike c.args.file.now core _ after result ⊤ (λ (i : Input). run_within limits core i.bytes steps c.args.leaks) _ _ _ _ refl c.explains_run.ensures
-    (serves_done c.args.file.now c.args.opened.now core c.explains_run.result _ after result ⊤ c.in-Ok.end c.args.leaks events ends (λ left. (cut_run core left steps limits).state.objects)
+    (serves_done c.args.file.now c.args.opened.now core c.explains_run.result _ after result ⊤ c.in-Ok.end c.args.leaks events ends objects (λ left. explains_run c.args.explain steps limits (objects left))
+    (λ left k. known_at c.args.explain steps limits c.in-Ok.machine.kept.memory c.in-Ok.ensures.kept c.explains_run.result (objects left) c.in-Ok.end c.explains_run.ensures (λ why holder is.
+    let ran = c.in-Ok.ensures.ran left k in
+    let image = subst (λ (x : End). LeavesImage core ran.0 left steps limits x c.in-Ok.machine.kept) is ran.2.image in (image.places, image.agrees.keeps)))
     (kept_counts _ _ keeps c.in-Ok.end _ _ c.in-Ok.ensures.faults)
     (λ left k.
     let p = (c.in-Ok.ensures.ran left k).2.told in
@@ -33,10 +37,10 @@ returns-in-Ok g c =
       some = λ code asked is.
           let ran = c.in-Ok.ensures.ran left k in
           let image = subst (λ (x : End). LeavesImage core ran.0 left steps limits x c.in-Ok.machine.kept) is ran.2.image in
-          let told = c.finish_run.ensures.leaks code asked is image.places (cut_run core left steps limits).state.objects image.agrees.keeps in
+          let told = c.finish_run.ensures.leaks code asked is image.places (objects left) image.agrees.keeps in
           record { says = told.says; all = told.all };
     })
-    c.finish_run.ensures.says c.finish_run.ensures.counts c.finish_run.ensures.own keeps.form))
+    c.finish_run.ensures.says c.finish_run.ensures.counts c.finish_run.ensures.own keeps.form)
 
 pub returns-in-Err : goal.returns-in-Err
 returns-in-Err g c =

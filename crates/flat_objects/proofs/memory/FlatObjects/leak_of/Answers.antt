@@ -2,7 +2,7 @@ use Rattle.std.proofs.Common.{◌≡◌, ◌≤◌, ◌+◌, ◌*◌, ◌^◌, �
 use Rattle.hs_base.specs.declared.ends.Leak.{Leak}
 use Rattle.flat_objects.specs.Memory.{Memory, IsMemory, end_of}
 use Rattle.flat_objects.specs.Leaks.{with_object}
-use Rattle.flat_objects.proofs.Leaking.{blocks_met, bytes_met, few_met, leak_is, line_met, no_sum_yet, one_each, size_each, small_met}
+use Rattle.flat_objects.proofs.Leaking.{blocks_met, bytes_met, few_met, leak_is, line_met, no_sum_yet, of_line, one_each, size_each, small_met}
 use Rattle.flat_objects.proofs.memory.FlatObjects.leak_of.Goals as goal
 
 pub loop-granule-init : goal.loop-granule-init
@@ -11,8 +11,8 @@ loop-granule-init g c =
     let base = ap (λ (m : Memory). m.heap.base) c.self.view_is in
     record {
       line = refl;
-      blocks = λ places objects keeps. sym (no_sum_yet c.self.inside.locals_from c.self.inside.heap_from c.args.self.now shape places objects keeps one_each c.args.line _ (omega (arith, c.base-granule.ensures.base)));
-      bytes = λ places objects keeps. sym (no_sum_yet c.self.inside.locals_from c.self.inside.heap_from c.args.self.now shape places objects keeps size_each c.args.line _ (omega (arith, c.base-granule.ensures.base)));
+      blocks = λ places objects keeps. sym (no_sum_yet c.self.inside.locals_from c.self.inside.heap_from c.args.self.now shape places objects keeps one_each (of_line c.args.line) _ (omega (arith, c.base-granule.ensures.base)));
+      bytes = λ places objects keeps. sym (no_sum_yet c.self.inside.locals_from c.self.inside.heap_from c.args.self.now shape places objects keeps size_each (of_line c.args.line) _ (omega (arith, c.base-granule.ensures.base)));
       few = omega arith;
       small = omega arith;
       work = omega (arith, c.base-granule.ensures.base);
