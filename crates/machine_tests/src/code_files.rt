@@ -1,6 +1,7 @@
 //! A code file made by hand, read, looked at and written again; and bytes that are those of no code file.
 
-use code_file::{CodeError, has_short_lists, names_of, read_code, verify, write_code};
+use code_file::{CodeError, CodeFile, has_short_lists, names_of, read_code, verify, write_code};
+use core_tree::Core;
 use flat_code::{Instr, Op};
 use hs_base::NoMemory;
 use std::alloc::Global;
@@ -70,11 +71,26 @@ fn changed(alloc: Global, place: usize, byte: u8) -> Result<Vec<u8>, NoMemory> {
     Ok(bytes)
 }
 
-#[test]
-fn read_and_written_again(rt: HostRuntime) -> Result<(), Fail> {
-    let alloc = rt.alloc();
+/// The code file of the bytes.
+fn sample_file(alloc: Global) -> Result<CodeFile, Fail> {
     let bytes = sample(alloc)?;
-    let file = read_code(alloc, &bytes)?;
+    Ok(read_code(alloc, &bytes)?)
+}
+
+/// The number in the instruction at a place.
+fn number_at(file: &CodeFile, place: usize) -> Option<i64> {
+    Some(file.code.instrs.get(place)?.imm)
+}
+
+/// How many bytes the first static has, and how many registers the first function.
+fn first_lengths(file: &CodeFile) -> Option<(usize, usize)> {
+    let first = file.code.statics.get(0)?;
+    Some((first.bytes.len(), file.names.funcs.get(0)?.regs.len()))
+}
+
+#[test]
+fn read(rt: HostRuntime) -> Result<(), Fail> {
+    let file = sample_file(rt.alloc())?;
     let instr = Instr {
         op: Op::Bin(core_tree::BinOp::Mul, hs_base::IntKind::I32),
         a: 1,
@@ -83,11 +99,17 @@ fn read_and_written_again(rt: HostRuntime) -> Result<(), Fail> {
         imm: 0,
     };
     assert_eq!(rt; file.code.instrs.get(2).copied(), Some(instr));
-    assert_eq!(rt; file.code.instrs.get(1).map(|i| i.imm), Some(-2));
+    assert_eq!(rt; number_at(&file, 1), Some(-2));
     assert_eq!(rt; file.code.lines.get(2).copied(), Some(258));
-    assert_eq!(rt; file.code.statics.get(0).map(|s| s.bytes.len()), Some(1));
-    assert_eq!(rt; file.names.funcs.get(0).map(|f| f.regs.len()), Some(2));
-    let written = write_code(alloc, &file)?;
+    assert_eq!(rt; first_lengths(&file), Some((1, 2)));
+    Ok(())
+}
+
+#[test]
+fn written_again(rt: HostRuntime) -> Result<(), Fail> {
+    let alloc = rt.alloc();
+    let bytes = sample(alloc)?;
+    let written = write_code(alloc, &read_code(alloc, &bytes)?)?;
     assert!(rt; written.as_slice() == bytes.as_slice());
     Ok(())
 }
@@ -194,6 +216,12 @@ fn walk(alloc: Global, target: u8, pins: &[u8]) -> Result<Vec<u8>, NoMemory> {
     Ok(bytes)
 }
 
+/// Says whether the code in bytes is well formed.
+fn is_verified(alloc: Global, bytes: &[u8]) -> Result<bool, Fail> {
+    let file = read_code(alloc, bytes)?;
+    Ok(verify(alloc, &file)?)
+}
+
 #[test]
 fn verified(rt: HostRuntime) -> Result<(), Fail> {
     let alloc = rt.alloc();
@@ -208,15 +236,11 @@ fn verified(rt: HostRuntime) -> Result<(), Fail> {
         (2, b"\x02\0\0\0\0\0\0\0\x01\0\0\0", false),
     ];
     for (target, pins, well_formed) in walks {
-        let file = read_code(alloc, &walk(alloc, target, pins)?)?;
-        assert_eq!(rt;
-            verify(alloc, &file)?,
-            well_formed,
-            "to {target} with {pins:?}"
-        );
+        let bytes = walk(alloc, target, pins)?;
+        let found = is_verified(alloc, &bytes)?;
+        assert!(rt; found == well_formed, "to {target} with {pins:?}");
     }
-    let file = read_code(alloc, &sample(alloc)?)?;
-    assert!(rt; !verify(alloc, &file)?);
+    assert!(rt; !is_verified(alloc, &sample(alloc)?)?);
     Ok(())
 }
 
@@ -257,14 +281,18 @@ fn each_byte_changed(rt: HostRuntime) -> Result<(), Fail> {
     Ok(())
 }
 
+/// The line of the first function, and how many registers and memory locals it has.
+fn first_function(core: &Core) -> Option<(u32, usize, usize)> {
+    let function = core.funcs.get(0)?;
+    Some((function.line, function.regs.len(), function.mems.len()))
+}
+
 #[test]
 fn names_of_a_core(rt: HostRuntime) -> Result<(), Fail> {
     let alloc = rt.alloc();
-    let file = read_code(alloc, &sample(alloc)?)?;
+    let file = sample_file(alloc)?;
     let names = names_of(alloc, &file.names)?;
-    assert_eq!(rt; names.funcs.get(0).map(|f| f.line), Some(1));
-    assert_eq!(rt; names.funcs.get(0).map(|f| f.regs.len()), Some(2));
-    assert_eq!(rt; names.funcs.get(0).map(|f| f.mems.len()), Some(1));
+    assert_eq!(rt; first_function(&names), Some((1, 2, 1)));
     assert_eq!(rt; names.statics.len(), 1);
     assert!(rt; has_short_lists(&file.code));
     Ok(())

@@ -1,11 +1,13 @@
 //! The outside in memory, with planned failures, and one test of each real adapter.
 
+ghost use Rattle.std.specs.Prelude.{◌+◌, ◌<◌, ◌≤◌, ◌^◌, length};
+
 use hs_base::{
     Failed, FileTexts, Items, MemSink, MemSource, MemTexts, Sink, Source, StdSink, StdSource,
     SureSink, SureSource, SureTexts, Texts,
 };
 use std::alloc::Global;
-use std::io::{BufReader, Read};
+use std::process::Abort;
 use std::test::Fail;
 
 /// Bytes as a list.
@@ -25,64 +27,104 @@ fn calls(alloc: Global, numbers: &[u64]) -> Result<Items<u64>, Fail> {
     Ok(Items::from(Vec::from_slice(alloc, numbers)?))
 }
 
+/// A read of a text: its name, the place, and the bytes that it gives.
+type Read<'a> = (&'a str, u64, Result<&'a [u8], Failed>);
+
+/// The reads give what stands beside them, in order, four bytes at most.
+fn read<T: Texts>(rt: &impl Abort, texts: &mut T, reads: &[Read<'_>])
+    requires { T.faults texts.old + length reads.now < 2 ^ 64 }
+{
+    let mut buffer = [0u8; 4];
+    for (name, place, wanted) in reads {
+        let found = match texts.piece(name, *place, &mut buffer) {
+            Ok(length) => Ok(&buffer[..length]),
+            Err(failed) => Err(failed),
+        };
+        assert_eq!(rt; found, *wanted, "{name} at {place}");
+    }
+}
+
 #[test]
 fn texts_in_memory(rt: HostRuntime) -> Result<(), Fail> {
     let alloc = rt.alloc();
     let mut texts = MemTexts::new(one_text(alloc, b"hello")?, calls(alloc, &[2])?);
-    let mut buffer = [0u8; 4];
-    assert_eq!(rt; texts.piece("a", 0, &mut buffer), Ok(4));
-    assert_eq!(rt; buffer.as_slice(), b"hell".as_slice());
-    assert_eq!(rt; texts.piece("a", 4, &mut buffer), Err(Failed));
-    assert_eq!(rt; texts.piece("a", 4, &mut buffer), Ok(1));
-    assert_eq!(rt; texts.piece("a", 5, &mut buffer), Ok(0));
-    assert_eq!(rt; texts.piece("b", 0, &mut buffer), Err(Failed));
-    let mut sure = SureTexts::new(one_text(alloc, b"hello")?);
-    assert_eq!(rt; sure.piece("b", 0, &mut buffer), Ok(0));
-    assert_eq!(rt; sure.piece("a", 3, &mut buffer), Ok(2));
+    let reads: [Read<'_>; 5] = [
+        ("a", 0, Ok(b"hell")),
+        ("a", 4, Err(Failed)),
+        ("a", 4, Ok(b"o")),
+        ("a", 5, Ok(b"")),
+        ("b", 0, Err(Failed)),
+    ];
+    read(&rt, &mut texts, &reads);
     Ok(())
+}
+
+#[test]
+fn sure_texts(rt: HostRuntime) -> Result<(), Fail> {
+    let mut texts = SureTexts::new(one_text(rt.alloc(), b"hello")?);
+    read(&rt, &mut texts, &[("b", 0, Ok(b"")), ("a", 3, Ok(b"lo"))]);
+    Ok(())
+}
+
+/// The calls for the next byte give these answers, in order.
+fn give<S: Source>(rt: &impl Abort, input: &mut S, answers: &[Result<Option<u8>, Failed>])
+    requires { S.faults input.old + length answers.now < 2 ^ 64 }
+    ensures { S.faults input.new ≤ S.faults input.old + length answers.now }
+{
+    for answer in answers {
+        assert_eq!(rt; input.next(), *answer);
+    }
 }
 
 #[test]
 fn input_in_memory(rt: HostRuntime) -> Result<(), Fail> {
     let alloc = rt.alloc();
     let mut input = MemSource::new(bytes(alloc, b"hi")?, calls(alloc, &[2])?);
-    assert_eq!(rt; input.next(), Ok(Some(b'h')));
-    assert_eq!(rt; input.next(), Err(Failed));
+    give(&rt, &mut input, &[Ok(Some(b'h')), Err(Failed)]);
     assert_eq!(rt; input.left(), b"i".as_slice());
-    assert_eq!(rt; input.next(), Ok(Some(b'i')));
-    assert_eq!(rt; input.next(), Ok(None));
-    let mut sure = SureSource::new(bytes(alloc, b"i")?);
-    assert_eq!(rt; sure.next(), Ok(Some(b'i')));
-    assert_eq!(rt; sure.next(), Ok(None));
-    assert_eq!(rt; sure.next(), Ok(None));
+    give(&rt, &mut input, &[Ok(Some(b'i')), Ok(None)]);
     Ok(())
+}
+
+#[test]
+fn sure_input(rt: HostRuntime) -> Result<(), Fail> {
+    let mut input = SureSource::new(bytes(rt.alloc(), b"i")?);
+    give(&rt, &mut input, &[Ok(Some(b'i')), Ok(None), Ok(None)]);
+    Ok(())
+}
+
+/// What is put gives this count or failure.
+fn put<S: Sink>(rt: &impl Abort, out: &mut S, bytes: &[u8], answer: Result<usize, Failed>)
+    requires count { S.faults out.old + 1 < 2 ^ 64 }
+    requires some { 0 < length bytes.now }
+    ensures { S.faults out.new ≤ S.faults out.old + 1 }
+{
+    assert_eq!(rt; out.put(bytes), answer);
 }
 
 #[test]
 fn output_in_memory(rt: HostRuntime) -> Result<(), Fail> {
     let alloc = rt.alloc();
     let mut out = MemSink::new(alloc, 2, calls(alloc, &[2])?);
-    assert_eq!(rt; out.put(b"abc"), Ok(2));
-    assert_eq!(rt; out.put(b"c"), Err(Failed));
-    assert_eq!(rt; out.put(b"c"), Ok(1));
+    put(&rt, &mut out, b"abc", Ok(2));
+    put(&rt, &mut out, b"c", Err(Failed));
+    put(&rt, &mut out, b"c", Ok(1));
     assert_eq!(rt; out.bytes(), b"abc".as_slice());
-    assert_eq!(rt; SureSink::new().put(b"abc"), Ok(3));
+    put(&rt, &mut SureSink::new(), b"abc", Ok(3));
     Ok(())
 }
 
 #[test]
 fn real_files_and_streams(rt: HostRuntime) -> Result<(), Fail> {
-    let mut buffer = [0u8; 4];
-    assert_eq!(rt;
-        FileTexts::new(&rt).piece("no such file", 0, &mut buffer),
-        Err(Failed)
+    read(
+        &rt,
+        &mut FileTexts::new(&rt),
+        &[("no such file", 0, Err(Failed))],
     );
     let mut input = StdSource::new(b"hi".as_slice());
-    assert_eq!(rt; input.next(), Ok(Some(b'h')));
-    assert_eq!(rt; input.next(), Ok(Some(b'i')));
-    assert_eq!(rt; input.next(), Ok(None));
+    give(&rt, &mut input, &[Ok(Some(b'h')), Ok(Some(b'i')), Ok(None)]);
     let mut written = Vec::new(rt.alloc());
-    assert_eq!(rt; StdSink::new(&mut written).put(b"hi"), Ok(2));
+    put(&rt, &mut StdSink::new(&mut written), b"hi", Ok(2));
     assert_eq!(rt; written.as_slice(), b"hi".as_slice());
     Ok(())
 }
