@@ -5,7 +5,7 @@ use Rattle.std.proofs.lemmas.Bool.{ltb-false}
 use Rattle.std.proofs.lemmas.List.Sums.{sum_by-append}
 use Rattle.c_lexer.specs.declared.token.Token.{Token}
 use Rattle.c_pre.specs.After.{and_then}
-use Rattle.c_pre.specs.Expansion.{Arguments, Scanning, most_work, enough, fresh, macro_for, replaced, split_from, is_open, fits, kept, goes_on, arguments_scanned, object_hides, function_hides, called, at_macro, at_token, scanned, expanded}
+use Rattle.c_pre.specs.Expansion.{Arguments, Scanning, most_work, enough, fresh, macro_for, replaced, keeps_commas, split_from, is_open, fits, kept, goes_on, arguments_scanned, object_hides, function_hides, called, at_macro, at_token, scanned, expanded}
 use Rattle.c_pre.specs.declared.answer.PreKind.TheVariants as kind
 use Rattle.c_pre.specs.declared.answer.Refusal.{Refusal}
 use Rattle.c_pre.specs.declared.answer.Refusal.TheVariants.{Bad, Lex, NoMemory}
@@ -94,7 +94,7 @@ module _ (f : Scanning) (n : ℕ) (scans : (work : ℕ) (tokens : List Marked) �
   called_ends : (t : Marked) (m : Defined) (parameters : List (List ℕ)) (o : Option Split) (work k : ℕ) → Conserves k o → before work k < n → Ends work (called f work t m parameters o)
   called_ends t m parameters None work k c room = tt
   called_ends t m parameters (Some split) work k c room =
-      pick_ends (fits parameters split.args) work _ _
+      pick_ends (fits m.it.variadic parameters split.args) work _ _
       (applied_by t m split work (arguments_scanned f work split.args) (arguments_end work split.args (omega (arith, c, room))) (omega (arith, c, room)))
       tt
 
@@ -103,7 +103,7 @@ module _ (f : Scanning) (n : ℕ) (scans : (work : ℕ) (tokens : List Marked) �
       put_ends t.token.line work work (replaced t.token.line (object_hides t m.number) [] m.it) rest (omega arith) room
   at_macro_ends t m (Some parameters) work rest room =
       pick_ends (is_open rest) work _ _
-      (called_ends t m parameters (split_from 0 [] [] (drop 1 rest)) work (whole [] [] (drop 1 rest)) (split_conserves 0 [] [] (drop 1 rest)) (omega (arith, room, length-drop 1 rest)))
+      (called_ends t m parameters (split_from (keeps_commas m.it.variadic parameters) 0 [] [] (drop 1 rest)) work (whole [] [] (drop 1 rest)) (split_conserves (keeps_commas m.it.variadic parameters) 0 [] [] (drop 1 rest)) (omega (arith, room, length-drop 1 rest)))
       (kept_ends t work (f work rest) (scans work rest room))
 
   at_token_ends : (t : Marked) (o : Option Defined) (work : ℕ) (rest : List Marked) → before work (length rest) < n → Ends work (at_token f work t rest o)

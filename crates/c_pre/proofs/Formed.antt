@@ -8,7 +8,7 @@ use Rattle.c_lexer.specs.declared.token.Token.{Token}
 use Rattle.c_pre.specs.Formed.{IsFormed, IsFormedMacro, IsFormedEntry}
 use Rattle.c_pre.specs.Directives.{is_name, is_sign}
 use Rattle.c_pre.specs.Macros.{found_in}
-use Rattle.c_pre.specs.Expansion.{Arguments, Scanning, most_work, enough, fresh, put_on, unhidden, macro_for, place_of, part_by, replaced, substituted, parameters_of, split_from, is_open, fits, kept, goes_on, arguments_scanned, object_hides, function_hides, called, at_macro, at_token, scanned, expanded}
+use Rattle.c_pre.specs.Expansion.{Arguments, Scanning, most_work, enough, fresh, put_on, unhidden, macro_for, place_of, part_by, replaced, substituted, parameters_of, keeps_commas, is_separator, split_from, is_open, fits, kept, goes_on, arguments_scanned, object_hides, function_hides, called, at_macro, at_token, scanned, expanded}
 use Rattle.c_pre.specs.After.{and_then}
 use Rattle.c_pre.proofs.Left.{Conserves, split_conserves, whole}
 use Rattle.c_pre.specs.Table.{Table, Numbers}
@@ -79,16 +79,16 @@ pick false false true d v w x y z hv hw hx hy hz = hx
 pick false false false true v w x y z hv hw hx hy hz = hy
 pick false false false false v w x y z hv hw hx hy hz = hz
 
-split_formed : (depth : ℕ) (args : List (List Marked)) (current ts : List Marked) → All (All M) args → All M current → All M ts → OnSplit (split_from depth args current ts)
-split_formed depth args current [] a c h = tt
-split_formed depth args current (t ∷ rest) a c h =
+split_formed : (keeps : Option ℕ) (depth : ℕ) (args : List (List Marked)) (current ts : List Marked) → All (All M) args → All M current → All M ts → OnSplit (split_from keeps depth args current ts)
+split_formed keeps depth args current [] a c h = tt
+split_formed keeps depth args current (t ∷ rest) a c h =
     let longer = All-push M current t c (All-head M t rest h) in let more = All-tail M t rest h in let next = All-push (All M) args current a c in
-    pick (is_sign 41 t.token && depth == 0) (is_sign 41 t.token) (is_sign 40 t.token) (is_sign 44 t.token && depth == 0) _ _ _ _ _
+    pick (is_sign 41 t.token && depth == 0) (is_sign 41 t.token) (is_sign 40 t.token) (depth == 0 && is_separator keeps (length args) t.token) _ _ _ _ _
     (next, more)
-    (split_formed (depth - 1) args (current ++ t ∷ []) rest a longer more)
-    (split_formed (depth + 1) args (current ++ t ∷ []) rest a longer more)
-    (split_formed 0 (args ++ current ∷ []) [] rest next (All-nil M) more)
-    (split_formed depth args (current ++ t ∷ []) rest a longer more)
+    (split_formed keeps (depth - 1) args (current ++ t ∷ []) rest a longer more)
+    (split_formed keeps (depth + 1) args (current ++ t ∷ []) rest a longer more)
+    (split_formed keeps 0 (args ++ current ∷ []) [] rest next (All-nil M) more)
+    (split_formed keeps depth args (current ++ t ∷ []) rest a longer more)
 
 -- a scan of some tokens, behind so much work, gives tokens, and no more than it was given and work put in
 abbrev pub OnScan : ℕ → List Marked → Result Expanded Refusal → Type 0
@@ -153,7 +153,7 @@ module _ (f : Scanning) (scans : (work : ℕ) (tokens : List Marked) → All M t
   called_scan : (t : Marked) (m : Defined) (parameters : List (List ℕ)) (o : Option Split) (work n : ℕ) (all : List Marked) → M t → N m → OnSplit o → Conserves n o → n ≤ length all → OnScan work all (called f work t m parameters o)
   called_scan t m parameters None work n all mt nm p c short = tt
   called_scan t m parameters (Some split) work n all mt nm p c short =
-      pick_scan (fits parameters split.args) work all _ _
+      pick_scan (fits m.it.variadic parameters split.args) work all _ _
       (applied_by t m split work all (arguments_scanned f work split.args) mt nm (arguments_scan work split.args p.0) (omega (arith, c, short)) p.1)
       tt
 
@@ -163,9 +163,9 @@ module _ (f : Scanning) (scans : (work : ℕ) (tokens : List Marked) → All M t
       (substituted_formed t.token.line (object_hides t m.number) (parameters_of m.it.parameters) [] m.it.replacement mt.0.1 (All-nil (All M)) nm) h
   at_macro_scan t m (Some parameters) work rest mt nm h =
       pick_scan (is_open rest) work (t ∷ rest) _ _
-      (called_scan t m parameters (split_from 0 [] [] (drop 1 rest)) work (whole [] [] (drop 1 rest)) (t ∷ rest) mt nm
-      (split_formed 0 [] [] (drop 1 rest) (All-nil (All M)) (All-nil M) (All-drop M 1 rest h))
-      (split_conserves 0 [] [] (drop 1 rest)) (omega (arith, length-drop 1 rest)))
+      (called_scan t m parameters (split_from (keeps_commas m.it.variadic parameters) 0 [] [] (drop 1 rest)) work (whole [] [] (drop 1 rest)) (t ∷ rest) mt nm
+      (split_formed (keeps_commas m.it.variadic parameters) 0 [] [] (drop 1 rest) (All-nil (All M)) (All-nil M) (All-drop M 1 rest h))
+      (split_conserves (keeps_commas m.it.variadic parameters) 0 [] [] (drop 1 rest)) (omega (arith, length-drop 1 rest)))
       (kept_scan t work rest (f work rest) mt (scans work rest h))
 
   at_token_scan : (t : Marked) (o : Option Defined) (work : ℕ) (rest : List Marked) → M t → OnMacro o → All M rest → OnScan work (t ∷ rest) (at_token f work t rest o)

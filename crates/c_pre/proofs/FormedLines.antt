@@ -20,7 +20,7 @@ use Rattle.c_lexer.specs.Bytes.{is_space}
 use Rattle.std.specs.List.{list_all, prefix_len}
 use Rattle.c_pre.specs.Groups.{is_live, is_read, is_over, first_line, opened, turned, branched, closed, skipped}
 use Rattle.c_pre.specs.Conditions.{condition_asked}
-use Rattle.c_pre.specs.Directives.{is_name, is_sign, is_among, is_path_byte, path_of, included_name, is_string_kind, names_from, signature_of, with_signature, function_behind, macro_behind, takes_arguments, define_of, include_of, only_name, named_by, alone, is_line_number, line_of, directive_by, directive_of}
+use Rattle.c_pre.specs.Directives.{is_name, is_sign, is_among, is_path_byte, path_of, included_name, is_string_kind, variadic_name, dots_from, names_from, signature_of, with_signature, function_behind, macro_behind, takes_arguments, define_of, include_of, only_name, named_by, alone, is_line_number, line_of, directive_by, directive_of}
 use Rattle.c_pre.specs.Macros.{found, with_entry, same_macro, defined_by, defined}
 use Rattle.c_pre.specs.Expansion.{expanded, fresh, most_work}
 use Rattle.c_pre.specs.Reading.{lexed, rest_lexed, moved, plain, with_expanded, with_run, run_ended, behind_line, at_header, Step, step, with_groups, with_macros, obeyed, of_form, of_tokens, directive_on, directed_from, directed, passed, line_by, line_read, balanced, text_ended}
@@ -152,19 +152,29 @@ pick_signature : (b : Bool) (x y : Option Signature) → OnSignature x → OnSig
 pick_signature true x y hx hy = hx
 pick_signature false x y hx hy = hy
 
+dots_formed : (names : List (List ℕ)) (tokens : List Token) → All IsFormed tokens → OnSignature (dots_from names tokens)
+dots_formed names [] h = tt
+dots_formed names (second ∷ []) h = tt
+dots_formed names (second ∷ third ∷ []) h = tt
+dots_formed names (second ∷ third ∷ sign ∷ behind) h =
+    pick_signature (is_sign 46 second && is_sign 46 third && is_sign 41 sign && not (is_among names variadic_name)) (Some (record { names = names ++ variadic_name ∷ []; variadic = true; replacement = behind })) None
+    (All-tail IsFormed sign behind (All-tail IsFormed third (sign ∷ behind) (All-tail IsFormed second (third ∷ sign ∷ behind) h))) tt
+
 names_formed : (names : List (List ℕ)) (tokens : List Token) → All IsFormed tokens → OnSignature (names_from names tokens)
 names_formed names [] h = tt
 names_formed names (name ∷ []) h = tt
 names_formed names (name ∷ sign ∷ behind) h =
     let more = All-tail IsFormed sign behind (All-tail IsFormed name (sign ∷ behind) h) in
-    pick_signature (not (is_name name) || is_among names name.bytes) None _ tt
-    (pick_signature (is_sign 41 sign) (Some (record { names = names ++ name.bytes ∷ []; replacement = behind })) _ more
-    (pick_signature (is_sign 44 sign) (names_from (names ++ name.bytes ∷ []) behind) None (names_formed (names ++ name.bytes ∷ []) behind more) tt))
+    pick_signature (is_sign 46 name) (dots_from names (sign ∷ behind)) _
+    (dots_formed names (sign ∷ behind) (All-tail IsFormed name (sign ∷ behind) h))
+    (pick_signature (not (is_name name) || is_among names name.bytes) None _ tt
+    (pick_signature (is_sign 41 sign) (Some (record { names = names ++ name.bytes ∷ []; variadic = false; replacement = behind })) _ more
+    (pick_signature (is_sign 44 sign) (names_from (names ++ name.bytes ∷ []) behind) None (names_formed (names ++ name.bytes ∷ []) behind more) tt)))
 
 signature_formed : (tokens : List Token) → All IsFormed tokens → OnSignature (signature_of tokens)
 signature_formed [] h = tt
 signature_formed (first ∷ rest) h =
-    pick_signature (is_sign 41 first) (Some (record { names = []; replacement = rest })) (names_from [] (first ∷ rest)) (All-tail IsFormed first rest h) (names_formed [] (first ∷ rest) h)
+    pick_signature (is_sign 41 first) (Some (record { names = []; variadic = false; replacement = rest })) (names_from [] (first ∷ rest)) (All-tail IsFormed first rest h) (names_formed [] (first ∷ rest) h)
 
 abbrev OnMacro : Option Macro → Type 0
 OnMacro None = Unit {0}

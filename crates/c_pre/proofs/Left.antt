@@ -7,7 +7,7 @@ use Rattle.std.proofs.lemmas.List.Sums.{sum_by_push, sum_by-append}
 use Rattle.c_lexer.specs.declared.token.Token.{Token}
 use Rattle.c_pre.specs.Directives.{is_sign}
 use Rattle.c_pre.specs.Macros.{found}
-use Rattle.c_pre.specs.Expansion.{most_work, enough, fresh, macro_for, function_hides, split_from, is_open, fits}
+use Rattle.c_pre.specs.Expansion.{most_work, enough, fresh, macro_for, function_hides, keeps_commas, is_separator, split_from, is_open, fits}
 use Rattle.c_pre.specs.Steps.{Next, Goes, Ends, Stops, put_in, first_of, behind_first, begun, called, kept, at_macro, at_token, ended, argument_done, rest_done, step_by, step, goes_on, scanned, scan_of, expanded_by_steps}
 use Rattle.c_pre.specs.Table.{Table, Numbers}
 use Rattle.c_pre.specs.declared.macros.Defined.{Defined}
@@ -65,17 +65,17 @@ pick false false false false n v w x y z hv hw hx hy hz = hz
 abbrev pub whole : List (List Marked) → List Marked → List Marked → ℕ
 whole args current ts = sum_by length args + length current + length ts + length args
 
-pub split_conserves : (depth : ℕ) (args : List (List Marked)) (current ts : List Marked) → Conserves (whole args current ts) (split_from depth args current ts)
-split_conserves depth args current [] = tt
-split_conserves depth args current (t ∷ rest) =
+pub split_conserves : (keeps : Option ℕ) (depth : ℕ) (args : List (List Marked)) (current ts : List Marked) → Conserves (whole args current ts) (split_from keeps depth args current ts)
+split_conserves keeps depth args current [] = tt
+split_conserves keeps depth args current (t ∷ rest) =
     let longer : whole args (current ++ t ∷ []) rest ≡ whole args current (t ∷ rest) = omega (arith, length-append current (t ∷ [])) in
     let next : whole (args ++ current ∷ []) [] rest ≡ whole args current (t ∷ rest) = omega (arith, length-append args (current ∷ []), sum_by_push length args current) in
-    pick (is_sign 41 t.token && depth == 0) (is_sign 41 t.token) (is_sign 40 t.token) (is_sign 44 t.token && depth == 0) (whole args current (t ∷ rest)) _ _ _ _ _
+    pick (is_sign 41 t.token && depth == 0) (is_sign 41 t.token) (is_sign 40 t.token) (depth == 0 && is_separator keeps (length args) t.token) (whole args current (t ∷ rest)) _ _ _ _ _
     (omega (arith, length-append args (current ∷ []), sum_by_push length args current))
-    (moved _ _ _ longer (split_conserves (depth - 1) args (current ++ t ∷ []) rest))
-    (moved _ _ _ longer (split_conserves (depth + 1) args (current ++ t ∷ []) rest))
-    (moved _ _ _ next (split_conserves 0 (args ++ current ∷ []) [] rest))
-    (moved _ _ _ longer (split_conserves depth args (current ++ t ∷ []) rest))
+    (moved _ _ _ longer (split_conserves keeps (depth - 1) args (current ++ t ∷ []) rest))
+    (moved _ _ _ longer (split_conserves keeps (depth + 1) args (current ++ t ∷ []) rest))
+    (moved _ _ _ next (split_conserves keeps 0 (args ++ current ∷ []) [] rest))
+    (moved _ _ _ longer (split_conserves keeps depth args (current ++ t ∷ []) rest))
 
 sum_first : (args : List (List Marked)) → sum_by length args ≡ length (first_of args) + sum_by length (behind_first args)
 sum_first [] = refl
@@ -91,19 +91,19 @@ begun_by true t numbers split s n k h low =
     let call : Call = record { name = t.token.bytes; line = t.token.line; hidden = numbers; expanded = []; left = behind_first split.args; done = s.done; rest = split.rest } in
     omega (arith, h, low, sum_by_push weight s.calls call, sum_first split.args, behind_short split.args)
 
-called_falls : (t : Marked) (number : ℕ) (parameters : List (List ℕ)) (o : Option Split) (s : Scan) (n k : ℕ) → Conserves k o → 3 * (most_work + 1 - s.work) + 3 * k + sum_by weight s.calls + 1 < n → Falls n (called t number parameters o s)
-called_falls t number parameters None s n k h low = tt
-called_falls t number parameters (Some split) s n k h low =
-    begun_by (fits parameters split.args) t (function_hides t number split) split s n k h low
+called_falls : (t : Marked) (m : Defined) (parameters : List (List ℕ)) (o : Option Split) (s : Scan) (n k : ℕ) → Conserves k o → 3 * (most_work + 1 - s.work) + 3 * k + sum_by weight s.calls + 1 < n → Falls n (called t m parameters o s)
+called_falls t m parameters None s n k h low = tt
+called_falls t m parameters (Some split) s n k h low =
+    begun_by (fits m.it.variadic parameters split.args) t (function_hides t m.number split) split s n k h low
 
-open_by : (b : Bool) (t : Marked) (number : ℕ) (parameters : List (List ℕ)) (s : Scan) (n : ℕ) → left s + 2 < n → Falls n (cond b (called t number parameters (split_from 0 [] [] (drop 1 s.rest)) s) (kept t s))
-open_by true t number parameters s n low =
-    called_falls t number parameters (split_from 0 [] [] (drop 1 s.rest)) s n (whole [] [] (drop 1 s.rest)) (split_conserves 0 [] [] (drop 1 s.rest)) (omega (arith, low, length-drop 1 s.rest))
-open_by false t number parameters s n low = omega (arith, low)
+open_by : (b : Bool) (t : Marked) (m : Defined) (parameters : List (List ℕ)) (s : Scan) (n : ℕ) → left s + 2 < n → Falls n (cond b (called t m parameters (split_from (keeps_commas m.it.variadic parameters) 0 [] [] (drop 1 s.rest)) s) (kept t s))
+open_by true t m parameters s n low =
+    called_falls t m parameters (split_from (keeps_commas m.it.variadic parameters) 0 [] [] (drop 1 s.rest)) s n (whole [] [] (drop 1 s.rest)) (split_conserves (keeps_commas m.it.variadic parameters) 0 [] [] (drop 1 s.rest)) (omega (arith, low, length-drop 1 s.rest))
+open_by false t m parameters s n low = omega (arith, low)
 
 at_macro_falls : (t : Marked) (m : Defined) (o : Option (List (List ℕ))) (s : Scan) (n : ℕ) → left s + 2 < n → Falls n (at_macro t m o s)
 at_macro_falls t m None s n low = put_in_falls t.token.line _ s n (omega (arith, low))
-at_macro_falls t m (Some parameters) s n low = open_by (is_open s.rest) t m.number parameters s n low
+at_macro_falls t m (Some parameters) s n low = open_by (is_open s.rest) t m parameters s n low
 
 at_token_falls : (t : Marked) (o : Option Defined) (s : Scan) (n : ℕ) → left s + 2 < n → Falls n (at_token t o s)
 at_token_falls t None s n low = omega (arith, low)

@@ -17,3 +17,4 @@ pub mod Unreplaced
 pub mod Keys
 pub mod Trees
 pub mod Joining
+pub mod Plain

@@ -1,13 +1,13 @@
 -- What the steps of the code come to is what the rule of replacement says.
-use Rattle.std.proofs.Common.{◌≡◌, ◌∙◌, ℕ, zero, suc, ◌+◌, ◌-◌, Bool, true, false, cond, nat_lt, List, [], ◌∷◌, ◌++◌, length, map, take, drop, Option, Some, None, Result, Ok, Err, refl, sym, ap, subst, arith, append_assoc, append-nil}
+use Rattle.std.proofs.Common.{◌≡◌, ◌∙◌, ℕ, zero, suc, ◌+◌, ◌-◌, ◌==◌, ◌||◌, ◌&&◌, Bool, true, false, cond, nat_lt, List, [], ◌∷◌, ◌++◌, length, map, take, drop, Option, Some, None, Result, Ok, Err, refl, sym, ap, subst, arith, append_assoc, append-nil}
 use Rattle.std.specs.FinSet as set
 use Rattle.std.specs.Prelude.{slice_get}
-use Rattle.std.proofs.lemmas.Bool.{eqb-true}
+use Rattle.std.proofs.lemmas.Bool.{ne_eqb}
 use Rattle.c_lexer.specs.declared.token.Token.{Token}
 use Rattle.c_pre.specs.After.{and_then}
 use Rattle.c_pre.specs.Answering.{Answers}
 use Rattle.c_pre.specs.Directives.{is_name}
-use Rattle.c_pre.specs.Expansion.{Arguments, Scanning, most_work, enough, fresh, unhidden, macro_for, replaced, split_from, is_open, fits, kept, goes_on, arguments_scanned, object_hides, function_hides, applied, called, at_macro, at_token, scanned, expanded}
+use Rattle.c_pre.specs.Expansion.{Arguments, Scanning, most_work, enough, fresh, unhidden, macro_for, replaced, keeps_commas, split_from, is_open, fits, kept, goes_on, arguments_scanned, object_hides, function_hides, applied, called, at_macro, at_token, scanned, expanded}
 use Rattle.c_pre.specs.Macros.{found}
 use Rattle.c_pre.specs.Steps.{Next, Goes, Ends, Stops, first_of, behind_first, begun, ended, argument_done, rest_done, step_by, step, scan_of, expanded_by_steps}
 use Rattle.c_pre.specs.Steps as steps
@@ -73,12 +73,12 @@ applied_more f g more work t m split =
 called_more : (f g : Scanning) → More f g → (work : ℕ) (t : Marked) (m : Defined) (parameters : List (List ℕ)) (o : Option Split) → Answers (called g work t m parameters o) (called f work t m parameters o)
 called_more f g more work t m parameters None = refl
 called_more f g more work t m parameters (Some split) =
-    pick_more (fits parameters split.args) _ _ _ _ (applied_more f g more work t m split) refl
+    pick_more (fits m.it.variadic parameters split.args) _ _ _ _ (applied_more f g more work t m split) refl
 
 at_macro_more : (f g : Scanning) → More f g → (work : ℕ) (t : Marked) (rest : List Marked) (m : Defined) (o : Option (List (List ℕ))) → Answers (at_macro g work t rest m o) (at_macro f work t rest m o)
 at_macro_more f g more work t rest m None = goes_more f g more t.token.line work (replaced t.token.line (object_hides t m.number) [] m.it) rest
 at_macro_more f g more work t rest m (Some parameters) =
-    pick_more (is_open rest) _ _ _ _ (called_more f g more work t m parameters (split_from 0 [] [] (drop 1 rest))) (kept_more t (f work rest) (g work rest) (more work rest))
+    pick_more (is_open rest) _ _ _ _ (called_more f g more work t m parameters (split_from (keeps_commas m.it.variadic parameters) 0 [] [] (drop 1 rest))) (kept_more t (f work rest) (g work rest) (more work rest))
 
 at_token_more : (f g : Scanning) → More f g → (work : ℕ) (t : Marked) (rest : List Marked) (o : Option Defined) → Answers (at_token g work t rest o) (at_token f work t rest o)
 at_token_more f g more work t rest None = kept_more t (f work rest) (g work rest) (more work rest)
@@ -188,6 +188,11 @@ OnNext macros f whole (Stops e) = Answers whole (Err e)
 no_match : false ≡ true → ⊥
 no_match is = cc
 
+-- no argument at all is never enough
+no_fit : (variadic : Bool) (count : ℕ) → (suc count == 0 || variadic && nat_lt 0 0 && count == 0) ≡ false
+no_fit true count = ap (λ b. b || true && nat_lt 0 0 && count == 0) (ne_eqb (suc count) 0 (λ e. omega (arith, e)))
+no_fit false count = ap (λ b. b || false && nat_lt 0 0 && count == 0) (ne_eqb (suc count) 0 (λ e. omega (arith, e)))
+
 module _ (macros : Table) (f : Scanning) where
   -- a token is done
   kept_then : (t : Marked) (done : List Marked) (calls : List Call) (r : Result Expanded Refusal) → resumed_by macros f done calls (kept t r) ≡ resumed_by macros f (done ++ t ∷ []) calls r
@@ -220,26 +225,26 @@ module _ (macros : Table) (f : Scanning) where
   call_at call m k (Ok us) is = ap (λ o. and_then (call_ended f call o us.expanded us.work) (before_call k call)) (sym is)
 
   -- a call begins
-  begun_is : (t : Marked) (m : Defined) (parameters : List (List ℕ)) (args : List (List Marked)) (hidden : Numbers) (rest : List Marked) (s : Scan) → fits parameters args ≡ true → found t.token.bytes macros ≡ Some m → resumed_by macros f s.done s.calls (applied f s.work t m (record { args = args; hidden = hidden; rest = rest })) ≡ resumed macros f (begun t (function_hides t m.number (record { args = args; hidden = hidden; rest = rest })) (record { args = args; hidden = hidden; rest = rest }) s)
+  begun_is : (t : Marked) (m : Defined) (parameters : List (List ℕ)) (args : List (List Marked)) (hidden : Numbers) (rest : List Marked) (s : Scan) → fits m.it.variadic parameters args ≡ true → found t.token.bytes macros ≡ Some m → resumed_by macros f s.done s.calls (applied f s.work t m (record { args = args; hidden = hidden; rest = rest })) ≡ resumed macros f (begun t (function_hides t m.number (record { args = args; hidden = hidden; rest = rest })) (record { args = args; hidden = hidden; rest = rest }) s)
   begun_is t m [] [] hidden rest s fit is = absurd (no_match fit)
   begun_is t m (name ∷ names) [] hidden rest s fit is =
-      absurd (omega (arith, eqb-true (length (name ∷ names)) 0 fit))
+      absurd (no_match (sym (no_fit m.it.variadic (length names)) ∙ fit))
   begun_is t m parameters (arg ∷ args) hidden rest s fit is =
       let split : Split = record { args = arg ∷ args; hidden = hidden; rest = rest } in
       let call : Call = record { name = t.token.bytes; line = t.token.line; hidden = function_hides t m.number split; expanded = []; left = args; done = s.done; rest = rest } in
       call_at call m (behind_calls macros f s.calls all_done) (and_then (f s.work arg) (with_rest f args)) is
       ∙ begins_by call s.calls [] args (f s.work arg)
 
-  called_by : (b : Bool) (t : Marked) (m : Defined) (parameters : List (List ℕ)) (split : Split) (s : Scan) → fits parameters split.args ≡ b → found t.token.bytes macros ≡ Some m → OnNext macros f (resumed_by macros f s.done s.calls (cond b (applied f s.work t m split) (Err (Bad kind.Arguments t.token.line)))) (cond b (Goes (begun t (function_hides t m.number split) split s)) (Stops (Bad kind.Arguments t.token.line)))
+  called_by : (b : Bool) (t : Marked) (m : Defined) (parameters : List (List ℕ)) (split : Split) (s : Scan) → fits m.it.variadic parameters split.args ≡ b → found t.token.bytes macros ≡ Some m → OnNext macros f (resumed_by macros f s.done s.calls (cond b (applied f s.work t m split) (Err (Bad kind.Arguments t.token.line)))) (cond b (Goes (begun t (function_hides t m.number split) split s)) (Stops (Bad kind.Arguments t.token.line)))
   called_by true t m parameters split s fit is = begun_is t m parameters split.args split.hidden split.rest s fit is
   called_by false t m parameters split s fit is = refl
 
-  called_is : (t : Marked) (m : Defined) (parameters : List (List ℕ)) (o : Option Split) (s : Scan) → found t.token.bytes macros ≡ Some m → OnNext macros f (resumed_by macros f s.done s.calls (called f s.work t m parameters o)) (steps.called t m.number parameters o s)
+  called_is : (t : Marked) (m : Defined) (parameters : List (List ℕ)) (o : Option Split) (s : Scan) → found t.token.bytes macros ≡ Some m → OnNext macros f (resumed_by macros f s.done s.calls (called f s.work t m parameters o)) (steps.called t m parameters o s)
   called_is t m parameters None s is = refl
-  called_is t m parameters (Some split) s is = called_by (fits parameters split.args) t m parameters split s refl is
+  called_is t m parameters (Some split) s is = called_by (fits m.it.variadic parameters split.args) t m parameters split s refl is
 
-  open_by : (b : Bool) (t : Marked) (m : Defined) (parameters : List (List ℕ)) (s : Scan) → found t.token.bytes macros ≡ Some m → OnNext macros f (resumed_by macros f s.done s.calls (cond b (called f s.work t m parameters (split_from 0 [] [] (drop 1 s.rest))) (kept t (f s.work s.rest)))) (cond b (steps.called t m.number parameters (split_from 0 [] [] (drop 1 s.rest)) s) (steps.kept t s))
-  open_by true t m parameters s is = called_is t m parameters (split_from 0 [] [] (drop 1 s.rest)) s is
+  open_by : (b : Bool) (t : Marked) (m : Defined) (parameters : List (List ℕ)) (s : Scan) → found t.token.bytes macros ≡ Some m → OnNext macros f (resumed_by macros f s.done s.calls (cond b (called f s.work t m parameters (split_from (keeps_commas m.it.variadic parameters) 0 [] [] (drop 1 s.rest))) (kept t (f s.work s.rest)))) (cond b (steps.called t m parameters (split_from (keeps_commas m.it.variadic parameters) 0 [] [] (drop 1 s.rest)) s) (steps.kept t s))
+  open_by true t m parameters s is = called_is t m parameters (split_from (keeps_commas m.it.variadic parameters) 0 [] [] (drop 1 s.rest)) s is
   open_by false t m parameters s is = kept_then t s.done s.calls (f s.work s.rest)
 
   at_macro_is : (t : Marked) (m : Defined) (o : Option (List (List ℕ))) (s : Scan) → found t.token.bytes macros ≡ Some m → OnNext macros f (resumed_by macros f s.done s.calls (at_macro f s.work t s.rest m o)) (steps.at_macro t m o s)

@@ -7,7 +7,7 @@ use Rattle.std.proofs.lemmas.Bool.{ne_eqb}
 use Rattle.std.proofs.lemmas.Slice.Eq.{bytes_eq-Decides}
 use Rattle.c_lexer.specs.declared.token.Token.{Token}
 use Rattle.c_pre.specs.Directives.{is_sign}
-use Rattle.c_pre.specs.Expansion.{split_from}
+use Rattle.c_pre.specs.Expansion.{is_ended, is_separator, split_from}
 use Rattle.c_pre.specs.Rows.{segment, opens, closes, one_less, if_some, depth_behind, Pair, Paired, StandOpen, PairedUpTo}
 use Rattle.c_pre.specs.Splitting.{SplitsAt, SplitUpTo}
 use Rattle.c_pre.specs.Held.{tokens_of}
@@ -84,53 +84,57 @@ before n = omega arith
 above : (depth : ℕ) → (suc depth == 0) ≡ false
 above depth = ne_eqb (suc depth) 0 (λ e. omega (arith, e))
 
+both_first : (b c : Bool) → (b && c) ≡ true → b ≡ true
+both_first true c is = refl
+both_first false c is = is
+
 -- how a call is split at a token
-module _ (t : Marked) (depth : ℕ) (args : List (List Marked)) (current rest : List Marked) where
+module _ (keeps : Option ℕ) (t : Marked) (depth : ℕ) (args : List (List Marked)) (current rest : List Marked) where
   abbrev by_tests : Bool → Bool → Bool → Bool → Option Split
   by_tests closes outside opens parts =
       cond (closes && outside) (Some (record { args = args ++ current ∷ []; hidden = t.hidden; rest = rest }))
-      (cond closes (split_from (depth - 1) args (current ++ t ∷ []) rest)
-      (cond opens (split_from (depth + 1) args (current ++ t ∷ []) rest)
-      (cond parts (split_from 0 (args ++ current ∷ []) [] rest)
-      (split_from depth args (current ++ t ∷ []) rest))))
+      (cond closes (split_from keeps (depth - 1) args (current ++ t ∷ []) rest)
+      (cond opens (split_from keeps (depth + 1) args (current ++ t ∷ []) rest)
+      (cond parts (split_from keeps 0 (args ++ current ∷ []) [] rest)
+      (split_from keeps depth args (current ++ t ∷ []) rest))))
 
-  split_by : (closes outside opens parts : Bool) → is_sign 41 t.token ≡ closes → (depth == 0) ≡ outside → is_sign 40 t.token ≡ opens → (is_sign 44 t.token && depth == 0) ≡ parts → split_from depth args current (t ∷ rest) ≡ by_tests closes outside opens parts
+  split_by : (closes outside opens parts : Bool) → is_sign 41 t.token ≡ closes → (depth == 0) ≡ outside → is_sign 40 t.token ≡ opens → (depth == 0 && is_separator keeps (length args) t.token) ≡ parts → split_from keeps depth args current (t ∷ rest) ≡ by_tests closes outside opens parts
   split_by closes outside opens parts c o p q = λ i. by_tests (c i) (o i) (p i) (q i)
 
-split_end : (t : Marked) (args : List (List Marked)) (current rest : List Marked) → is_sign 41 t.token ≡ true → split_from 0 args current (t ∷ rest) ≡ Some (record { args = args ++ current ∷ []; hidden = t.hidden; rest = rest })
-split_end t args current rest is =
-    split_by t 0 args current rest true true (is_sign 40 t.token) (is_sign 44 t.token && 0 == 0) is refl refl refl
+split_end : (keeps : Option ℕ) (t : Marked) (args : List (List Marked)) (current rest : List Marked) → is_sign 41 t.token ≡ true → split_from keeps 0 args current (t ∷ rest) ≡ Some (record { args = args ++ current ∷ []; hidden = t.hidden; rest = rest })
+split_end keeps t args current rest is =
+    split_by keeps t 0 args current rest true true (is_sign 40 t.token) (0 == 0 && is_separator keeps (length args) t.token) is refl refl refl
 
-split_close : (t : Marked) (depth : ℕ) (args : List (List Marked)) (current rest : List Marked) → is_sign 41 t.token ≡ true → split_from (suc depth) args current (t ∷ rest) ≡ split_from depth args (current ++ t ∷ []) rest
-split_close t depth args current rest is =
-    split_by t (suc depth) args current rest true false (is_sign 40 t.token) (is_sign 44 t.token && suc depth == 0) is (above depth) refl refl
-    ∙ ap (λ n. split_from n args (current ++ t ∷ []) rest) (before depth)
+split_close : (keeps : Option ℕ) (t : Marked) (depth : ℕ) (args : List (List Marked)) (current rest : List Marked) → is_sign 41 t.token ≡ true → split_from keeps (suc depth) args current (t ∷ rest) ≡ split_from keeps depth args (current ++ t ∷ []) rest
+split_close keeps t depth args current rest is =
+    split_by keeps t (suc depth) args current rest true false (is_sign 40 t.token) (suc depth == 0 && is_separator keeps (length args) t.token) is (above depth) refl refl
+    ∙ ap (λ n. split_from keeps n args (current ++ t ∷ []) rest) (before depth)
 
-split_open : (t : Marked) (depth : ℕ) (args : List (List Marked)) (current rest : List Marked) → is_sign 40 t.token ≡ true → split_from depth args current (t ∷ rest) ≡ split_from (suc depth) args (current ++ t ∷ []) rest
-split_open t depth args current rest is =
-    split_by t depth args current rest false (depth == 0) true (is_sign 44 t.token && depth == 0) (closes_not t.token is) refl is refl
-    ∙ ap (λ n. split_from n args (current ++ t ∷ []) rest) (next depth)
+split_open : (keeps : Option ℕ) (t : Marked) (depth : ℕ) (args : List (List Marked)) (current rest : List Marked) → is_sign 40 t.token ≡ true → split_from keeps depth args current (t ∷ rest) ≡ split_from keeps (suc depth) args (current ++ t ∷ []) rest
+split_open keeps t depth args current rest is =
+    split_by keeps t depth args current rest false (depth == 0) true (depth == 0 && is_separator keeps (length args) t.token) (closes_not t.token is) refl is refl
+    ∙ ap (λ n. split_from keeps n args (current ++ t ∷ []) rest) (next depth)
 
-split_comma : (t : Marked) (args : List (List Marked)) (current rest : List Marked) → is_sign 44 t.token ≡ true → split_from 0 args current (t ∷ rest) ≡ split_from 0 (args ++ current ∷ []) [] rest
-split_comma t args current rest is =
-    split_by t 0 args current rest false true false true (comma_closes_not t.token is) refl (comma_opens_not t.token is) (ap (λ b. b && 0 == 0) is)
+split_comma : (keeps : Option ℕ) (t : Marked) (args : List (List Marked)) (current rest : List Marked) → is_separator keeps (length args) t.token ≡ true → split_from keeps 0 args current (t ∷ rest) ≡ split_from keeps 0 (args ++ current ∷ []) [] rest
+split_comma keeps t args current rest is =
+    let comma = both_first (is_sign 44 t.token) (is_ended keeps (length args)) is in
+    split_by keeps t 0 args current rest false true false true (comma_closes_not t.token comma) refl (comma_opens_not t.token comma) is
 
-split_plain : (t : Marked) (depth : ℕ) (args : List (List Marked)) (current rest : List Marked) → is_sign 41 t.token ≡ false → is_sign 40 t.token ≡ false → (is_sign 44 t.token && depth == 0) ≡ false → split_from depth args current (t ∷ rest) ≡ split_from depth args (current ++ t ∷ []) rest
-split_plain t depth args current rest closes opens comma =
-    split_by t depth args current rest false (depth == 0) false false closes refl opens comma
+split_plain : (keeps : Option ℕ) (t : Marked) (depth : ℕ) (args : List (List Marked)) (current rest : List Marked) → is_sign 41 t.token ≡ false → is_sign 40 t.token ≡ false → (depth == 0 && is_separator keeps (length args) t.token) ≡ false → split_from keeps depth args current (t ∷ rest) ≡ split_from keeps depth args (current ++ t ∷ []) rest
+split_plain keeps t depth args current rest closes opens comma =
+    split_by keeps t depth args current rest false (depth == 0) false false closes refl opens comma
 
-no_comma : (b c : Bool) → c ≡ false → (b && c) ≡ false
-no_comma true c is = is
-no_comma false c is = refl
+no_comma : (b c : Bool) → b ≡ false → (b && c) ≡ false
+no_comma b c is = ap (λ d. d && c) is
 
 -- how many `(` stand open behind a token
 depth_by : (t : Marked) (depth : ℕ) (tokens : List Marked) (c o : Bool) → is_sign 41 t.token ≡ c → is_sign 40 t.token ≡ o → depth_behind depth (t ∷ tokens) ≡ cond c (if_some (one_less depth) (λ less. depth_behind less tokens)) (cond o (depth_behind (suc depth) tokens) (depth_behind depth tokens))
 depth_by t depth tokens c o is are = λ i. cond (is i) (if_some (one_less depth) (λ less. depth_behind less tokens)) (cond (are i) (depth_behind (suc depth) tokens) (depth_behind depth tokens))
 
 -- a call is split on behind tokens that leave some `(` open
-module _ (k m : ℕ) (args : List (List Marked)) (rest : List Marked) where
+module _ (keeps : Option ℕ) (k m : ℕ) (args : List (List Marked)) (rest : List Marked) where
   abbrev Behind : List Marked → Type 0
-  Behind xs = (n : ℕ) → depth_behind n xs ≡ Some m → (current : List Marked) → split_from (suc (k + n)) args current (xs ++ rest) ≡ split_from (suc (k + m)) args (current ++ xs) rest
+  Behind xs = (n : ℕ) → depth_behind n xs ≡ Some m → (current : List Marked) → split_from keeps (suc (k + n)) args current (xs ++ rest) ≡ split_from keeps (suc (k + m)) args (current ++ xs) rest
 
   deeper_by : (l n : ℕ) → suc l ≡ n → k + n ≡ suc (k + l)
   deeper_by l n e = omega (arith, e)
@@ -139,39 +143,39 @@ module _ (k m : ℕ) (args : List (List Marked)) (rest : List Marked) where
   deeper n = omega arith
 
   module _ (t : Marked) (xs : List Marked) (behind : Behind xs) (n : ℕ) (current : List Marked) where
-    on : (l : ℕ) → depth_behind l xs ≡ Some m → split_from (suc (k + l)) args (current ++ t ∷ []) (xs ++ rest) ≡ split_from (suc (k + m)) args (current ++ t ∷ xs) rest
-    on l is = behind l is (current ++ t ∷ []) ∙ ap (λ ts. split_from (suc (k + m)) args ts rest) (append_assoc current (t ∷ []) xs)
+    on : (l : ℕ) → depth_behind l xs ≡ Some m → split_from keeps (suc (k + l)) args (current ++ t ∷ []) (xs ++ rest) ≡ split_from keeps (suc (k + m)) args (current ++ t ∷ xs) rest
+    on l is = behind l is (current ++ t ∷ []) ∙ ap (λ ts. split_from keeps (suc (k + m)) args ts rest) (append_assoc current (t ∷ []) xs)
 
-    behind_close : (l : ℕ) → if_some (one_less l) (λ d. depth_behind d xs) ≡ Some m → l ≡ n → is_sign 41 t.token ≡ true → split_from (suc (k + n)) args current (t ∷ xs ++ rest) ≡ split_from (suc (k + m)) args (current ++ t ∷ xs) rest
+    behind_close : (l : ℕ) → if_some (one_less l) (λ d. depth_behind d xs) ≡ Some m → l ≡ n → is_sign 41 t.token ≡ true → split_from keeps (suc (k + n)) args current (t ∷ xs ++ rest) ≡ split_from keeps (suc (k + m)) args (current ++ t ∷ xs) rest
     behind_close zero found same c = cc
     behind_close (suc l) found same c =
-        split_close t (k + n) args current (xs ++ rest) c
-        ∙ ap (λ d. split_from d args (current ++ t ∷ []) (xs ++ rest)) (deeper_by l n same)
+        split_close keeps t (k + n) args current (xs ++ rest) c
+        ∙ ap (λ d. split_from keeps d args (current ++ t ∷ []) (xs ++ rest)) (deeper_by l n same)
         ∙ on l found
 
-    behind_by : (c o : Bool) → is_sign 41 t.token ≡ c → is_sign 40 t.token ≡ o → depth_behind n (t ∷ xs) ≡ Some m → split_from (suc (k + n)) args current (t ∷ xs ++ rest) ≡ split_from (suc (k + m)) args (current ++ t ∷ xs) rest
+    behind_by : (c o : Bool) → is_sign 41 t.token ≡ c → is_sign 40 t.token ≡ o → depth_behind n (t ∷ xs) ≡ Some m → split_from keeps (suc (k + n)) args current (t ∷ xs ++ rest) ≡ split_from keeps (suc (k + m)) args (current ++ t ∷ xs) rest
     behind_by true o c p is = behind_close n (sym (depth_by t n xs true o c p) ∙ is) refl c
     behind_by false true c p is =
-        split_open t (suc (k + n)) args current (xs ++ rest) p
-        ∙ ap (λ d. split_from (suc d) args (current ++ t ∷ []) (xs ++ rest)) (deeper n)
+        split_open keeps t (suc (k + n)) args current (xs ++ rest) p
+        ∙ ap (λ d. split_from keeps (suc d) args (current ++ t ∷ []) (xs ++ rest)) (deeper n)
         ∙ on (suc n) (sym (depth_by t n xs false true c p) ∙ is)
     behind_by false false c p is =
-        split_plain t (suc (k + n)) args current (xs ++ rest) c p (no_comma (is_sign 44 t.token) (suc (k + n) == 0) (above (k + n)))
+        split_plain keeps t (suc (k + n)) args current (xs ++ rest) c p (no_comma (suc (k + n) == 0) (is_separator keeps (length args) t.token) (above (k + n)))
         ∙ on n (sym (depth_by t n xs false false c p) ∙ is)
 
   split_behind : (xs : List Marked) → Behind xs
   split_behind [] = λ n is current.
-      ap (λ l. split_from (suc (k + l)) args current rest) (number_is n m is) ∙ ap (λ ts. split_from (suc (k + m)) args ts rest) (sym (append-nil current))
+      ap (λ l. split_from keeps (suc (k + l)) args current rest) (number_is n m is) ∙ ap (λ ts. split_from keeps (suc (k + m)) args ts rest) (sym (append-nil current))
   split_behind (t ∷ xs) = λ n is current. behind_by t xs (split_behind xs) n current (is_sign 41 t.token) (is_sign 40 t.token) refl refl is
 
 -- the same behind a `(` and its `)`
-split_pair : (t u : Marked) (xs : List Marked) → is_sign 40 t.token ≡ true → is_sign 41 u.token ≡ true → depth_behind 0 xs ≡ Some 0 → (args : List (List Marked)) (current rest : List Marked) → split_from 0 args current ((t ∷ xs ++ u ∷ []) ++ rest) ≡ split_from 0 args (current ++ (t ∷ xs ++ u ∷ [])) rest
-split_pair t u xs first last inner args current rest =
-    split_open t 0 args current ((xs ++ u ∷ []) ++ rest) first
-    ∙ ap (split_from 1 args (current ++ t ∷ [])) (append_assoc xs (u ∷ []) rest)
-    ∙ split_behind 0 0 args (u ∷ rest) xs 0 inner (current ++ t ∷ [])
-    ∙ split_close u 0 args ((current ++ t ∷ []) ++ xs) rest last
-    ∙ ap (λ ts. split_from 0 args ts rest)
+split_pair : (keeps : Option ℕ) (t u : Marked) (xs : List Marked) → is_sign 40 t.token ≡ true → is_sign 41 u.token ≡ true → depth_behind 0 xs ≡ Some 0 → (args : List (List Marked)) (current rest : List Marked) → split_from keeps 0 args current ((t ∷ xs ++ u ∷ []) ++ rest) ≡ split_from keeps 0 args (current ++ (t ∷ xs ++ u ∷ [])) rest
+split_pair keeps t u xs first last inner args current rest =
+    split_open keeps t 0 args current ((xs ++ u ∷ []) ++ rest) first
+    ∙ ap (split_from keeps 1 args (current ++ t ∷ [])) (append_assoc xs (u ∷ []) rest)
+    ∙ split_behind keeps 0 0 args (u ∷ rest) xs 0 inner (current ++ t ∷ [])
+    ∙ split_close keeps u 0 args ((current ++ t ∷ []) ++ xs) rest last
+    ∙ ap (λ ts. split_from keeps 0 args ts rest)
     (append_assoc (current ++ t ∷ []) xs (u ∷ []) ∙ append_assoc current (t ∷ []) (xs ++ u ∷ []))
 
 -- what stands open behind tokens and others
@@ -316,73 +320,73 @@ added_close tokens at from u ends places p within is last = record {
     by i e low (inr h) = paired_pushed tokens ends p.pairs i e h low
 
 -- how a call goes on at a token of a row
-pub split_starts : (tokens : List Marked) (from to : ℕ) → from ≤ to → SplitUpTo tokens from to from from []
-split_starts tokens from to high = record {
+pub split_starts : (keeps : Option ℕ) (tokens : List Marked) (from to : ℕ) → from ≤ to → SplitUpTo keeps tokens from to from from []
+split_starts keeps tokens from to high = record {
   low = omega arith;
   high = high;
-  same = λ rest. ap (λ ts. split_from 0 [] ts (segment from to tokens ++ rest)) (segment_none tokens from from (omega arith));
+  same = λ rest. ap (λ ts. split_from keeps 0 [] ts (segment from to tokens ++ rest)) (segment_none tokens from from (omega arith));
 }
 
-module _ (tokens : List Marked) (from to start at : ℕ) (args : List (List Marked)) (s : SplitUpTo tokens from to start at args) where
+module _ (keeps : Option ℕ) (tokens : List Marked) (from to start at : ℕ) (args : List (List Marked)) (s : SplitUpTo keeps tokens from to start at args) where
   ahead : (t : Marked) (rest : List Marked) → slice_get tokens at ≡ Some t → at < to → segment at to tokens ++ rest ≡ t ∷ segment (suc at) to tokens ++ rest
   ahead t rest is low = ap (λ ts. ts ++ rest) (segment_first tokens at to t is low)
 
-  pub split_ends : (t : Marked) → at < to → slice_get tokens at ≡ Some t → is_sign 41 t.token ≡ true → SplitsAt tokens from to (args ++ segment start at tokens ∷ []) at
+  pub split_ends : (t : Marked) → at < to → slice_get tokens at ≡ Some t → is_sign 41 t.token ≡ true → SplitsAt keeps tokens from to (args ++ segment start at tokens ∷ []) at
   split_ends t low is last = record {
     within = low;
     same = λ u rest isu.
         sym (s.same rest)
-        ∙ ap (split_from 0 args (segment start at tokens)) (ahead u rest isu low)
-        ∙ split_end u args (segment start at tokens) (segment (suc at) to tokens ++ rest) (subst (λ (v : Marked). is_sign 41 v.token ≡ true) (some_is t u (sym is ∙ isu)) last);
+        ∙ ap (split_from keeps 0 args (segment start at tokens)) (ahead u rest isu low)
+        ∙ split_end keeps u args (segment start at tokens) (segment (suc at) to tokens ++ rest) (subst (λ (v : Marked). is_sign 41 v.token ≡ true) (some_is t u (sym is ∙ isu)) last);
   }
 
-  pub split_parts : (t : Marked) → at < to → slice_get tokens at ≡ Some t → is_sign 44 t.token ≡ true → SplitUpTo tokens from to (at + 1) (at + 1) (args ++ segment start at tokens ∷ [])
+  pub split_parts : (t : Marked) → at < to → slice_get tokens at ≡ Some t → is_separator keeps (length args) t.token ≡ true → SplitUpTo keeps tokens from to (at + 1) (at + 1) (args ++ segment start at tokens ∷ [])
   split_parts t low is comma = record {
     low = omega arith;
     high = omega (arith, low);
     same = λ rest.
-        ap (λ ts. split_from 0 (args ++ segment start at tokens ∷ []) ts (segment (at + 1) to tokens ++ rest)) (segment_none tokens (at + 1) (at + 1) (omega arith))
-        ∙ ap (λ n. split_from 0 (args ++ segment start at tokens ∷ []) [] (segment n to tokens ++ rest)) (next at)
-        ∙ sym (split_comma t args (segment start at tokens) (segment (suc at) to tokens ++ rest) comma)
-        ∙ sym (ap (split_from 0 args (segment start at tokens)) (ahead t rest is low))
+        ap (λ ts. split_from keeps 0 (args ++ segment start at tokens ∷ []) ts (segment (at + 1) to tokens ++ rest)) (segment_none tokens (at + 1) (at + 1) (omega arith))
+        ∙ ap (λ n. split_from keeps 0 (args ++ segment start at tokens ∷ []) [] (segment n to tokens ++ rest)) (next at)
+        ∙ sym (split_comma keeps t args (segment start at tokens) (segment (suc at) to tokens ++ rest) comma)
+        ∙ sym (ap (split_from keeps 0 args (segment start at tokens)) (ahead t rest is low))
         ∙ s.same rest;
   }
 
-  pub split_stays : (t : Marked) → at < to → slice_get tokens at ≡ Some t → is_sign 41 t.token ≡ false → is_sign 40 t.token ≡ false → is_sign 44 t.token ≡ false → SplitUpTo tokens from to start (at + 1) args
+  pub split_stays : (t : Marked) → at < to → slice_get tokens at ≡ Some t → is_sign 41 t.token ≡ false → is_sign 40 t.token ≡ false → is_separator keeps (length args) t.token ≡ false → SplitUpTo keeps tokens from to start (at + 1) args
   split_stays t low is closes opens comma = record {
     low = omega (arith, s.low);
     high = omega (arith, low);
     same = λ rest.
-        ap (λ n. split_from 0 args (segment start n tokens) (segment n to tokens ++ rest)) (next at)
-        ∙ ap (λ ts. split_from 0 args ts (segment (suc at) to tokens ++ rest)) (segment_last tokens start at t is s.low)
-        ∙ sym (split_plain t 0 args (segment start at tokens) (segment (suc at) to tokens ++ rest) closes opens (ap (λ b. b && 0 == 0) comma))
-        ∙ sym (ap (split_from 0 args (segment start at tokens)) (ahead t rest is low))
+        ap (λ n. split_from keeps 0 args (segment start n tokens) (segment n to tokens ++ rest)) (next at)
+        ∙ ap (λ ts. split_from keeps 0 args ts (segment (suc at) to tokens ++ rest)) (segment_last tokens start at t is s.low)
+        ∙ sym (split_plain keeps t 0 args (segment start at tokens) (segment (suc at) to tokens ++ rest) closes opens comma)
+        ∙ sym (ap (split_from keeps 0 args (segment start at tokens)) (ahead t rest is low))
         ∙ s.same rest;
   }
 
-  pub split_passes : (end : ℕ) → at < end → end < to → Pair tokens at end → SplitUpTo tokens from to start (end + 1) args
+  pub split_passes : (end : ℕ) → at < end → end < to → Pair tokens at end → SplitUpTo keeps tokens from to start (end + 1) args
   split_passes end low high pair = record {
     low = omega (arith, s.low, low);
     high = omega (arith, high);
-    same = λ rest. ap (λ n. split_from 0 args (segment start n tokens) (segment n to tokens ++ rest)) (next end) ∙ passed rest ∙ s.same rest;
+    same = λ rest. ap (λ n. split_from keeps 0 args (segment start n tokens) (segment n to tokens ++ rest)) (next end) ∙ passed rest ∙ s.same rest;
   }
     where
       whole : List Marked
       whole = segment at (suc end) tokens
 
-      over : (current rest : List Marked) → split_from 0 args current (whole ++ rest) ≡ split_from 0 args (current ++ whole) rest
+      over : (current rest : List Marked) → split_from keeps 0 args current (whole ++ rest) ≡ split_from keeps 0 args (current ++ whole) rest
       over current rest =
           let o = opened_by (slice_get tokens at) pair.first in
           let c = closed_by (slice_get tokens end) pair.last in
-          subst (λ ts. split_from 0 args current (ts ++ rest) ≡ split_from 0 args (current ++ ts) rest) (sym (pair_is tokens at end o.0 c.0 low o.1 c.1))
-          (split_pair o.0 c.0 (segment (suc at) end tokens) o.2 c.2 pair.inner args current rest)
+          subst (λ ts. split_from keeps 0 args current (ts ++ rest) ≡ split_from keeps 0 args (current ++ ts) rest) (sym (pair_is tokens at end o.0 c.0 low o.1 c.1))
+          (split_pair keeps o.0 c.0 (segment (suc at) end tokens) o.2 c.2 pair.inner args current rest)
 
-      passed : (rest : List Marked) → split_from 0 args (segment start (suc end) tokens) (segment (suc end) to tokens ++ rest) ≡ split_from 0 args (segment start at tokens) (segment at to tokens ++ rest)
+      passed : (rest : List Marked) → split_from keeps 0 args (segment start (suc end) tokens) (segment (suc end) to tokens ++ rest) ≡ split_from keeps 0 args (segment start at tokens) (segment at to tokens ++ rest)
       passed rest =
-          ap (λ ts. split_from 0 args ts (segment (suc end) to tokens ++ rest)) (segment_joined tokens start at (suc end) s.low (omega (arith, low)))
+          ap (λ ts. split_from keeps 0 args ts (segment (suc end) to tokens ++ rest)) (segment_joined tokens start at (suc end) s.low (omega (arith, low)))
           ∙ sym (over (segment start at tokens) (segment (suc end) to tokens ++ rest))
-          ∙ ap (split_from 0 args (segment start at tokens)) (sym (append_assoc whole (segment (suc end) to tokens) rest))
-          ∙ ap (λ ts. split_from 0 args (segment start at tokens) (ts ++ rest)) (sym (segment_joined tokens at (suc end) to (omega (arith, low)) (omega (arith, high))))
+          ∙ ap (split_from keeps 0 args (segment start at tokens)) (sym (append_assoc whole (segment (suc end) to tokens) rest))
+          ∙ ap (λ ts. split_from keeps 0 args (segment start at tokens) (ts ++ rest)) (sym (segment_joined tokens at (suc end) to (omega (arith, low)) (omega (arith, high))))
 
 none_at : (at end : ℕ) → None ≡ Some end → ⊥
 none_at at end e = cc
@@ -425,13 +429,13 @@ pieces_pop old all p ps t first new view is read copy behind =
     ∙ ap (λ n. t ∷ segment n p.to p.row.value.tokens.items ++ tokens_of ps) (sym (next p.from))
     ∙ (λ i. sym copy i ∷ sym behind i)
 
-pub found_by : (tokens : List Marked) (from to : ℕ) (o : Option Found) (f : Found) → o ≡ Some f → IfSome o (λ it. SplitsAt tokens from to it.args it.end) → SplitsAt tokens from to f.args f.end
-found_by tokens from to o f is found = subst (λ (p : Option Found). IfSome p (λ it. SplitsAt tokens from to it.args it.end)) is found
+pub found_by : (keeps : Option ℕ) (tokens : List Marked) (from to : ℕ) (o : Option Found) (f : Found) → o ≡ Some f → IfSome o (λ it. SplitsAt keeps tokens from to it.args it.end) → SplitsAt keeps tokens from to f.args f.end
+found_by keeps tokens from to o f is found = subst (λ (p : Option Found). IfSome p (λ it. SplitsAt keeps tokens from to it.args it.end)) is found
 
-pub pieces_split : (old : List Marked) (all : List Piece) (p : Piece) (ps : List Piece) (o : Option Found) (f : Found) (t : Marked) (hidden : Numbers) (new : List Marked) → tokens_of all ≡ old → all ≡ p ∷ ps → o ≡ Some f → IfSome o (λ it. SplitsAt p.row.value.tokens.items p.from p.to it.args it.end) → slice_get p.row.value.tokens.items f.end ≡ Some t → hidden ≡ t.hidden → new ≡ segment (f.end + 1) p.to p.row.value.tokens.items ++ tokens_of ps → split_from 0 [] [] old ≡ Some (record { args = f.args; hidden = hidden; rest = new })
-pieces_split old all p ps o f t hidden new view is some found read hides behind =
-    let s = found_by p.row.value.tokens.items p.from p.to o f some found in
-    ap (split_from 0 [] []) (sym view ∙ ap tokens_of is)
+pub pieces_split : (keeps : Option ℕ) (old : List Marked) (all : List Piece) (p : Piece) (ps : List Piece) (o : Option Found) (f : Found) (t : Marked) (hidden : Numbers) (new : List Marked) → tokens_of all ≡ old → all ≡ p ∷ ps → o ≡ Some f → IfSome o (λ it. SplitsAt keeps p.row.value.tokens.items p.from p.to it.args it.end) → slice_get p.row.value.tokens.items f.end ≡ Some t → hidden ≡ t.hidden → new ≡ segment (f.end + 1) p.to p.row.value.tokens.items ++ tokens_of ps → split_from keeps 0 [] [] old ≡ Some (record { args = f.args; hidden = hidden; rest = new })
+pieces_split keeps old all p ps o f t hidden new view is some found read hides behind =
+    let s = found_by keeps p.row.value.tokens.items p.from p.to o f some found in
+    ap (split_from keeps 0 [] []) (sym view ∙ ap tokens_of is)
     ∙ s.same t (tokens_of ps) read
     ∙ ap (λ n. let u : Split = record { args = f.args; hidden = t.hidden; rest = segment n p.to p.row.value.tokens.items ++ tokens_of ps } in Some u) (sym (next f.end))
     ∙ (λ i. let u : Split = record { args = f.args; hidden = sym hides i; rest = sym behind i } in Some u)

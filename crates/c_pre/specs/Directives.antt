@@ -71,25 +71,39 @@ include_of (token ∷ other ∷ tokens) = None
 abbrev pub takes_arguments : List ℕ → Bool
 takes_arguments rest = begins_with 40 (behind_word (behind_word rest))
 
--- the parameters up to their `)`, which are different names, and what stands behind it
+-- the name of the parameter that `...` stands for (C99 6.10.3p5)
+abbrev pub variadic_name : List ℕ
+variadic_name = codes "__VA_ARGS__"
+
+-- behind the first `.` of a `...`: the others, which are tokens of their own here, and the `)`
+abbrev pub dots_from : List (List ℕ) → List Token → Option Signature
+dots_from names [] = None
+dots_from names (second ∷ []) = None
+dots_from names (second ∷ third ∷ []) = None
+dots_from names (second ∷ third ∷ sign ∷ behind) =
+    if is_sign 46 second && is_sign 46 third && is_sign 41 sign && not (is_among names variadic_name)
+    then Some (record { names = names ++ variadic_name ∷ []; variadic = true; replacement = behind }) else None
+
+-- the parameters up to their `)`, which are different names, `...` as the last, and what stands behind it
 abbrev pub names_from : List (List ℕ) → List Token → Option Signature
 names_from names [] = None
 names_from names (name ∷ []) = None
 names_from names (name ∷ sign ∷ behind) =
+    if is_sign 46 name then dots_from names (sign ∷ behind) else
     if not (is_name name) || is_among names name.bytes then None else
-    if is_sign 41 sign then Some (record { names = names ++ name.bytes ∷ []; replacement = behind }) else
+    if is_sign 41 sign then Some (record { names = names ++ name.bytes ∷ []; variadic = false; replacement = behind }) else
     if is_sign 44 sign then names_from (names ++ name.bytes ∷ []) behind else None
 
 -- behind the `(` of a function-like macro
 abbrev pub signature_of : List Token → Option Signature
 signature_of [] = None
 signature_of (first ∷ rest) =
-    if is_sign 41 first then Some (record { names = []; replacement = rest }) else names_from [] (first ∷ rest)
+    if is_sign 41 first then Some (record { names = []; variadic = false; replacement = rest }) else names_from [] (first ∷ rest)
 
 -- a function-like macro of this name
 abbrev pub with_signature : List ℕ → Signature → Macro
 with_signature name signature =
-    record { name = name; parameters = Some signature.names; replacement = signature.replacement }
+    record { name = name; parameters = Some signature.names; variadic = signature.variadic; replacement = signature.replacement }
 
 -- a function-like macro, by what stands behind its name: its `(` first
 abbrev pub function_behind : List ℕ → List Token → Option Macro
@@ -99,7 +113,7 @@ function_behind name (paren ∷ inner) = option_map (with_signature name) (signa
 -- a macro, by whether a `(` stands right behind its name, and what stands behind that
 abbrev pub macro_behind : Bool → List ℕ → List Token → Option Macro
 macro_behind true name behind = function_behind name behind
-macro_behind false name behind = Some (record { name = name; parameters = None; replacement = behind })
+macro_behind false name behind = Some (record { name = name; parameters = None; variadic = false; replacement = behind })
 
 -- behind `define`
 abbrev pub define_of : List ℕ → List Token → Option Directive

@@ -2,7 +2,7 @@
 -- from it. The run is scanned from left to right. A name of a macro that is not hidden from it is replaced: one of a
 -- function-like macro only where a `(` is the next token, and then by way of its arguments, each of which is expanded alone and
 -- once. The scan goes on at the first token of what stands in its place.
-use Rattle.std.specs.Prelude.{◌≡◌, ◌≢◌, ◌<◌, ◌≤◌, MatchOption, ℕ, zero, suc, ◌+◌, ◌-◌, ◌*◌, ◌==◌, Bool, false, ◌&&◌, bytes_eq, nat_lt, if◌then◌else◌, List, [], ◌∷◌, ◌++◌, length, map, drop, slice_get, Option, Some, None, unwrap_or, Result, Ok, Err}
+use Rattle.std.specs.Prelude.{◌≡◌, ◌≢◌, ◌<◌, ◌≤◌, MatchOption, ℕ, zero, suc, ◌+◌, ◌-◌, ◌*◌, ◌==◌, Bool, true, false, ◌||◌, ◌&&◌, bytes_eq, nat_lt, if◌then◌else◌, List, [], ◌∷◌, ◌++◌, length, map, drop, slice_get, Option, Some, None, unwrap_or, Result, Ok, Err}
 use Rattle.std.specs.FinSet as set
 use Rattle.c_lexer.specs.declared.token.Token.{Token}
 use Rattle.c_pre.specs.After.{and_then}
@@ -93,15 +93,28 @@ TellsLonger most expanded m longer =
 abbrev pub GivesAtMost : ℕ → List Marked → Option (List Marked) → Type 0
 GivesAtMost most tokens found = MatchOption found (most < length tokens) (λ given. (given ≡ tokens) × (length given ≤ most))
 
+-- the place of the argument that keeps its commas: the last of a variadic macro (C99 6.10.3p12)
+abbrev pub keeps_commas : Bool → List (List ℕ) → Option ℕ
+keeps_commas variadic parameters = if variadic then Some (length parameters - 1) else None
+
+-- a comma ends the argument at a place
+abbrev pub is_ended : Option ℕ → ℕ → Bool
+is_ended None place = true
+is_ended (Some keeps) place = nat_lt place keeps
+
+-- a token is a comma that ends the argument at a place
+abbrev pub is_separator : Option ℕ → ℕ → Token → Bool
+is_separator keeps place token = is_sign 44 token && is_ended keeps place
+
 -- what a call has behind its `(`: its arguments, what is hidden from its `)`, and what stands behind that
-abbrev pub split_from : ℕ → List (List Marked) → List Marked → List Marked → Option Split
-split_from depth args current [] = None
-split_from depth args current (t ∷ rest) =
+abbrev pub split_from : Option ℕ → ℕ → List (List Marked) → List Marked → List Marked → Option Split
+split_from keeps depth args current [] = None
+split_from keeps depth args current (t ∷ rest) =
     if is_sign 41 t.token && depth == 0 then Some (record { args = args ++ current ∷ []; hidden = t.hidden; rest = rest }) else
-    if is_sign 41 t.token then split_from (depth - 1) args (current ++ t ∷ []) rest else
-    if is_sign 40 t.token then split_from (depth + 1) args (current ++ t ∷ []) rest else
-    if is_sign 44 t.token && depth == 0 then split_from 0 (args ++ current ∷ []) [] rest else
-    split_from depth args (current ++ t ∷ []) rest
+    if is_sign 41 t.token then split_from keeps (depth - 1) args (current ++ t ∷ []) rest else
+    if is_sign 40 t.token then split_from keeps (depth + 1) args (current ++ t ∷ []) rest else
+    if depth == 0 && is_separator keeps (length args) t.token then split_from keeps 0 (args ++ current ∷ []) [] rest else
+    split_from keeps depth args (current ++ t ∷ []) rest
 
 -- the next token is a `(`
 abbrev pub is_open : List Marked → Bool
@@ -113,10 +126,12 @@ abbrev pub is_blank : List (List Marked) → Bool
 is_blank [] = false
 is_blank (arg ∷ args) = length (arg ∷ args) == 1 && length arg == 0
 
--- as many arguments as parameters: where there is no parameter, one empty argument; where there is one, it may be empty
-abbrev pub fits : List (List ℕ) → List (List Marked) → Bool
-fits [] args = is_blank args
-fits (name ∷ names) args = length (name ∷ names) == length args
+-- as many arguments as parameters: where there is no parameter, one empty argument; where there is one, it may be empty. Of a
+-- variadic macro the last may be left out, with the comma before it
+abbrev pub fits : Bool → List (List ℕ) → List (List Marked) → Bool
+fits variadic [] args = is_blank args
+fits variadic (name ∷ names) args =
+    length (name ∷ names) == length args || variadic && nat_lt 0 (length args) && length names == length args
 
 -- a scan of some tokens, behind so much work
 abbrev pub Scanning : Type 0
@@ -164,14 +179,16 @@ applied scan work t m split =
 abbrev pub called : Scanning → ℕ → Marked → Defined → List (List ℕ) → Option Split → Result Expanded Refusal
 called scan work t m parameters None = Err (Bad kind.Arguments t.token.line)
 called scan work t m parameters (Some split) =
-    if fits parameters split.args then applied scan work t m split else Err (Bad kind.Arguments t.token.line)
+    if fits m.it.variadic parameters split.args then applied scan work t m split else Err (Bad kind.Arguments t.token.line)
 
 -- at a name of a macro with these parameters: a function-like one is replaced only before a `(`
 abbrev pub at_macro : Scanning → ℕ → Marked → List Marked → Defined → Option (List (List ℕ)) → Result Expanded Refusal
 at_macro scan work t rest m None =
     goes_on scan t.token.line work (replaced t.token.line (object_hides t m.number) [] m.it) rest
 at_macro scan work t rest m (Some parameters) =
-    if is_open rest then called scan work t m parameters (split_from 0 [] [] (drop 1 rest)) else kept t (scan work rest)
+    if is_open rest
+    then called scan work t m parameters (split_from (keeps_commas m.it.variadic parameters) 0 [] [] (drop 1 rest))
+    else kept t (scan work rest)
 
 -- at a token, by its macro, and those behind it
 abbrev pub at_token : Scanning → ℕ → Marked → List Marked → Option Defined → Result Expanded Refusal

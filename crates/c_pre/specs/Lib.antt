@@ -11,6 +11,7 @@ pub mod Groups
 pub mod Held
 pub mod Lines
 pub mod Macros
+pub mod Qualifiers
 pub mod Reading
 pub mod Rows
 pub mod Splices

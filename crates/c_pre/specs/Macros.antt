@@ -29,9 +29,17 @@ same_parameters None (Some ws) = false
 same_parameters (Some vs) None = false
 same_parameters (Some vs) (Some ws) = same_words vs ws
 
--- two macros have the same parameters and tokens
+-- two truth values are the same
+abbrev pub same_truth : Bool → Bool → Bool
+same_truth true b = b
+same_truth false true = false
+same_truth false false = true
+
+-- two macros have the same parameters, both or neither of them with `...`, and the same tokens
 abbrev pub same_macro : Macro → Macro → Bool
-same_macro one other = same_parameters one.parameters other.parameters && same_spellings one.replacement other.replacement
+same_macro one other =
+    same_parameters one.parameters other.parameters && same_truth one.variadic other.variadic
+    && same_spellings one.replacement other.replacement
 
 -- before anything is defined
 abbrev pub no_macros : Table

@@ -1,5 +1,5 @@
 -- The lines of a text in turn, and what each does to what was read so far (C99 6.10).
-use Rattle.std.specs.Prelude.{ℕ, ◌+◌, ◌-◌, Bool, true, false, is_some, bytes_eq, codes, if◌then◌else◌, List, [], ◌∷◌, ◌++◌, map, Option, Some, None, Result, Ok, Err}
+use Rattle.std.specs.Prelude.{ℕ, ◌+◌, ◌-◌, false, is_some, bytes_eq, codes, if◌then◌else◌, List, [], ◌∷◌, ◌++◌, map, Option, Some, None, Result, Ok, Err}
 use Rattle.c_lexer.specs.Gaps.{include_end}
 use Rattle.c_lexer.specs.Tokens.{first_place, answer_of}
 use Rattle.c_lexer.specs.Readers.{pieces_from}
@@ -13,7 +13,7 @@ use Rattle.c_pre.specs.Lines.{behind_spaces, first_word, directive_rest}
 use Rattle.c_pre.specs.Expansion.{expanded}
 use Rattle.c_pre.specs.Conditions.{condition_asked}
 use Rattle.c_pre.specs.Groups.{is_live, is_read, is_over, first_line, opened, turned, branched, closed, skipped}
-use Rattle.c_pre.specs.Macros.{found, defined, undefined}
+use Rattle.c_pre.specs.Macros.{same_truth, found, defined, undefined}
 use Rattle.c_pre.specs.Table.{Table}
 use Rattle.c_pre.specs.Directives.{directive_of}
 use Rattle.c_pre.specs.declared.groups.Group.{Group}
@@ -100,12 +100,6 @@ abbrev pub with_macros : Here → Progress → Result Table Refusal → Result S
 with_macros here p (Ok macros) = Ok (step here (record p { macros = macros }))
 with_macros here p (Err e) = Err e
 
--- two truth values are the same
-abbrev pub same : Bool → Bool → Bool
-same true b = b
-same false true = false
-same false false = true
-
 -- behind a directive
 unfoldable pub obeyed : Directive → Here → Progress → Result Step Refusal
 obeyed directive.Empty here p = Ok (step here p)
@@ -113,7 +107,7 @@ obeyed (directive.Include name) here p = Ok (record { here = here; progress = p;
 obeyed (directive.Define m) here p = with_macros here p (at_line here.line (defined m p.macros))
 obeyed (directive.Undefine name) here p = Ok (step here (record p { macros = undefined name p.macros }))
 obeyed (directive.Group name wanted) here p =
-    with_groups here p (Ok (here.groups ++ opened here.line (same (is_some (found name p.macros)) wanted) ∷ []))
+    with_groups here p (Ok (here.groups ++ opened here.line (same_truth (is_some (found name p.macros)) wanted) ∷ []))
 obeyed (directive.If tokens) here p =
     and_then (condition_asked here.line tokens p) (λ a.
     Ok (step (record here { groups = here.groups ++ opened here.line a.0 ∷ [] }) a.1))

@@ -2,7 +2,7 @@
 -- tokens behind it, while the tokens of an argument are scanned. What it comes to is what `Expansion` says.
 use Rattle.std.specs.Prelude.{ℕ, zero, suc, ◌+◌, ◌-◌, nat_lt, if◌then◌else◌, List, [], ◌∷◌, ◌++◌, length, map, take, drop, slice_get, Option, Some, None, Result, Ok, Err}
 use Rattle.c_lexer.specs.declared.token.Token.{Token}
-use Rattle.c_pre.specs.Expansion.{most_work, enough, fresh, macro_for, replaced, function_hides, object_hides, split_from, is_open, fits}
+use Rattle.c_pre.specs.Expansion.{most_work, enough, fresh, macro_for, replaced, function_hides, object_hides, keeps_commas, split_from, is_open, fits}
 use Rattle.c_pre.specs.Macros.{found}
 use Rattle.c_pre.specs.Table.{Table, Numbers}
 use Rattle.c_pre.specs.declared.macros.Defined.{Defined}
@@ -54,10 +54,10 @@ begun t numbers split s = record s {
 }
 
 -- at a call of a function-like macro, by what stands behind its `(`
-abbrev pub called : Marked → ℕ → List (List ℕ) → Option Split → Scan → Next
-called t number parameters None s = Stops (Bad kind.Arguments t.token.line)
-called t number parameters (Some split) s =
-    if fits parameters split.args then Goes (begun t (function_hides t number split) split s)
+abbrev pub called : Marked → Defined → List (List ℕ) → Option Split → Scan → Next
+called t m parameters None s = Stops (Bad kind.Arguments t.token.line)
+called t m parameters (Some split) s =
+    if fits m.it.variadic parameters split.args then Goes (begun t (function_hides t m.number split) split s)
     else Stops (Bad kind.Arguments t.token.line)
 
 -- a call begins at a name with what stands behind its `(`, and what is hidden from both
@@ -65,8 +65,9 @@ abbrev pub call_begun : Marked → ℕ → Split → Scan → Next
 call_begun t number split s = Goes (begun t (function_hides t number split) split s)
 
 -- at a name before a `(`
-abbrev pub at_call : Marked → ℕ → List (List ℕ) → Scan → Next
-at_call t number parameters s = called t number parameters (split_from 0 [] [] (drop 1 s.rest)) s
+abbrev pub at_call : Marked → Defined → List (List ℕ) → Scan → Next
+at_call t m parameters s =
+    called t m parameters (split_from (keeps_commas m.it.variadic parameters) 0 [] [] (drop 1 s.rest)) s
 
 -- what stands in place of a macro is put in
 abbrev pub replaced_in : ℕ → Numbers → List (List Marked) → Macro → Scan → Next
@@ -80,7 +81,7 @@ kept t s = Goes (record s { done = s.done ++ t ∷ [] })
 abbrev pub at_macro : Marked → Defined → Option (List (List ℕ)) → Scan → Next
 at_macro t m None s = put_in t.token.line (replaced t.token.line (object_hides t m.number) [] m.it) s
 at_macro t m (Some parameters) s =
-    if is_open s.rest then called t m.number parameters (split_from 0 [] [] (drop 1 s.rest)) s else kept t s
+    if is_open s.rest then at_call t m parameters s else kept t s
 
 -- at a token, by its macro
 abbrev pub at_token : Marked → Option Defined → Scan → Next

@@ -1,5 +1,5 @@
 -- Texts, and the texts that they include (C99 6.10.2).
-use Rattle.std.specs.Prelude.{ℕ, zero, suc, ◌+◌, ◌==◌, count_by, nat_lt, if◌then◌else◌, List, [], ◌∷◌, ◌++◌, length, Option, Some, None, Result, Ok, Err}
+use Rattle.std.specs.Prelude.{ℕ, zero, suc, ◌+◌, ◌==◌, count_by, nat_lt, if◌then◌else◌, List, [], ◌∷◌, ◌++◌, length, map, Option, Some, None, Result, Ok, Err}
 use Rattle.c_lexer.specs.declared.token.Token.{Token}
 use Rattle.c_lexer.specs.declared.token.LexKind.TheVariants.{OpenComment}
 use Rattle.c_pre.specs.Comments.{blanked, open_comment}
@@ -7,6 +7,7 @@ use Rattle.c_pre.specs.Lines.{lines_of}
 use Rattle.c_pre.specs.Splices.{joined, unmarked}
 use Rattle.c_pre.specs.After.{and_then}
 use Rattle.c_pre.specs.Macros.{no_macros}
+use Rattle.c_pre.specs.Qualifiers.{plain_token}
 use Rattle.c_pre.specs.Reading.{first_of, line_read, text_ended}
 use Rattle.c_pre.specs.declared.comments.Mode.TheVariants.{Code}
 use Rattle.c_pre.specs.declared.answer.Place.{Place}
@@ -112,9 +113,9 @@ below told (suc left) at name p = text_read (below told left) name (told name) p
 abbrev pub behind : Sources → Progress
 behind s = record { tokens = []; texts = s.texts; lines = s.lines; used = s.used; macros = no_macros; work = 0 }
 
--- the tokens, and the texts that were opened
+-- the tokens, with `const` in place of words without effect, and the texts that were opened
 abbrev pub with_sources : Result Progress PreError → Result (List Token × Sources) PreError
-with_sources (Ok p) = Ok (p.tokens, record { texts = p.texts; lines = p.lines; used = p.used })
+with_sources (Ok p) = Ok (map plain_token p.tokens, record { texts = p.texts; lines = p.lines; used = p.used })
 with_sources (Err e) = Err e
 
 -- the tokens of a text and of those that it includes, at most 16 open one in another, behind these texts, and the texts with

@@ -25,7 +25,7 @@ pub enum PreKind {
     Unbalanced,
     /// A macro that is defined again with other parameters or other tokens.
     Redefined,
-    /// Another number of arguments than parameters, or no `)` behind them.
+    /// Another number of arguments than parameters, of a macro with `...` fewer than the named ones, or no `)` behind them.
     Arguments,
     /// An include that would open a text at depth 17.
     Depth,

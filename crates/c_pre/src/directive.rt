@@ -3,7 +3,7 @@
 ghost use Rattle.std.specs.Prelude.{◌≡◌, [], true, option_map, IfOk, IfSome};
 ghost use Rattle.std.specs.List.{list_all};
 ghost use Rattle.c_lexer.specs.Bytes.{is_digit};
-ghost use Rattle.c_pre.specs.Directives.{is_name, is_sign, only_name, is_path_byte, path_of, included_name, include_of, takes_arguments, names_from, signature_of, macro_behind, define_of, named_by, bytes_now, alone, is_line_number, line_of, directive_by, directive_of};
+ghost use Rattle.c_pre.specs.Directives.{is_name, is_sign, only_name, is_path_byte, path_of, included_name, include_of, takes_arguments, dots_from, names_from, signature_of, macro_behind, define_of, named_by, bytes_now, alone, is_line_number, line_of, directive_by, directive_of};
 
 use crate::comments::begins_with;
 use crate::copies::{copied, copied_tokens};
@@ -14,6 +14,9 @@ use crate::text_name::TextName;
 use c_lexer::{Token, TokenKind, is_name_byte};
 use hs_base::{Items, NoMemory};
 use std::alloc::Global;
+
+/// The name of the parameter that `...` stands for.
+const VARIADIC_NAME: &[u8] = b"__VA_ARGS__";
 
 /// A directive.
 #[derive(Drop)]
@@ -117,7 +120,33 @@ fn takes_arguments(rest: &[u8]) -> bool
 #[derive(Drop)]
 pub(crate) struct Signature {
     names: Parameters,
+    /// Whether the last of them stands for `...`.
+    variadic: bool,
     replacement: Items<Token>,
+}
+
+/// Reads what stands behind the first `.` of a `...`: two more and the `)`. The lexer makes a token of each.
+fn read_dots(
+    alloc: Global,
+    names: Parameters,
+    tokens: &[Token],
+) -> Result<Option<Signature>, NoMemory>
+    ensures { IfOk result (λ signature. signature ≡ dots_from names tokens.now) }
+{
+    let [second, third, sign, behind @ ..] = tokens else {
+        return Ok(None);
+    };
+    let ends = is_sign(b'.', second) && is_sign(b'.', third) && is_sign(b')', sign);
+    if !ends || names.has(VARIADIC_NAME) {
+        return Ok(None);
+    }
+    let mut names = names;
+    names.add(alloc, VARIADIC_NAME)?;
+    Ok(Some(Signature {
+        names,
+        variadic: true,
+        replacement: copied_tokens(alloc, behind)?,
+    }))
 }
 
 /// Reads parameters, at least one, up to their `)`.
@@ -127,6 +156,9 @@ fn read_names(alloc: Global, tokens: &[Token]) -> Result<Option<Signature>, NoMe
     let mut names = Parameters::new(alloc);
     let mut rest = tokens;
     while let [name, sign, behind @ ..] = rest {
+        if is_sign(b'.', name) {
+            return read_dots(alloc, names, &rest[1..]);
+        }
         if !is_name(name) || names.has(name.bytes.as_slice()) {
             return Ok(None);
         }
@@ -134,6 +166,7 @@ fn read_names(alloc: Global, tokens: &[Token]) -> Result<Option<Signature>, NoMe
         if is_sign(b')', sign) {
             return Ok(Some(Signature {
                 names,
+                variadic: false,
                 replacement: copied_tokens(alloc, behind)?,
             }));
         }
@@ -155,6 +188,7 @@ fn read_signature(alloc: Global, tokens: &[Token]) -> Result<Option<Signature>, 
     if is_sign(b')', first) {
         return Ok(Some(Signature {
             names: Parameters::new(alloc),
+            variadic: false,
             replacement: copied_tokens(alloc, rest)?,
         }));
     }
@@ -174,6 +208,7 @@ fn read_macro(
         return Ok(Some(Macro {
             name: copied(alloc, name)?,
             parameters: None,
+            variadic: false,
             replacement: copied_tokens(alloc, behind)?,
         }));
     }
@@ -182,10 +217,11 @@ fn read_macro(
     };
     match read_signature(alloc, inner)? {
         None => Ok(None),
-        Some(Signature { names, replacement }) => Ok(Some(Macro {
+        Some(signature) => Ok(Some(Macro {
             name: copied(alloc, name)?,
-            parameters: Some(names),
-            replacement,
+            parameters: Some(signature.names),
+            variadic: signature.variadic,
+            replacement: signature.replacement,
         })),
     }
 }

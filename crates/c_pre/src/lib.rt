@@ -11,7 +11,8 @@
 //! The contract of `pre` is the definition `preprocessed` of `specs/Texts`. A text is read whole and its comments become
 //! spaces (`Comments`); its lines are taken one after another (`Lines`, `Reading`), by what a directive says (`Directives`),
 //! the groups that are open (`Groups`), the conditions that they ask (`Conditions`) and the macros that are defined (`Macros`). The text lines between two directives
-//! are one run: the lexer reads it, and its macros are replaced (`Expansion`).
+//! are one run: the lexer reads it, and its macros are replaced (`Expansion`). At last `const` takes the place of each word
+//! without effect (`Qualifiers`).
 #![tactic(auto)]
 
 mod answer;
@@ -31,6 +32,7 @@ mod memo;
 mod parameters;
 mod preprocessor;
 mod progress;
+mod qualifiers;
 mod queue;
 mod rest;
 mod row;

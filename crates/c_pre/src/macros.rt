@@ -19,6 +19,8 @@ pub(crate) struct Macro {
     pub(crate) name: Items<u8>,
     /// The parameters of a function-like macro.
     pub(crate) parameters: Option<Parameters>,
+    /// Whether the last of them stands for `...` (C99 6.10.3): its argument keeps its commas.
+    pub(crate) variadic: bool,
     /// What stands in its place.
     pub(crate) replacement: Items<Token>,
 }
@@ -59,11 +61,12 @@ fn same_parameters(left: &Option<Parameters>, right: &Option<Parameters>) -> boo
     }
 }
 
-/// Whether two macros have the same parameters and tokens (C99 6.10.3).
+/// Whether two macros have the same parameters, both or neither of them with `...`, and the same tokens (C99 6.10.3).
 fn same_macro(left: &Macro, right: &Macro) -> bool
     ensures { result ≡ same_macro left.now right.now }
 {
     same_parameters(&left.parameters, &right.parameters)
+        && left.variadic == right.variadic
         && same_spellings(left.replacement.as_slice(), right.replacement.as_slice())
 }
 

@@ -13,6 +13,7 @@ use crate::here::Here;
 use crate::lines::first_line;
 use crate::macros::Macros;
 use crate::progress::Progress;
+use crate::qualifiers::plain_tokens;
 use crate::splices::{joined, unmark};
 use crate::text_name::TextName;
 use c_lexer::{LexKind, Token, pieces_are_the_cut};
@@ -244,7 +245,7 @@ pub fn pre_behind<T: Texts>(
         used,
         ..
     } = progress;
-    Ok((tokens, Sources { texts, lines, used }))
+    Ok((plain_tokens(alloc, tokens)?, Sources { texts, lines, used }))
 }
 
 /// What [`pre_behind`] gives of a text alone, where so many bytes were read before the call.

@@ -4,6 +4,7 @@ ghost use Rattle.std.specs.Prelude.{◌≡◌, ◌==◌, List, ◌<◌, ◌≤�
 ghost use Rattle.c_pre.specs.Rows.{segment};
 ghost use Rattle.c_pre.specs.Taking.{TakesFirst, TakesCall, SplitsPiece};
 
+use crate::calls::is_separator;
 use crate::directive::is_sign;
 use crate::hidden::Hidden;
 use crate::marked::Marked;
@@ -125,13 +126,17 @@ impl Rest {
 
     /// Takes the arguments of a call whose `(` stood before these tokens, and what is hidden from its `)`, where that stands
     /// in the first piece.
-    pub(crate) fn split(&mut self, alloc: Global) -> Result<Option<(Queue<Rest>, Hidden)>, NoMemory>
-        ensures { IfOk result (TakesCall self.old self.new) }
+    pub(crate) fn split(
+        &mut self,
+        alloc: Global,
+        keeps: Option<usize>,
+    ) -> Result<Option<(Queue<Rest>, Hidden)>, NoMemory>
+        ensures { IfOk result (TakesCall keeps self.old self.new) }
     {
         let Some(piece) = self.pieces.pop() else {
             return Ok(None);
         };
-        match find_end(alloc, &piece)? {
+        match find_end(alloc, keeps, &piece)? {
             None => {
                 self.pieces.push_front(piece)?;
                 Ok(None)
@@ -147,8 +152,8 @@ impl Rest {
 }
 
 /// The arguments of a call whose `(` stood before a piece, and where its `)` stands, if it stands in the piece.
-fn find_end(alloc: Global, piece: &Piece) -> Result<Option<Found>, NoMemory>
-    ensures { IfOk result (λ found. IfSome found (SplitsPiece piece.now)) }
+fn find_end(alloc: Global, keeps: Option<usize>, piece: &Piece) -> Result<Option<Found>, NoMemory>
+    ensures { IfOk result (λ found. IfSome found (SplitsPiece keeps piece.now)) }
 {
     let row: &Row = &piece.row;
     let mut args = Queue::new(alloc);
@@ -167,7 +172,7 @@ fn find_end(alloc: Global, piece: &Piece) -> Result<Option<Found>, NoMemory>
             }
             continue;
         }
-        if is_sign(b',', token) {
+        if is_separator(keeps, args.len(), token) {
             args.push(Rest::part(alloc, &piece.row, start, at)?)?;
             start = at + 1;
         }

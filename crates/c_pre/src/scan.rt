@@ -7,7 +7,7 @@ ghost use Rattle.c_pre.specs.Macros.{found};
 ghost use Rattle.c_pre.specs.Answering.{StepsTo, Answers};
 
 use crate::answer::{PreKind, Refusal};
-use crate::calls::{Call, Split, fits, is_open, split_call};
+use crate::calls::{Call, Split, fits, is_open, keeps_commas, split_call};
 use crate::hidden::Hidden;
 use crate::macros::{Defined, Macro, Macros};
 use crate::marked::{Marked, fresh, macro_for};
@@ -116,17 +116,18 @@ impl Scan {
         alloc: Global,
         memo: &mut Memo,
         token: Marked,
-        number: u32,
+        found: &Defined,
         parameters: &Parameters,
     ) -> Result<bool, Refusal>
-        ensures { StepsTo (at_call token number parameters.now self.old) self.new result }
+        ensures { StepsTo (at_call token found.now parameters.now self.old) self.new result }
     {
         let line = token.token.line;
         let mut rest = replace(&mut self.rest, Rest::new(alloc));
         let _ = rest.pop(alloc)?;
-        if let Some(split) = split_call(alloc, rest)? {
-            if fits(parameters, &split.args) {
-                return self.begin(alloc, memo, token, number, split);
+        let variadic = found.it.variadic;
+        if let Some(split) = split_call(alloc, keeps_commas(variadic, parameters), rest)? {
+            if fits(variadic, parameters, &split.args) {
+                return self.begin(alloc, memo, token, found.number, split);
             }
         }
         Err(Refusal::Bad {
@@ -152,7 +153,7 @@ impl Scan {
             }
             Some(parameters) => {
                 if is_open(&self.rest) {
-                    self.at_call(alloc, memo, token, found.number, parameters)
+                    self.at_call(alloc, memo, token, found, parameters)
                 } else {
                     self.keep(token)
                 }

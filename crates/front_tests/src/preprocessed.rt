@@ -139,7 +139,10 @@ static SPLICES: [(&str, &str); 8] = [
     ("#define A \\\n  1\nA\n", "3:1 | a.c:0 |"),
     ("#define A(x) x; \\\n\\\n", "bad byte a.c:1"),
     ("#define A(x) x +\\\n x\nA(2)\n", "3:2 3:+ 3:2 | a.c:0 |"),
-    ("#define A(x) {\\\nx;\\\n}\nA(2)\n", "4:{ 4:2 4:; 4:} | a.c:0 |"),
+    (
+        "#define A(x) {\\\nx;\\\n}\nA(2)\n",
+        "4:{ 4:2 4:; 4:} | a.c:0 |",
+    ),
     ("x \\\n y\nz\n", "1:x 1:y 3:z | a.c:0 |"),
     ("// x \\\ny\n", "2:y | a.c:0 |"),
     ("#ifdef A\n it \\\n#endif\ny\n", "4:y | a.c:0 |"),
@@ -182,6 +185,27 @@ static LINES_AND_ERRORS: [(&str, &str); 8] = [
 #[test]
 fn lines_and_errors(rt: HostRuntime) -> Result<(), Fail> {
     agree(&rt, rt.alloc(), &LINES_AND_ERRORS)
+}
+
+/// Words without effect, each of which is read as `const` (C99 6.7.1, 6.7.3 and 6.7.4), but where it is a name of the preprocessor.
+static IDLE_WORDS: [(&str, &str); 6] = [
+    ("volatile int x;\n", "1:const 1:int 1:x 1:; | a.c:0 |"),
+    ("int\n*restrict p;\n", "1:int 2:* 2:const 2:p 2:; | a.c:0 |"),
+    (
+        "register auto inline a\n",
+        "1:const 1:const 1:const 1:a | a.c:0 |",
+    ),
+    ("#define A register\nA x\n", "2:const 2:x | a.c:0 |"),
+    (
+        "x \"auto\" inlined _auto\n",
+        "1:x 1:\"auto\" 1:inlined 1:_auto | a.c:0 |",
+    ),
+    ("#define auto int\n", "bad directive a.c:1"),
+];
+
+#[test]
+fn idle_words(rt: HostRuntime) -> Result<(), Fail> {
+    agree(&rt, rt.alloc(), &IDLE_WORDS)
 }
 
 /// Directives of no form.

@@ -131,6 +131,79 @@ fn arguments(rt: HostRuntime) -> Result<(), Fail> {
     spell(&rt, rt.alloc(), &ARGUMENTS)
 }
 
+/// The tokens that `cpp` gives: macros with `...`. In a macro without it `__VA_ARGS__` is a name as others.
+static DOTS: [(&str, &str); 10] = [
+    (
+        "#define f(...) [__VA_ARGS__]\nf() f(1) f(1, (2, 3), 4) f(f(1), f(2, 3))\n",
+        "[ ] [ 1 ] [ 1 , ( 2 , 3 ) , 4 ] [ [ 1 ] , [ 2 , 3 ] ] ",
+    ),
+    (
+        "#define f(a, ...) a:__VA_ARGS__;\nf(1, 2) f(1, 2, 3) f(1, ) f(, 2,) f((1, 2), (3), 4)\n",
+        "1 : 2 ; 1 : 2 , 3 ; 1 : ; : 2 , ; ( 1 , 2 ) : ( 3 ) , 4 ; ",
+    ),
+    (
+        "#define f(a, b, ...) b a __VA_ARGS__ a\n#define c 1, 2\nf(x, y, c) f(c, c, c, c)\n",
+        "y x 1 , 2 x 1 , 2 1 , 2 1 , 2 , 1 , 2 1 , 2 ",
+    ),
+    (
+        "#define call(f, ...) f(__VA_ARGS__)\n#define two(a, b) b a\n#define some(...) <__VA_ARGS__>\ncall(two, 1, 2) call(some) call(some, call, some, 1) call(call, some, 1, 2)\n",
+        "2 1 < > < call , some , 1 > call ( some , 1 , 2 ) ",
+    ),
+    (
+        "#define count(...) sixth(__VA_ARGS__, 5, 4, 3, 2, 1, 0)\n#define sixth(a, b, c, d, e, n, ...) n\ncount(x) count(x, y, z) count((x, y), z)\n",
+        "1 3 2 ",
+    ),
+    (
+        "#define a(...) b(__VA_ARGS__)\n#define b(...) a(__VA_ARGS__)\na(1, a(2, 3), b(4)) a\n(5,\n6)\n",
+        "a ( 1 , a ( 2 , 3 ) , b ( 4 ) ) a ( 5 , 6 ) ",
+    ),
+    (
+        "#define f(...) __VA_ARGS__\n#define p (\n#define q )\nf(f p 1, 2 q) f p 3, 4) f(p, q)\n",
+        "f ( 1 , 2 ) f ( 3 , 4 ) ( , ) ",
+    ),
+    (
+        "#define __VA_ARGS__ 7\n#define f(__VA_ARGS__) [__VA_ARGS__]\n#define g __VA_ARGS__\nf(1) g\n",
+        "[ 1 ] 7 ",
+    ),
+    (
+        "#define f(a, ...) a __VA_ARGS__\n#define f( a , ... ) a __VA_ARGS__\nf(1) f(1, f(2, 3, f(4, 5)), 6)\n",
+        "1 1 2 3 , 4 5 , 6 ",
+    ),
+    (
+        "#define f(a, ...) [a __VA_ARGS__]\nf() f(1)\n",
+        "[ ] [ 1 ] ",
+    ),
+];
+
+#[test]
+fn dots(rt: HostRuntime) -> Result<(), Fail> {
+    spell(&rt, rt.alloc(), &DOTS)
+}
+
+/// The lines of what `...` stands for, and what is no macro with it, no call of one, or another macro (C99 6.10.3).
+static LINES_OF_DOTS: [(&str, &str); 9] = [
+    (
+        "#define f(a, ...) a __VA_ARGS__\n\nf(1,\n 2,\n 3)\n4\n",
+        "3:1 3:2 3:, 3:3 6:4 | a.c:0 |",
+    ),
+    ("#define f(a, b, ...) a\n\nf(1)\n", "arguments a.c:3"),
+    ("#define f(a, ...) a\nf(1, 2\n", "arguments a.c:2"),
+    ("\n#define f(..., a) a\n", "bad directive a.c:2"),
+    ("#define f(a...) a\n", "bad directive a.c:1"),
+    ("#define f(..) a\n", "bad directive a.c:1"),
+    ("#define f(....) a\n", "bad directive a.c:1"),
+    ("#define f(__VA_ARGS__, ...) a\n", "bad directive a.c:1"),
+    (
+        "#define f(...) a\n#define f(__VA_ARGS__) a\n",
+        "redefined a.c:2",
+    ),
+];
+
+#[test]
+fn lines_of_dots(rt: HostRuntime) -> Result<(), Fail> {
+    agree(&rt, rt.alloc(), &LINES_OF_DOTS)
+}
+
 /// Replaced tokens have the line of the macro name in the text that led to them, and a refusal has that line too.
 static LINES_OF_MACROS: [(&str, &str); 6] = [
     (
