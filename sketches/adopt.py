@@ -33,7 +33,7 @@ def visit(n):
     order.append(n)
 for n in deps: visit(n)
 def log(): 
-    try: return set(re.findall(r"^rt: (\w+) proved", open("/work/logs/gate.log").read(), re.M))
+    try: return set(re.findall(r"^rt: (\w+) proved", open("/work/logs/gate.out").read(), re.M))
     except OSError: return set()
 LOG = log(); OF = {}
 def built(s, n):

@@ -1,7 +1,0 @@
-use Rattle.bad_free_report.proofs.holders.put_register.Goals as goal
-
-pub returns-in-Some-clause-bytes : goal.returns-in-Some-clause-bytes
-returns-in-Some-clause-bytes g c = rw c.in-Some.is c.put_parts.ensures.bytes
-
-pub returns-in-None-clause-bytes : goal.returns-in-None-clause-bytes
-returns-in-None-clause-bytes g c = rw c.in-None.is c.put_parts-in-None.ensures.bytes

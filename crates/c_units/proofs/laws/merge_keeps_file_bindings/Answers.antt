@@ -1,5 +1,0 @@
-use Rattle.c_units.proofs.FileBindings.{merge_keeps_file}
-use Rattle.c_units.proofs.laws.merge_keeps_file_bindings.Goals as goal
-
-pub returns : goal.returns
-returns c = merge_keeps_file

@@ -1,5 +1,0 @@
-use Rattle.c_units.proofs.InnerUses.{merge_keeps_inner}
-use Rattle.c_units.proofs.laws.merge_keeps_inner_bindings.Goals as goal
-
-pub returns : goal.returns
-returns c = merge_keeps_inner

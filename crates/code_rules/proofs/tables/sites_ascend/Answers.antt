@@ -1,6 +1,0 @@
-use Rattle.std.proofs.Common.{refl, arith}
-use Rattle.code_rules.proofs.Loops.{ascend}
-use Rattle.code_rules.proofs.tables.sites_ascend.Goals as goal
-
-pub returns : goal.returns
-returns c = (λ t i j d less inside. ascend c.args.sites.now (λ k e h. c.loop-i.invariant k e (omega arith)) d i j less inside, λ all. refl)

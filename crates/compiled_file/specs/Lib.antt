@@ -1,2 +1,0 @@
-pub mod CompiledFile
-pub mod Laws

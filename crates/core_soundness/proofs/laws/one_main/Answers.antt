@@ -1,6 +1,0 @@
-use Rattle.core_soundness.proofs.Texts as made
-use Rattle.core_soundness.proofs.Typing as mains
-use Rattle.core_soundness.proofs.laws.one_main.Goals as goal
-
-pub returns : goal.returns
-returns c = λ texts units unit core tags m e. let all = made.made_all c.constants_fit.ensures texts units unit m in mains.core_main unit core tags all.written all.formed all.own e

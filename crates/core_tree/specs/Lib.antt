@@ -1,9 +1,0 @@
-pub mod Statements
-pub mod Lives
-pub mod LivesEquations
-pub mod Sorts
-pub mod LayoutsOfTypes
-pub mod LayoutsOfTypesEquations
-pub mod Sound
-pub mod Listing
-pub mod Parts

@@ -1,4 +1,0 @@
-pub mod Counting
-pub mod Inserted
-pub mod Laws
-pub mod Points

@@ -1,4 +1,0 @@
-pub mod ByteLayouts
-pub mod Bodies
-pub mod Functions
-pub mod PlainNames

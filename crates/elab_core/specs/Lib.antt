@@ -1,4 +1,0 @@
-pub mod NumbersBy
-pub mod StaticsBy
-pub mod PlainNames
-pub mod Programs

@@ -1,4 +1,0 @@
-pub mod Turns
-pub mod Steps
-pub mod Forms
-pub mod ReallocParts

@@ -1,9 +1,0 @@
-pub mod Known
-pub mod State
-pub mod Reading
-pub mod ReadingEquations
-pub mod Expressions
-pub mod Declarators
-pub mod Statements
-pub mod Rooms
-pub mod Laws

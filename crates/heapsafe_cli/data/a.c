@@ -1,1 +1,0 @@
-int main(void){putchar('a');putchar('b');return 0;}

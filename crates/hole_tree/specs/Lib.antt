@@ -1,4 +1,0 @@
-pub mod Granules
-pub mod Runs
-pub mod RowEquations
-pub mod Tree

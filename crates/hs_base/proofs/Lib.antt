@@ -1,3 +1,0 @@
-pub mod Wrapping
-pub mod Quotients
-pub mod Pieces

@@ -1,5 +1,0 @@
-use Rattle.meaning_laws.proofs.dangling.Beginning.{begins}
-use Rattle.meaning_laws.proofs.laws.core_begins_well.Goals as goal
-
-pub returns : goal.returns
-returns c = λ core sound input n. begins core sound input n

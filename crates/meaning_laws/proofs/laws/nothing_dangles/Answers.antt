@@ -1,5 +1,0 @@
-use Rattle.meaning_laws.proofs.dangling.Kept.{kept}
-use Rattle.meaning_laws.proofs.laws.nothing_dangles.Goals as goal
-
-pub returns : goal.returns
-returns c = λ core sound input n heap k e. kept core sound heap input n k e

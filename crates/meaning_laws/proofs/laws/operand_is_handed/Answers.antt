@@ -1,5 +1,0 @@
-use Rattle.meaning_laws.proofs.soundness.Answering.{hands_operand}
-use Rattle.meaning_laws.proofs.laws.operand_is_handed.Goals as goal
-
-pub returns : goal.returns
-returns c = λ code wf state good i here v e. hands_operand code wf state good i here v e

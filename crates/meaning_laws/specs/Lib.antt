@@ -1,4 +1,0 @@
-pub mod objects
-pub mod counted
-pub mod code
-pub mod compiled

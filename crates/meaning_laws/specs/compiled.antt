@@ -1,3 +1,0 @@
-pub mod SameRun
-pub mod Testing
-pub mod Laws

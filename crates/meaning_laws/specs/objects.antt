@@ -1,4 +1,0 @@
-pub mod Dangling
-pub mod Good
-pub mod GoodEquations
-pub mod Laws

@@ -1,7 +1,0 @@
-use Rattle.std.proofs.Common.{◌≡◌, ◌+◌, drop}
-use Rattle.core_tree.specs.Sound.{first_main}
-use Rattle.meaning_run.proofs.evaluate.main_of.Given as goal
-
-abbrev pub invariant-loop-func : goal.invariant-loop-func
-invariant-loop-func l =
-    (l.place ≡ l.func-index) × (first_main l.core.funcs ≡ l.place + first_main (drop l.func-index l.core.funcs))

@@ -1,5 +1,0 @@
-use Rattle.std.proofs.Common.{[], ◌∷◌, rules}
-use Rattle.meaning_run.proofs.machine.Machine.get.Goals as goal
-
-pub returns-in-Ok-Some-clause-moves : goal.returns-in-Ok-Some-clause-moves
-returns-in-Ok-Some-clause-moves g c = (c.in-Ok-Some.byte ∷ [], search rules)

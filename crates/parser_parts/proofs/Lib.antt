@@ -1,3 +1,0 @@
-pub mod Logs
-pub mod Parts
-pub mod Consts

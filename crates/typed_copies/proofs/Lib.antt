@@ -1,9 +1,0 @@
-pub mod Ascending
-mod Cutting
-mod Selecting
-pub mod Worded
-pub mod Following
-pub mod Overlaid
-pub mod Replaced
-mod Touched
-mod Outcomes

@@ -1,6 +1,0 @@
-pub mod Slots
-pub mod Pointers
-pub mod PointersEquations
-pub mod Copying
-pub mod CopyingEquations
-pub mod Ranges

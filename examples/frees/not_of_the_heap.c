@@ -1,8 +1,0 @@
-#include <stdlib.h>
-
-char line[80];
-
-int main(void) {
-  free(line);
-  return 0;
-}

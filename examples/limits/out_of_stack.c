@@ -1,7 +1,0 @@
-int depth(int n) {
-  return depth(n + 1);
-}
-
-int main(void) {
-  return depth(0);
-}

@@ -1,5 +1,0 @@
-int main(void) {
-  int x = 1;
-  char *p = &x;
-  return *p;
-}

@@ -1,6 +1,0 @@
-int limit = 10;
-
-int main(void)
-{
-    return limit;
-}

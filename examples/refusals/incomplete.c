@@ -1,6 +1,0 @@
-struct node;
-
-int main(void) {
-  struct node first;
-  return 0;
-}

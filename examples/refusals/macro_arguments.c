@@ -1,4 +1,0 @@
-#define TWICE(x) ((x) + (x))
-int main(void) {
-  return TWICE(1, 2);
-}

@@ -1,6 +1,0 @@
-struct point { int x; int y; };
-
-int main(void) {
-  struct point p;
-  return p.z;
-}

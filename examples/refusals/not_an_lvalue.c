@@ -1,5 +1,0 @@
-int main(void) {
-  int x = 1;
-  5 = x;
-  return x;
-}

@@ -1,5 +1,0 @@
-int main(void) {
-  int n = 4;
-  int a[n];
-  return a[0];
-}

@@ -1,4 +1,0 @@
-int main(void) {
-  return 0;
-}
-/* the end of this text

@@ -1,5 +1,0 @@
-int main(void) {
-  char *p = "a";
-  char *q = "b";
-  return (p + q)[0];
-}

@@ -1,4 +1,0 @@
-int main(void) {
-  char *p = (char *)4096;
-  return *p;
-}

@@ -1,5 +1,0 @@
-union word { int number; char *text; };
-
-int main(void) {
-  return 0;
-}

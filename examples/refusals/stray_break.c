@@ -1,4 +1,0 @@
-int main(void) {
-  break;
-  return 0;
-}

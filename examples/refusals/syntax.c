@@ -1,6 +1,0 @@
-int count;
-
-int main(void) {
-  count = 1
-  return count;
-}

@@ -1,4 +1,0 @@
-#include "too_deep.c"
-int main(void) {
-  return 0;
-}

@@ -1,3 +1,0 @@
-int main(void) {
-  return sizeof(int[100000000]) > 0;
-}

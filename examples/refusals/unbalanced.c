@@ -1,4 +1,0 @@
-#ifdef WIDE
-int main(void) {
-  return 0;
-}

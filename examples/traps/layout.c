@@ -1,8 +1,0 @@
-struct node { struct node *next; int value; };
-
-struct node first;
-
-int main(void) {
-  unsigned char *bytes = (unsigned char *)&first;
-  return bytes[0];
-}

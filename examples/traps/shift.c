@@ -1,4 +1,0 @@
-int main(void) {
-  int by = 32;
-  return 1 << by;
-}
